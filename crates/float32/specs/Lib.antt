@@ -1,0 +1,6 @@
+pub mod Casts
+pub mod Comparison
+pub mod Counts
+pub mod Extremes
+pub mod SortOrder
+pub mod SquareRoot

@@ -1,0 +1,71 @@
+// Floats to integers, as Rust's casts have them.
+ghost use mathlib.Core.Path.{_≡_};
+ghost use Prim.Native.Nat.{_<_};
+ghost use Rattle.float32.specs.Casts.{castI32, low16, low16bits, signed16, shortOf, vertexOf};
+
+// Rust's `x as i32`: toward zero, to the nearest end of the range where it is out of it, and 0 for a NaN.
+pub fn to_i32(x: f32) -> i32
+    ensures { λ r. ⌜ r ≡ castI32 x ⌝ }
+{
+    if x >= 2147483648.0 {
+        2147483647
+    } else if x >= -2147483648.0 {
+        std::num::truncating_f32_to_i64(x) as i32
+    } else if x != x {
+        0
+    } else {
+        -2147483648
+    }
+}
+
+// The low 16 bits of n, in two's complement.
+fn low_bits(n: i32) -> u32
+    ensures { λ r. ⌜ r ≡ low16bits n ⌝ }
+{
+    if n >= 0 {
+        (n as u32) % 65536
+    } else {
+        65535 - ((-1 - n) as u32) % 65536
+    }
+}
+
+// The number that 16 bits stand for, in two's complement.
+fn of_bits(b: u32) -> i16
+    requires { ⌜ b < 65536 ⌝ }
+    ensures { λ r. ⌜ r ≡ signed16 b ⌝ }
+{
+    if b < 32768 {
+        b as i16
+    } else {
+        -1 - ((65535 - b) as i16)
+    }
+}
+
+// The low 16 bits of a saturated i32, as a signed number.
+pub fn wrap_i16(n: i32) -> i16
+    ensures { λ r. ⌜ r ≡ low16 n ⌝ }
+{
+    of_bits(low_bits(n))
+}
+
+// A node value: `x as i32 as i16`, which wraps and does not clamp.
+pub fn to_short(x: f32) -> i16
+    ensures { λ r. ⌜ r ≡ shortOf x ⌝ }
+{
+    wrap_i16(to_i32(x))
+}
+
+// A vertex value: NaN to 0, clamped to 32767 either way, then truncated.
+pub fn vertex_value(x: f32) -> i16
+    ensures { λ r. ⌜ r ≡ vertexOf x ⌝ }
+{
+    if x < -32767.0 {
+        -32767
+    } else if x > 32767.0 {
+        32767
+    } else if x != x {
+        0
+    } else {
+        std::num::truncating_f32_to_i64(x) as i16
+    }
+}
