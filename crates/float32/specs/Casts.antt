@@ -6,7 +6,7 @@ use lib.IntN.{ℤ, pos, negsuc, negℤ}
 use lib.Ieee.{Float, nan, inf, fin, up, down, isNan, lt, neg, ofBits, binary32, toSigned}
 
 -- Rule F6 (Rust Reference, numeric cast): `x as i32`. Toward zero, past either end to that end, 0 for a NaN.
-unfoldable pub castI32 : Float → ℤ
+abbrev pub castI32 : Float → ℤ
 castI32 x = toSigned 31 x
 
 -- The low 16 bits of n, in two's complement.
@@ -24,7 +24,6 @@ low16 n = signed16 (low16bits n)
 
 -- Rule F8 (01, node values; bvh.rs, to_short): `x as i32 as i16`.
 unfoldable pub shortOf : Float → ℤ
-unfolding castI32
 shortOf x = low16 (castI32 x)
 
 -- x, or the end that it is past.

@@ -66,7 +66,6 @@ ofOrdering Ordering·gt = Greater
 
 -- Which of the four relations holds.
 unfoldable pub relate : Meaning → Meaning → Relation
-unfolding ofOrdering
 relate none b = Unordered
 relate lowest none = Unordered
 relate lowest lowest = Equal

@@ -1,0 +1,6 @@
+pub mod Monotone
+pub mod Order
+pub mod OrderLaws
+pub mod Patterns
+mod Range
+mod Wrap
