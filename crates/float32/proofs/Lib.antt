@@ -3,4 +3,5 @@ pub mod Order
 pub mod OrderLaws
 pub mod Patterns
 mod Range
+mod Vertex
 mod Wrap
