@@ -3,5 +3,6 @@ pub mod Order
 pub mod OrderLaws
 pub mod Patterns
 mod Range
+pub mod SignLaws
 mod Vertex
 mod Wrap

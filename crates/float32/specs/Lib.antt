@@ -2,5 +2,6 @@ pub mod Casts
 pub mod Comparison
 pub mod Counts
 pub mod Extremes
+pub mod Signs
 pub mod SortOrder
 pub mod SquareRoot
