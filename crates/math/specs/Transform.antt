@@ -11,7 +11,7 @@ use Rattle.math.specs.declared.aabb.Aabb.{Aabb}
 abbrev pub absRow : Vec4 → Vec4
 absRow r = record { x = Signs.absOf (r .x); y = Signs.absOf (r .y); z = Signs.absOf (r .z); w = Signs.absOf (r .w) }
 
-abbrev pub absMatrix : Mat4 → Mat4
+unfoldable pub absMatrix : Mat4 → Mat4
 absMatrix m = record { row0 = absRow (m .row0); row1 = absRow (m .row1); row2 = absRow (m .row2); row3 = absRow (m .row3) }
 
 -- A column of the matrix with a direction: the products' sum from row 0 on.
@@ -19,12 +19,12 @@ abbrev pub column : (Vec4 → Float) → Mat4 → Vec3 → Float
 column at m v = ((at (m .row0) ⊗ v .x) ⊕ (at (m .row1) ⊗ v .y)) ⊕ (at (m .row2) ⊗ v .z)
 
 -- Rule V10 (math.rs, transform_vector): three columns.
-abbrev pub vectorOf : Mat4 → Vec3 → Vec3
+unfoldable pub vectorOf : Mat4 → Vec3 → Vec3
 vectorOf m v =
     record { x = column (λ (r : Vec4). r .x) m v; y = column (λ (r : Vec4). r .y) m v; z = column (λ (r : Vec4). r .z) m v }
 
 -- Rule V11 (math.rs, transform_point): four columns, with row 3 added last.
-abbrev pub pointOf : Mat4 → Vec3 → Vec4
+unfoldable pub pointOf : Mat4 → Vec3 → Vec4
 pointOf m p =
     record {
       x = column (λ (r : Vec4). r .x) m p ⊕ m .row3 .x;
@@ -41,12 +41,12 @@ abbrev pub xyz : Vec4 → Vec3
 xyz v = record { x = v .x; y = v .y; z = v .z }
 
 -- the image of the centre, divided by its w, and the half extent through the absolute values
-abbrev pub centreImage : Aabb → Mat4 → Vec3
+unfoldable pub centreImage : Aabb → Mat4 → Vec3
 centreImage b m =
     let p = pointOf m (scaleOf (addOf (b .max) (b .min)) half) in
     scaleOf (xyz p) (one ⊘ p .w)
 
-abbrev pub extentImage : Aabb → Mat4 → Vec3
+unfoldable pub extentImage : Aabb → Mat4 → Vec3
 extentImage b m = absOf (vectorOf (absMatrix m) (scaleOf (subOf (b .max) (b .min)) half))
 
 -- Rule V12 (01, Composites; bounds.rs, transform_box): the centre's image less and plus the extent's.

@@ -10,6 +10,10 @@ use Rattle.float32.specs.declared.sorting.Ordering.the-variants.{Less, Equal, G
 use Rattle.math.specs.declared.vec3.Vec3.{Vec3}
 
 -- the rounded sum, difference, product and quotient
+infixl 20 _⊕_
+infixl 20 _⊖_
+infixl 30 _⊗_
+infixl 30 _⊘_
 abbrev pub _⊕_ : Float → Float → Float
 a ⊕ b = add binary32 a b
 
