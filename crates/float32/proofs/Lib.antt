@@ -3,4 +3,6 @@ pub mod Order
 pub mod OrderLaws
 pub mod Patterns
 mod Range
+pub mod Relations
+mod Trichotomy
 mod Wrap
