@@ -1,3 +1,4 @@
+pub mod CmpLaws
 pub mod Monotone
 pub mod Order
 pub mod OrderLaws
