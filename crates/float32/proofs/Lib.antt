@@ -1,8 +1,11 @@
+pub mod CmpLaws
 pub mod Monotone
 pub mod Order
 pub mod OrderLaws
 pub mod Patterns
 mod Range
+pub mod Relations
 pub mod SignLaws
+mod Trichotomy
 mod Vertex
 mod Wrap

@@ -59,7 +59,7 @@ Related Equal a b = Same a b
 Related Greater a b = Below b a
 Related Unordered a b = Apart a b
 
-abbrev ofOrdering : Ordering → Relation
+abbrev pub ofOrdering : Ordering → Relation
 ofOrdering Ordering·lt = Less
 ofOrdering Ordering·eq = Equal
 ofOrdering Ordering·gt = Greater
