@@ -8,4 +8,4 @@ pub mod Relations
 pub mod SignLaws
 mod Trichotomy
 mod Vertex
-mod Wrap
+pub mod Wrap
