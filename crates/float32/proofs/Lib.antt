@@ -1,4 +1,6 @@
+mod Amounts
 pub mod CmpLaws
+pub mod KeyLaws
 pub mod Monotone
 pub mod Order
 pub mod OrderLaws
