@@ -5,7 +5,7 @@ use Prim.Native.Nat.{ℕ, zero, suc, _+_, _*_, _^_, _<_}
 use native.Mathlib.Nat.{le-of-eq, le-add-right, le-of-suc-le-suc, lt-of-lt-of-le, mul-one, mul-assoc, mul-le-mul, mul-lt-mul-of-pos-right, pow-succ'}
 use native.Mathlib.Omega.{arith}
 use lib.Pow.{pow-pos, pow-mono}
-use lib.Ieee.{Float, Format, prec, low, hid, ones, odd, ofFields}
+use lib.Ieee.{Format, prec, low, hid, ones, ofFields}
 use lib.Ieee.Exact.{HasValue, odd-sign}
 use borrow.Author.Tests.{ne-eqb}
 
