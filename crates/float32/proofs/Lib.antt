@@ -1,4 +1,7 @@
+mod Amounts
 pub mod CmpLaws
+pub mod KeyLaws
+mod Keys
 pub mod Monotone
 pub mod Order
 pub mod OrderLaws

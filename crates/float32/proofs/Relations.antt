@@ -2,16 +2,16 @@
 use mathlib.Core.Path.{_≡_, refl, sym, ap, _∙_, subst}
 use mathlib.Core.Logic.{_⊎_, inl, inr}
 use mathlib.Core.Bool.{Bool, true, false, not, _&&_, _||_}
-use Prim.Native.Nat.{ℕ, zero, suc, _+_, _*_, _≤_, _<_, compare, Ordering, Ordering·lt, Ordering·eq, Ordering·gt}
+use Prim.Native.Nat.{ℕ, _+_, _*_, _<_, compare, Ordering, Ordering·lt, Ordering·eq, Ordering·gt}
 use native.Mathlib.Nat.{zero-mul, zero-add, add-zero, add-comm}
 use native.Mathlib.Omega.{arith}
-use lib.Dec.{T, ltb, eqb, isEq}
+use lib.Dec.{T, eqb, isEq}
 use lib.IntN.{ℤ}
 use lib.Ieee.{Float, nan, inf, fin, up, down, below, level, lt, le, eq, ne, isNan, binary32, ofBits}
 use borrow.Author.Tests.{eq-eqb, eqb-true}
 use Rattle.float32.specs.declared.compare.Relation.{Relation}
 use Rattle.float32.specs.declared.compare.Relation.the-variants.{Less, Equal, Greater, Unordered}
-use Rattle.float32.specs.Comparison.{Meaning, none, lowest, highest, ratio, meaning, Below, Same, Apart, Related, ofOrdering, relate, relationOf}
+use Rattle.float32.specs.Comparison.{Meaning, none, lowest, highest, ratio, meaning, Apart, Related, ofOrdering, relate, relationOf}
 use Rattle.float32.proofs.Trichotomy.{Compared, less, same, more, compared, compare-is, turned, compare-turned, isLt, ltb-is}
 
 -- ---- exactly one of the four holds

@@ -59,6 +59,7 @@ Related Equal a b = Same a b
 Related Greater a b = Below b a
 Related Unordered a b = Apart a b
 
+-- The relation between two numbers, by how they compare.
 abbrev pub ofOrdering : Ordering → Relation
 ofOrdering Ordering·lt = Less
 ofOrdering Ordering·eq = Equal
