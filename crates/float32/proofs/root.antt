@@ -1,0 +1,7 @@
+pub mod Cases
+pub mod Iteration
+pub mod Kept
+pub mod Radicand
+pub mod Scaling
+pub mod WholeRoot
+pub mod Written
