@@ -18,7 +18,6 @@ Inv-loop n chord root₀ root = Above n root
 abbrev μ-loop : tie.MeasureT-loop
 μ-loop n chord root₀ root = root
 
-
 quotient : (n : ℕ) → n < 2 ^ 48 → n / (5941931 + n / 25165824) < 0x400_0000
 quotient n h = div-lt-iff-lt-mul {k = 5941931 + n / 25165824} {x = n} {y = 0x400_0000} (omega arith) .1 (omega arith)
 
