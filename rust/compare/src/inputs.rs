@@ -98,6 +98,8 @@ enum Spread {
     Small,
     /// Ordinary sizes.
     Tame,
+    /// Of about one size, whichever it is: cancellation, underflow and overflow at every scale.
+    Scaled(u32),
     /// Every exponent.
     Wide,
     /// Every pattern.
@@ -118,7 +120,8 @@ impl Inputs {
 
     /// Fills `case` at random. Now and then one input is hard among tame ones, or near another.
     pub fn fill(&mut self, shape: &[Input], case: &mut [u32]) {
-        let spread = self.random.pick(&[Spread::Small, Spread::Tame, Spread::Wide, Spread::Any, Spread::Hard]);
+        let scaled = Spread::Scaled(self.random.below(248) as u32);
+        let spread = self.random.pick(&[Spread::Small, Spread::Tame, scaled, Spread::Wide, Spread::Any, Spread::Hard]);
         for at in 0..shape.len() {
             case[at] = self.word(shape[at], spread);
         }
@@ -154,6 +157,10 @@ impl Inputs {
             (Input::Float, Spread::Small) => ((r.below(33) as f32 - 16.0) * 0.5).to_bits(),
             (Input::Float, Spread::Tame) => {
                 ((r.u32() as f32 / 4294967296.0 - 0.5) * r.pick(&[2.0, 100.0, 80000.0])).to_bits()
+            }
+            (Input::Float, Spread::Scaled(least)) => {
+                let exponent = least + r.below(8) as u32;
+                r.u32() & 0x807F_FFFF | exponent << 23
             }
             (Input::Float, Spread::Wide) => {
                 let exponent = 1 + r.below(254) as u32;

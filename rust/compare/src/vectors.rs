@@ -83,3 +83,38 @@ fn line(out: &mut String, number: u8, op: &Operation, case: &[u32]) {
     }
     out.push('\n');
 }
+
+#[cfg(test)]
+mod tests {
+    use super::*;
+    use std::io::Write;
+
+    /// Reads the file as the table says and asks the proved library.
+    #[test]
+    fn the_library_replays_every_line() {
+        if let Some(why) = oracle::missing() {
+            // Not eprintln, which a test that passes keeps to itself.
+            let _ = writeln!(std::io::stderr(), "the_library_replays_every_line is left out: {why}");
+            return;
+        }
+        let operations = crate::operation::all();
+        let text = text(&operations, 1);
+        let mut seen = std::collections::BTreeSet::new();
+        for line in text.lines() {
+            let mut fields = line.split(' ');
+            let number = fields.next().expect("a number");
+            assert_eq!(number.len(), 2);
+            let number = u8::from_str_radix(number, 16).expect("hexadecimal");
+            let words: Vec<u32> = fields
+                .inspect(|f| assert!(f.len() == 8 && **f == f.to_lowercase()))
+                .map(|f| u32::from_str_radix(f, 16).expect("hexadecimal"))
+                .collect();
+            let op = operations.iter().find(|op| op.number == Some(number)).expect("a known number");
+            let (case, expected) = words.split_at(op.shape.len());
+            assert_eq!((op.ours)(case).as_slice(), expected, "{line}");
+            seen.insert(number);
+        }
+        assert!(seen.into_iter().eq(0x01..=0x15));
+        assert!(text.ends_with('\n'));
+    }
+}
