@@ -7,12 +7,12 @@ use native.Mathlib.Omega.{arith}
 use native.Mathlib.Numerals.{add-one}
 use lib.Dec.{T, ltb, isLe, isEq, leb→le, nleb→lt, eqb→eq}
 use lib.Pow.{pow-add, pow-pos}
-use lib.Ieee.{Float, Format, prec, low, hid, size, nearest, units}
+use lib.Ieee.{Format, prec, low, hid, size, nearest, units}
 use lib.Ieee.Digits.{size-le}
 use borrow.Author.Tests.{ltb-true, ltb-false}
 use Rattle.float32.specs.SquareRoot.{isqrt, root}
 use Rattle.float32.specs.RootSteps.{rounded}
-use Rattle.float32.proofs.root.WholeRoot.{isqrt-is, below-root, above-root}
+use Rattle.float32.proofs.root.WholeRoot.{isqrt-is, below-root}
 use Rattle.float32.proofs.root.Written.{prec-pos, size-gt}
 
 -- ---- powers of four

@@ -7,7 +7,7 @@ use native.Mathlib.Omega.{arith}
 use lib.Pow.{pow-add, pow-pos, pow-mono}
 use lib.Count.{leadingZeros, leading-top}
 use borrow.Author.Tests.{lt-ltb, le-ltb}
-use Rattle.float32.specs.RootSteps.{magnitude, Scales}
+use Rattle.float32.specs.RootSteps.{Scales}
 
 abbrev pub places : ℕ → ℕ
 places b = leadingZeros 32 b - 8

@@ -2,7 +2,7 @@
 use mathlib.Core.Path.{_≡_, refl}
 use mathlib.Core.Bool.{Bool, true, false, cond}
 use Prim.Native.Nat.{ℕ, zero, suc, _+_, _*_, _/_, _^_, _≤_, _<_}
-use native.Mathlib.Nat.{le-trans, le-of-eq, lt-of-lt-of-le, lt-of-not-le, not-le-of-lt, le-antisymm, le-of-suc-le-suc, mul-le-mul, pow-succ'}
+use native.Mathlib.Nat.{le-trans, le-of-eq, lt-of-lt-of-le, lt-of-not-le, not-le-of-lt, le-of-suc-le-suc, mul-le-mul}
 use native.Mathlib.Omega.{arith}
 use lib.Dec.{leb}
 use lib.Ieee.{size}
@@ -27,7 +27,7 @@ whole-is (suc j) n h =
     next n (whole j (n / 4)) (leb ((r + 1) * (r + 1)) n) (leb-true ((r + 1) * (r + 1)) n) (leb-false ((r + 1) * (r + 1)) n)
     (whole-is j (n / 4) (omega arith))
 
-two-four : (j : ℕ) → 2 ^ j ≤ 4 ^ j
+pub two-four : (j : ℕ) → 2 ^ j ≤ 4 ^ j
 two-four zero = le-of-eq refl
 two-four (suc j) = omega (arith, two-four j)
 

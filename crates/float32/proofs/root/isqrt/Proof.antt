@@ -1,6 +1,6 @@
 -- `root::isqrt` meets its contract. The loop's invariant: the guess is not below the whole root, and its square fits. It falls, and stops where its square is at most n.
-use Prim.Native.Nat.{ℕ, _+_, _*_, _/_, _^_, _≤_, _<_}
-use native.Mathlib.Nat.{le-antisymm, lt-of-lt-of-le, mul-le-mul, div-le-self, div-lt-iff-lt-mul}
+use Prim.Native.Nat.{ℕ, _+_, _/_, _^_, _≤_, _<_}
+use native.Mathlib.Nat.{le-antisymm, mul-le-mul, div-le-self, div-lt-iff-lt-mul}
 use native.Mathlib.Omega.{arith}
 use Rattle.float32.specs.SquareRoot.{isqrt}
 use Rattle.float32.proofs.root.WholeRoot.{below-root}

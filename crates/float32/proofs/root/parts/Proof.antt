@@ -1,7 +1,7 @@
 -- `root::parts` meets its contract: each branch is a case of `Scaling`.
 use borrow.Author.Needs.{needs}
 use mathlib.Core.Path.{sym, subst}
-use Prim.Native.Nat.{ℕ, _-_, _*_, _^_}
+use Prim.Native.Nat.{ℕ, _-_}
 use native.Mathlib.Nat.{mod-eq-of-lt}
 use native.Mathlib.Omega.{arith}
 use Rattle.float32.specs.RootSteps.{Scales}

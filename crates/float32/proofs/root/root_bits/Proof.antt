@@ -50,7 +50,7 @@ mul-result : tie.Need-mul-result
 mul-result c = search needs
 
 add-result : tie.Need-add-result
-add-result c = search needs
+add-result c = omega (arith, q-le (c .before))
 
 cast-result : tie.Need-cast-result
 cast-result c = omega (arith, q-le (c .before))
