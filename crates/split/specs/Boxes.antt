@@ -1,0 +1,27 @@
+-- The boxes that a list of places speaks of, six words each. Definitions only.
+use Prim.Native.Nat.{ℕ, _+_, _*_}
+use mathlib.Core.List.{List, [], _∷_}
+use lib.ListN.{getD}
+use lib.Ieee.{Float, binary32, ofBits}
+use Rattle.math.specs.declared.vec3.Vec3.{Vec3}
+use Rattle.math.specs.declared.words3.Words3.{Words3}
+use Rattle.math.specs.Stored.{valuesOf}
+use Rattle.math.specs.Vec3s.{addOf, scaleOf}
+use Rattle.math.specs.Transform.{half}
+use Rattle.split.specs.declared.boxes.BoxWords.{BoxWords}
+
+-- three words from `at` on, as a stored point
+abbrev pub pointAt : List ℕ → ℕ → Words3
+pointAt ws at = record { x = getD ws at 0; y = getD ws (at + 1) 0; z = getD ws (at + 2) 0 }
+
+-- the box at a place: min and max, from word 6 · place on
+abbrev pub boxAt : List ℕ → ℕ → BoxWords
+boxAt ws p = record { min = pointAt ws (6 * p); max = pointAt ws (6 * p + 3) }
+
+-- a box's six words
+abbrev pub boxWords : BoxWords → List ℕ
+boxWords b = b .min .x ∷ b .min .y ∷ b .min .z ∷ b .max .x ∷ b .max .y ∷ b .max .z ∷ []
+
+-- Rule T3 (bvh.rs, centre): (min + max) · 0.5.
+abbrev pub centreOf : BoxWords → Vec3
+centreOf b = scaleOf (addOf (valuesOf (b .min)) (valuesOf (b .max))) half

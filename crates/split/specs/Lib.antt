@@ -1,0 +1,5 @@
+pub mod Boxes
+pub mod Folding
+pub mod Lists
+pub mod Rule
+pub mod Sorted

@@ -1,0 +1,104 @@
+-- The rule by which a node's items are split. Definitions only.
+use Prim.Native.Nat.{ℕ, _+_, _-_, _*_, _/_, _<_}
+use mathlib.Core.Bool.{Bool, true, false, not, cond, _&&_, _||_}
+use mathlib.Core.List.{List, [], _∷_, _++_}
+use mathlib.Core.Path.{_≡_}
+use lib.Dec.{leb, ltb, eqb}
+use lib.ListN.{length, take, drop}
+use lib.Ieee.{Float, binary32, ofBits, lt}
+use Rattle.float32.specs.Counts.{ofCount}
+use Rattle.math.specs.declared.vec3.Vec3.{Vec3}
+use Rattle.math.specs.Stored.{valuesOf}
+use Rattle.math.specs.Vec3s.{_⊘_, addOf, scaleOf}
+use Rattle.math.specs.Transform.{half}
+use Rattle.split.specs.declared.boxes.BoxWords.{BoxWords}
+use Rattle.split.specs.declared.average.Axis.{Axis}
+use Rattle.split.specs.declared.average.Axis.the-variants.{X, Y, Z}
+use Rattle.split.specs.Boxes.{centreOf}
+use Rattle.split.specs.Lists.{pick, sift}
+use Rattle.split.specs.Sorted.{sortBoxes}
+
+-- +0 on each axis
+abbrev pub origin : Vec3
+origin = record { x = ofBits binary32 0; y = ofBits binary32 0; z = ofBits binary32 0 }
+
+-- min, then max, item after item
+abbrev pub sumFrom : (ℕ → BoxWords) → Vec3 → List ℕ → Vec3
+sumFrom at s [] = s
+sumFrom at s (p ∷ ps) = sumFrom at (addOf (addOf s (valuesOf (at p .min))) (valuesOf (at p .max))) ps
+
+-- Rule T4 (01, Tree build; bvh.rs, avg): the sum times 0.5 / n.
+unfoldable pub averageOf : (ℕ → BoxWords) → List ℕ → Vec3
+averageOf at ps = scaleOf (sumFrom at origin ps) (half ⊘ ofCount (length ps))
+
+abbrev pub along : Axis → Vec3 → Float
+along X v = v .x
+along Y v = v .y
+along Z v = v .z
+
+-- a centre below the average, and one above it; a NaN is neither
+unfoldable pub below : (ℕ → BoxWords) → Vec3 → Axis → ℕ → Bool
+below at avg a p = lt (along a (centreOf (at p))) (along a avg)
+
+unfoldable pub above : (ℕ → BoxWords) → Vec3 → Axis → ℕ → Bool
+above at avg a p = lt (along a avg) (along a (centreOf (at p)))
+
+-- how many centres are below the average
+unfoldable pub countBelow : (ℕ → BoxWords) → Vec3 → Axis → List ℕ → ℕ
+unfolding below
+countBelow at avg a ps = length (sift (below at avg a) ps)
+
+-- twice the distance of the count c from n / 2
+abbrev pub offset : ℕ → ℕ → ℕ
+offset n c = (n - 2 * c) + (2 * c - n)
+
+-- Rule T5 (01, Tree build; bvh.rs, axis): the axis whose count is nearest n / 2, x before y before z.
+abbrev pub nearestAxis : ℕ → ℕ → ℕ → Axis
+nearestAxis dx dy dz = cond (leb dx dy && leb dx dz) X (cond (leb dy dz) Y Z)
+
+unfoldable pub axisOf : (ℕ → BoxWords) → Vec3 → List ℕ → Axis
+unfolding countBelow
+axisOf at avg ps =
+    let n = length ps in
+    nearestAxis (offset n (countBelow at avg X ps)) (offset n (countBelow at avg Y ps)) (offset n (countBelow at avg Z ps))
+
+-- the test that parts the items: above the average on the chosen axis
+unfoldable pub chosen : (ℕ → BoxWords) → List ℕ → ℕ → Bool
+unfolding averageOf axisOf above
+chosen at ps = above at (averageOf at ps) (axisOf at (averageOf at ps) ps)
+
+-- Rule T5: above goes to one, the rest to two, order kept.
+abbrev pub one : (ℕ → BoxWords) → List ℕ → List ℕ
+one at ps = sift (chosen at ps) ps
+
+abbrev pub two : (ℕ → BoxWords) → List ℕ → List ℕ
+two at ps = sift (λ p. not (chosen at ps p)) ps
+
+-- either is empty
+abbrev pub stuck : (ℕ → BoxWords) → List ℕ → Bool
+stuck at ps = eqb (length (one at ps)) 0 || eqb (length (one at ps)) (length ps)
+
+-- Rule T6: where a group is empty, one followed by two is sorted and cut at n / 2 rounded down.
+unfoldable pub groupOne : (ℕ → BoxWords) → List ℕ → List ℕ
+unfolding chosen
+groupOne at ps = pick (stuck at ps) (take (length ps / 2) (sortBoxes at (one at ps ++ two at ps))) (one at ps)
+
+unfoldable pub groupTwo : (ℕ → BoxWords) → List ℕ → List ℕ
+unfolding chosen
+groupTwo at ps = pick (stuck at ps) (drop (length ps / 2) (sortBoxes at (one at ps ++ two at ps))) (two at ps)
+
+-- Rule T7 (01, Tree build; bvh.rs, children): group one is the first child unless group two has more items.
+unfoldable pub firstOf : (ℕ → BoxWords) → List ℕ → List ℕ
+unfolding groupOne groupTwo
+firstOf at ps = pick (ltb (length (groupOne at ps)) (length (groupTwo at ps))) (groupTwo at ps) (groupOne at ps)
+
+unfoldable pub secondOf : (ℕ → BoxWords) → List ℕ → List ℕ
+unfolding groupOne groupTwo
+secondOf at ps = pick (ltb (length (groupOne at ps)) (length (groupTwo at ps))) (groupOne at ps) (groupTwo at ps)
+
+-- what a split leaves in place of the places ps: the first group, then the second, and how many the first has
+pub record Divided (at : ℕ → BoxWords) (ps w : List ℕ) (r : ℕ) : Type 0 where
+  pub list : w ≡ firstOf at ps ++ secondOf at ps
+  pub count : r ≡ length (firstOf at ps)
+  pub some : 0 < r
+  pub rest : r < length ps
