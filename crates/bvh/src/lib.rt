@@ -1,0 +1,2 @@
+// From boxes to tree records.
+pub mod grow;
