@@ -1,3 +1,7 @@
+pub mod CastLaws
+pub mod ClampLaws
+pub mod IntegerOrder
+pub mod Low16
 pub mod Monotone
 pub mod Order
 pub mod OrderLaws

@@ -92,10 +92,16 @@ le-refl x p = elim (le-or-lt x x p p) [ inl h ↦ h | inr h ↦ lt-le x x h ]
 pub le-total : (x y : Float) → T (not (isNan x)) → T (not (isNan y)) → T (le x y) ⊎ T (le y x)
 le-total x y p q = elim (le-or-lt x y p q) [ inl h ↦ inl h | inr h ↦ inr (lt-le y x h) ]
 
+pub not-lt→le : (x y : Float) → T (not (isNan x)) → T (not (isNan y)) → lt x y ≡ false → T (le y x)
+not-lt→le x y p q e = elim (le-or-lt y x q p) [ inl h ↦ h | inr h ↦ absurd (subst T e h) ]
+
 pub lt→not-le : (x y : Float) → T (lt x y) → T (le y x) → ⊥
 lt→not-le x y h k =
     let n = le-no-nan y x k in
     T-not (le y x) (subst T (lt-not-le x y (n .1) (n .0)) h) k
+
+pub le→not-lt : (x y : Float) → T (le x y) → lt y x ≡ false
+le→not-lt x y h = T-ext (lt y x) false (λ k. lt→not-le y x k h) (λ k. absurd k)
 
 pub lt-le-trans : (x y z : Float) → T (lt x y) → T (le y z) → T (lt x z)
 lt-le-trans x y z h k =
