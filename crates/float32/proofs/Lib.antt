@@ -1,5 +1,6 @@
 pub mod CastLaws
 pub mod ClampLaws
+pub mod ExtremeLaws
 pub mod IntegerOrder
 pub mod Low16
 pub mod Monotone
