@@ -1,6 +1,8 @@
 pub mod CastLaws
 pub mod ClampLaws
+pub mod Exactness
 pub mod ExtremeLaws
+pub mod Halving
 pub mod IntegerOrder
 pub mod Low16
 pub mod Monotone
