@@ -1,7 +1,7 @@
 -- Half of a positive value: it lies between 0 and the value, and is exact where the half is a whole number of the format's smallest units, so from twice the smallest normal value on.
-use mathlib.Core.Path.{_≡_, refl, sym, ap, _∙_, subst}
-use mathlib.Core.Bool.{Bool, true, false}
-use Prim.Native.Nat.{ℕ, suc, _+_, _*_, _^_, _≤_, _<_}
+use mathlib.Core.Path.{_≡_, refl, sym, subst}
+use mathlib.Core.Bool.{true, false}
+use Prim.Native.Nat.{ℕ, suc, _*_, _^_, _≤_, _<_}
 use native.Mathlib.Nat.{mul-one, pow-suc, le-trans, le-of-eq, lt-of-le-of-lt, le-mul-of-pos-right, mul-lt-mul-of-pos-right, lt-of-mul-lt-mul-left}
 use native.Mathlib.Omega.{arith}
 use lib.Dec.{T, lit≤}
@@ -13,7 +13,7 @@ use lib.Ieee.Exact.{HasValue}
 use lib.Ieee.Order.{round-mono}
 use lib.Ieee.Positive.{num, den, positive}
 use Rattle.float32.proofs.Rounding.{zero-le-round}
-use Rattle.float32.proofs.Exactness.{Digits, digits, round-self, round-quotient, pow-lt→lt}
+use Rattle.float32.proofs.Exactness.{digits, round-self, round-quotient, pow-lt→lt}
 
 abbrev pub half : Float
 half = fin false 1 (negsuc 0)

@@ -10,5 +10,6 @@ pub mod Order
 pub mod OrderLaws
 pub mod Patterns
 mod Range
+pub mod RoundError
 pub mod Rounding
 mod Wrap

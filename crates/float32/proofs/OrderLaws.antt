@@ -1,18 +1,17 @@
 -- The order of floats: `le` is reflexive, transitive and total off NaN, `lt` is its negation the other way round, `eq` is both ways, and `neg` reverses it.
 use mathlib.Core.Path.{_≡_, refl, sym, ap, _∙_, subst}
 use mathlib.Core.Logic.{_⊎_, inl, inr}
-use mathlib.Core.Bool.{Bool, true, false, not, _||_, _&&_, Bool·beq}
+use mathlib.Core.Bool.{Bool, true, false, not, _||_, Bool·beq}
 use Prim.Native.Nat.{ℕ, _+_, _*_, _≤_, _<_}
-use native.Mathlib.Nat.{mul-le-mul-right, le-of-mul-le-mul-right, le-of-eq, lt-of-not-le, not-le-of-lt}
+use native.Mathlib.Nat.{mul-le-mul-right, le-of-mul-le-mul-right, lt-of-not-le, not-le-of-lt}
 use native.Mathlib.Omega.{arith}
-use native.Mathlib.Decide.{decLe}
 use lib.Dec.{T, eqb, eqb→eq, T-not, not-T}
 use lib.Ieee.{Float, nan, inf, fin, up, down, neg, level, lt, eq, le, isNan}
 use lib.Ieee.Fits.{and-l}
 use lib.Ieee.Scale.{finite}
-use lib.Ieee.Positive.{den, den-pos}
+use lib.Ieee.Positive.{num, den, den-pos}
 use mir.Facts.{or-yes}
-use Rattle.float32.proofs.Order.{over, under, Cross, Ordered, lowest, highest, numbers, le→ordered, ordered→le, le→cross, cross→le, lt→strict, strict→lt, T-ext}
+use Rattle.float32.proofs.Order.{over, under, Ordered, lowest, highest, numbers, le→ordered, ordered→le, le→cross, cross→le, lt→strict, strict→lt, T-ext}
 
 -- ---- no NaN is ordered
 pub finite-no-nan : (x : Float) → T (finite x) → T (not (isNan x))
@@ -49,6 +48,15 @@ ordered-trans (numbers {x = x} {y = y} p q h) (numbers {y = z} r s k) =
 
 pub le-trans : (x y z : Float) → T (le x y) → T (le y z) → T (le x z)
 le-trans x y z h k = ordered→le (ordered-trans (le→ordered x y h) (le→ordered y z k))
+
+-- ---- between finite values lie only finite ones
+ordered-finite : {x y z : Float} → T (finite x) → T (finite z) → Ordered x y → Ordered y z → T (finite y)
+ordered-finite a c (lowest p) k = absurd a
+ordered-finite a c (highest p) (highest q) = absurd c
+ordered-finite a c (numbers p q h) k = q
+
+pub finite-between : (x y z : Float) → T (finite x) → T (finite z) → T (le x y) → T (le y z) → T (finite y)
+finite-between x y z a c h k = ordered-finite a c (le→ordered x y h) (le→ordered y z k)
 
 -- ---- strict
 pub lt-le : (x y : Float) → T (lt x y) → T (le x y)
@@ -178,6 +186,15 @@ unfolding neg
 neg-finite nan h = h
 neg-finite (inf s) h = h
 neg-finite (fin s m e) h = h
+
+pub neg-finite-back : (x : Float) → T (finite (neg x)) → T (finite x)
+neg-finite-back x h = rw neg-neg at (neg-finite (neg x) h)
+
+pub neg-num : (x : Float) → num (neg x) ≡ num x
+unfolding neg
+neg-num nan = refl
+neg-num (inf s) = refl
+neg-num (fin s m e) = refl
 
 pub neg-over : (x : Float) → over (neg x) ≡ under x
 unfolding neg

@@ -1,20 +1,20 @@
 -- Each operation on finite values is its exact result, rounded once: a signed fraction (P - Q) / c, of which a zero has either sign. Rounding keeps the order of such fractions.
 use mathlib.Core.Path.{_≡_, refl, sym, ap, _∙_, subst}
-use mathlib.Core.Logic.{_⊎_, inl, inr}
+use mathlib.Core.Logic.{inl, inr}
 use mathlib.Core.Bool.{Bool, true, false, not, cond}
 use Prim.Native.Nat.{ℕ, zero, suc, _+_, _*_, _-_, _^_, _≤_, _<_}
-use native.Mathlib.Nat.{mul-comm, mul-sub, zero-mul, mul-pos, mul-le-mul-right, eq-zero-or-pos, zero-lt-suc}
+use native.Mathlib.Nat.{mul-comm, mul-sub, zero-mul, mul-pos, eq-zero-or-pos, zero-lt-suc}
 use native.Mathlib.Omega.{arith}
 use lib.Dec.{T, ltb, eqb, ltb→lt}
 use lib.IntN.{pos}
-use lib.Ieee.{Float, nan, inf, fin, Format, binary32, binary64, prec, emax, low, up, down, odd, units, round, neg, sum, add, mul, div, le, isNan}
+use lib.Ieee.{Float, nan, inf, fin, Format, binary32, binary64, prec, emax, low, up, down, odd, units, round, neg, sum, add, sub, mul, div, le, isNan}
 use lib.Ieee.Fits.{up-pos, round-is}
 use lib.Ieee.Order.{round-mono}
 use lib.Ieee.Scale.{finite, round-same}
 use lib.Ieee.Positive.{num, den, positive}
 use borrow.Author.Tests.{ltb-true, ltb-false, ne-eqb}
 use Rattle.float32.proofs.Order.{over, under}
-use Rattle.float32.proofs.OrderLaws.{le-no-nan, le-trans, neg-le, neg-no-nan}
+use Rattle.float32.proofs.OrderLaws.{le-no-nan, le-trans, neg-le, neg-finite, neg-over, neg-under, neg-den}
 
 -- ---- the sign goes through `round`
 odd-neg : (d q k l : ℕ) → odd d true q k l ≡ neg (odd d false q k l)
@@ -114,6 +114,10 @@ add-rounded f (fin false m e) (fin false n d) p q = above (omega arith) (unfold 
 add-rounded f (fin false m e) (fin true n d) p q = sum-apart f (m * up e * down d) (n * up d * down e) (down e * down d) _ _ (omega arith) (omega arith)
 add-rounded f (fin true m e) (fin false n d) p q = sum-across f (m * up e * down d) (n * up d * down e) (down e * down d) _ _ (omega arith) (omega arith)
 add-rounded f (fin true m e) (fin true n d) p q = below (omega arith) (unfold sum in ap (λ (z : ℕ). round f true z (down e * down d)) (omega arith))
+
+pub sub-rounded : (f : Format) (x y : Float) → T (finite x) → T (finite y) → Rounded f (sub f x y) (over x * den y + under y * den x) (under x * den y + over y * den x) (den x * den y)
+unfolding sub
+sub-rounded f x y p q = rw (neg-over y, neg-under y, neg-den y) at (add-rounded f x (neg y) p (neg-finite y q))
 
 -- ---- x * y, and x / y for a y above 0
 pub mul-rounded : (f : Format) (x y : Float) → T (finite x) → T (finite y) → Rounded f (mul f x y) (over x * over y + under x * under y) (over x * under y + under x * over y) (den x * den y)
