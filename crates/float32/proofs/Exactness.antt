@@ -14,6 +14,8 @@ use lib.Ieee.Exact.{HasValue, round-exact}
 use lib.Ieee.Nearest.{div-same}
 use lib.Ieee.Order.{round-mono}
 use lib.Ieee.Scale.{finite}
+use lib.Ieee.Positive.{den}
+use Rattle.float32.proofs.Order.{over, under}
 use Rattle.float32.proofs.OrderLaws.{finite-between, neg-finite}
 use Rattle.float32.proofs.Rounding.{Rounded, above, below, round-neg, zero-le-round}
 
@@ -96,6 +98,14 @@ room m u l j d t b T L h k =
     let c : m * u * l < b * d * l = mul-lt-mul-of-pos-right k L in
     omega arith
 
+-- a value that fits is a whole number of the smallest units
+pub den-divides : (f : Format) (x : Float) → T (finite x) → T (fits f x) → (w : ℕ) × (2 ^ low f ≡ w * den x)
+den-divides f nan p q = absurd p
+den-divides f (inf s) p q = absurd p
+den-divides f (fin s m e) p q =
+    let k : fall e ≤ low f = pow-le→le (fall e) (low f) (rw (down-is e) at (digits f s m e q .fine)) in
+    (2 ^ (low f - fall e), ap (λ (z : ℕ). 2 ^ z) (sym (sub-add-cancel k)) ∙ pow-add 2 (low f - fall e) (fall e) ∙ ap (λ (z : ℕ). 2 ^ (low f - fall e) * z) (sym (down-is e)))
+
 -- ---- x / 2 ^ t, where that is a whole number of units
 pub round-quotient : (f : Format) (s : Bool) (m : ℕ) (e : ℤ) (t : ℕ) → T (fits f (fin s m e)) → down e * 2 ^ t ≤ up e * 2 ^ low f → HasValue (round f s (m * up e) (down e * 2 ^ t)) s (m * up e) (down e * 2 ^ t)
 round-quotient f s m e t p h =
@@ -113,6 +123,12 @@ round-self f s m e p =
   where
     at-one : 0 < up e → down e ≤ 2 ^ low f → down e * 1 ≤ up e * 2 ^ low f
     at-one u h = omega (arith, le-trans h (le-mul-of-pos-right (2 ^ low f) u))
+
+pub self-rounded : (f : Format) (x : Float) → T (finite x) → T (fits f x) → Rounded f x (over x) (under x) (den x)
+self-rounded f nan p q = absurd p
+self-rounded f (inf s) p q = absurd p
+self-rounded f (fin false m e) p q = above (omega arith) (sym (round-self f false m e q) ∙ ap (λ (z : ℕ). round f false z (down e)) (omega arith))
+self-rounded f (fin true m e) p q = below (omega arith) (sym (round-self f true m e q) ∙ ap (λ (z : ℕ). round f true z (down e)) (omega arith))
 
 -- ---- 2 ^ emax is a value, so what is no larger does not overflow
 power-value : (f : Format) → HasValue (round f false (2 ^ emax f) 1) false (2 ^ emax f) 1

@@ -9,7 +9,9 @@ pub mod Monotone
 pub mod Order
 pub mod OrderLaws
 pub mod Patterns
+pub mod Quantise
 mod Range
 pub mod RoundError
 pub mod Rounding
+pub mod SumError
 mod Wrap

@@ -5,17 +5,17 @@ use Prim.Native.Nat.{ℕ, _+_, _-_, _*_, _/_, _%_, _^_, _≤_, _<_, compare, Ord
 use native.Mathlib.Nat.{div-add-mod', mod-lt, mul-le-mul-right, mul-right-comm, mul-assoc, mul-pos, mul-one, sub-eq-zero-of-le, div-lt-iff-lt-mul, le-div-iff-mul-le, le-of-mul-le-mul-right}
 use native.Mathlib.Omega.{arith}
 use lib.Dec.{T, isLe, isEq, leb→le, nleb→lt, eqb→eq}
-use lib.Ieee.{Float, nan, inf, fin, Format, binary32, binary64, prec, emax, low, size, nearest, up, down, unlike, round, sub, mul, div, le}
+use lib.Pow.{pow-add, pow-pos}
+use lib.Ieee.{Float, nan, inf, fin, Format, binary32, binary64, prec, emax, low, size, nearest, up, down, unlike, round, mul, div}
+use lib.Ieee.Digits.{size-reaches, size-le}
+use lib.Ieee.Fits.{two, two-le-pos, down-pos}
 use lib.Ieee.Nearest.{closest}
 use lib.Ieee.Order.{drop, kept}
 use lib.Ieee.Scale.{finite, grid, round-val, round-under, normal-of-fraction}
-use lib.Ieee.Digits.{size-reaches, size-le}
-use lib.Ieee.Fits.{two, two-le-pos, down-pos}
-use lib.Pow.{pow-add, pow-pos}
+use lib.Ieee.Positive.{num, den, positive, value→cross}
+use Rattle.float32.proofs.Order.{num-pos}
 use Rattle.float32.proofs.OrderLaws.{neg-num, neg-den, neg-finite-back}
-use Rattle.float32.proofs.Rounding.{Rounded, above, below, round-neg, sub-rounded, positive-not-zero, num-pos}
-use lib.Ieee.Positive.{num, den, den-pos, positive, value→cross}
-use Rattle.float32.proofs.Order.{over, under, le→cross}
+use Rattle.float32.proofs.Rounding.{round-neg, positive-not-zero}
 
 -- ---- the nearest whole number is within a half
 near : (w r u : ℕ) (o : Ordering) → r < u → (T (isLe o) → r * 2 ≤ u) → (T (not (isLe o)) → u < r * 2) → (T (isEq o) → r * 2 ≡ u)
@@ -87,11 +87,11 @@ Relative p x a c = (2 ^ p * (num x * c) ≤ 2 ^ p * (a * den x) + a * den x) × 
 abbrev pub Absolute : ℕ → Float → ℕ → ℕ → Type 0
 Absolute l x a c = (2 * 2 ^ l * (num x * c) ≤ 2 * 2 ^ l * (a * den x) + c * den x) × (2 * 2 ^ l * (a * den x) ≤ 2 * 2 ^ l * (num x * c) + c * den x)
 
-twice : (f : Format) → 2 ^ prec f ≡ 2 ^ (prec f - 1) * 2
+pub twice : (f : Format) → 2 ^ prec f ≡ 2 ^ (prec f - 1) * 2
 twice binary32 = refl
 twice binary64 = refl
 
-low-is : (f : Format) → 2 ^ low f ≡ 2 ^ (emax f - 1) * 2 ^ (prec f - 1)
+pub low-is : (f : Format) → 2 ^ low f ≡ 2 ^ (emax f - 1) * 2 ^ (prec f - 1)
 low-is binary32 = refl
 low-is binary64 = refl
 
@@ -126,27 +126,7 @@ round-absolute f true a c C h t =
     let x = round f false a c in
     rw (round-neg f a c, neg-num x, neg-den x) (below-absolute f a c C h (neg-finite-back x (rw (round-neg f a c) at t)))
 
--- ---- the operations
--- the size of P - Q
-unfoldable pub distance : ℕ → ℕ → ℕ
-distance P Q = P - Q + (Q - P)
-
-pub distance-above : (P Q : ℕ) → Q ≤ P → P - Q ≡ distance P Q
-unfolding distance
-distance-above P Q h = omega arith
-
-pub distance-below : (P Q : ℕ) → P ≤ Q → Q - P ≡ distance P Q
-unfolding distance
-distance-below P Q h = omega arith
-
-pub rounded-relative : {f : Format} {r : Float} {P Q c : ℕ} → 0 < c → Rounded f r P Q c → c ≤ distance P Q * 2 ^ (emax f - 1) → T (finite r) → Relative (prec f) r (distance P Q) c
-rounded-relative {f} {r} {P} {Q} {c} C (above h e) n t =
-    let i = e ∙ ap (λ (z : ℕ). round f false z c) (distance-above P Q h) in
-    rw i (round-relative f false (distance P Q) c C n (rw i at t))
-rounded-relative {f} {r} {P} {Q} {c} C (below h e) n t =
-    let i = e ∙ ap (λ (z : ℕ). round f true z c) (distance-below P Q h) in
-    rw i (round-relative f true (distance P Q) c C n (rw i at t))
-
+-- ---- the product and the quotient of any signs, by their sizes
 pub mul-relative : (f : Format) (x y : Float) → T (finite x) → T (finite y) → den x * den y ≤ num x * num y * 2 ^ (emax f - 1) → T (finite (mul f x y)) → Relative (prec f) (mul f x y) (num x * num y) (den x * den y)
 unfolding mul
 mul-relative f nan y p q h t = absurd p
@@ -164,17 +144,3 @@ div-relative f (fin s m e) (inf u) p q h t = absurd q
 div-relative f (fin s m e) (fin true n d) p q h t = absurd q
 div-relative f (fin s m e) (fin false n d) p q h t =
     rw (positive-not-zero n q) (round-relative f (unlike s false) (m * up e * down d) (n * up d * down e) (mul-pos (num-pos (fin false n d) q) (down-pos e)) h (rw (positive-not-zero n q) at t))
-
-pub sub-relative : (f : Format) (x y : Float) → T (finite x) → T (finite y)
-    → den x * den y ≤ distance (over x * den y + under y * den x) (under x * den y + over y * den x) * 2 ^ (emax f - 1) → T (finite (sub f x y))
-    → Relative (prec f) (sub f x y) (distance (over x * den y + under y * den x) (under x * den y + over y * den x)) (den x * den y)
-sub-relative f x y p q h t = rounded-relative (mul-pos (den-pos x) (den-pos y)) (sub-rounded f x y p q) h t
-
--- x - y for y ≤ x
-pub sub-relative-above : (f : Format) (x y : Float) → T (finite x) → T (finite y) → T (le y x)
-    → den x * den y ≤ (over x * den y + under y * den x - (under x * den y + over y * den x)) * 2 ^ (emax f - 1) → T (finite (sub f x y))
-    → Relative (prec f) (sub f x y) (over x * den y + under y * den x - (under x * den y + over y * den x)) (den x * den y)
-sub-relative-above f x y p q l h t =
-    let k = le→cross y x q p l in
-    let e = distance-above (over x * den y + under y * den x) (under x * den y + over y * den x) (omega arith) in
-    rw e (sub-relative f x y p q (rw e at h) t)

@@ -3,18 +3,18 @@ use mathlib.Core.Path.{_≡_, refl, sym, ap, _∙_, subst}
 use mathlib.Core.Logic.{inl, inr}
 use mathlib.Core.Bool.{Bool, true, false, not, cond}
 use Prim.Native.Nat.{ℕ, zero, suc, _+_, _*_, _-_, _^_, _≤_, _<_}
-use native.Mathlib.Nat.{mul-comm, mul-sub, zero-mul, mul-pos, eq-zero-or-pos, zero-lt-suc}
+use native.Mathlib.Nat.{le-refl, mul-comm, mul-sub, zero-mul, mul-pos, eq-zero-or-pos, zero-lt-suc}
 use native.Mathlib.Omega.{arith}
 use lib.Dec.{T, ltb, eqb, ltb→lt}
 use lib.IntN.{pos}
-use lib.Ieee.{Float, nan, inf, fin, Format, binary32, binary64, prec, emax, low, up, down, odd, units, round, neg, sum, add, sub, mul, div, le, isNan}
-use lib.Ieee.Fits.{up-pos, round-is}
+use lib.Ieee.{Float, nan, inf, fin, Format, binary32, binary64, prec, emax, low, up, down, unlike, odd, units, round, neg, sum, add, sub, mul, div, le, isNan}
+use lib.Ieee.Fits.{round-is}
 use lib.Ieee.Order.{round-mono}
 use lib.Ieee.Scale.{finite, round-same}
 use lib.Ieee.Positive.{num, den, positive}
 use borrow.Author.Tests.{ltb-true, ltb-false, ne-eqb}
 use Rattle.float32.proofs.Order.{over, under}
-use Rattle.float32.proofs.OrderLaws.{le-no-nan, le-trans, neg-le, neg-finite, neg-over, neg-under, neg-den}
+use Rattle.float32.proofs.OrderLaws.{le-no-nan, le-trans, neg-neg, neg-le, neg-finite, neg-over, neg-under, neg-den}
 
 -- ---- the sign goes through `round`
 odd-neg : (d q k l : ℕ) → odd d true q k l ≡ neg (odd d false q k l)
@@ -86,6 +86,16 @@ rounded-mono {f} {r} {r'} {P} {Q} {c} {P'} {Q'} {c'} C C' (above p e) (below q e
     let j : Q' - P' ≡ 0 = none (Q' - P') c (Q - P) c' C (omega arith) (gap Q' P' c' Q P c (omega arith)) in
     rw (e ∙ ap (λ (z : ℕ). round f false z c) i ∙ round-zero f false c C, e' ∙ ap (λ (z : ℕ). round f true z c') j ∙ round-zero f true c' C') (unfold le in tt)
 
+zero-rounded : (f : Format) → Rounded f (fin false 0 (pos 0)) 0 0 1
+zero-rounded f = above (le-refl 0) (sym (round-zero f false 1 (zero-lt-suc 0)))
+
+-- the sign of the exact result is kept
+pub rounded-ge-zero : {f : Format} {r : Float} {P Q c : ℕ} → 0 < c → Rounded f r P Q c → Q ≤ P → T (le (fin false 0 (pos 0)) r)
+rounded-ge-zero {f} C h k = rounded-mono (zero-lt-suc 0) C (zero-rounded f) h (omega arith)
+
+pub rounded-le-zero : {f : Format} {r : Float} {P Q c : ℕ} → 0 < c → Rounded f r P Q c → P ≤ Q → T (le r (fin false 0 (pos 0)))
+rounded-le-zero {f} C h k = rounded-mono C (zero-lt-suc 0) h (zero-rounded f) (omega arith)
+
 -- ---- x + y
 sum-apart : (f : Format) (a b c P Q : ℕ) → P ≡ a → Q ≡ b → Rounded f (sum f false a true b c) P Q c
 unfolding sum
@@ -131,11 +141,34 @@ mul-rounded f (fin false m e) (fin true n d) p q = below (omega arith) (ap (λ (
 mul-rounded f (fin true m e) (fin false n d) p q = below (omega arith) (ap (λ (z : ℕ). round f true z (down e * down d)) (omega arith))
 mul-rounded f (fin true m e) (fin true n d) p q = above (omega arith) (ap (λ (z : ℕ). round f false z (down e * down d)) (omega arith))
 
-pub num-pos : (x : Float) → T (positive x) → 0 < num x
-num-pos nan p = absurd p
-num-pos (inf s) p = absurd p
-num-pos (fin true m e) p = absurd p
-num-pos (fin false m e) p = mul-pos (ltb→lt 0 m p) (up-pos e)
+-- the sign goes through a product
+unlike-not : (s t : Bool) → unlike (not s) t ≡ not (unlike s t)
+unlike-not true true = refl
+unlike-not true false = refl
+unlike-not false true = refl
+unlike-not false false = refl
+
+round-not : (f : Format) (s : Bool) (a c : ℕ) → round f (not s) a c ≡ neg (round f s a c)
+round-not f false a c = round-neg f a c
+round-not f true a c = sym (ap neg (round-neg f a c) ∙ neg-neg (round f false a c))
+
+pub mul-neg : (f : Format) (x y : Float) → mul f (neg x) y ≡ neg (mul f x y)
+unfolding mul neg
+mul-neg f nan y = refl
+mul-neg f (inf s) nan = refl
+mul-neg f (inf s) (inf t) = ap inf (unlike-not s t)
+mul-neg f (inf s) (fin t n d) = rw (unlike-not s t) (go (eqb n 0))
+  where
+    go : (b : Bool) → cond b nan (inf (not (unlike s t))) ≡ neg (cond b nan (inf (unlike s t)))
+    go true = refl
+    go false = refl
+mul-neg f (fin s m e) nan = refl
+mul-neg f (fin s m e) (inf t) = rw (unlike-not s t) (go (eqb m 0))
+  where
+    go : (b : Bool) → cond b nan (inf (not (unlike s t))) ≡ neg (cond b nan (inf (unlike s t)))
+    go true = refl
+    go false = refl
+mul-neg f (fin s m e) (fin t n d) = rw (unlike-not s t) (round-not f (unlike s t) (m * up e * (n * up d)) (down e * down d))
 
 pub positive-not-zero : (n : ℕ) → T (ltb 0 n) → eqb n 0 ≡ false
 positive-not-zero n h = ne-eqb n 0 (λ e. clash e (ltb→lt 0 n h))
