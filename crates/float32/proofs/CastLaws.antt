@@ -13,7 +13,7 @@ use lib.Ieee.{Float, nan, inf, fin, up, down, lt, le, neg, isNan, ofBits, binary
 use lib.Ieee.Fits.{down-pos}
 use lib.Ieee.Nearest.{div-mono}
 use Rattle.float32.specs.Casts.{castI32, shortOf, clampOf, limit, vertexOf}
-use Rattle.float32.proofs.Order.{Ordered, lowest, highest, numbers, le→ordered, lt→strict}
+use Rattle.float32.proofs.Order.{Ordered, from-lowest, to-highest, numbers, le→ordered, lt→strict}
 use Rattle.float32.proofs.OrderLaws.{le-no-nan, le-or-lt, lt-le, le-lt-trans, lt-le-trans}
 use Rattle.float32.proofs.IntegerOrder.{leZ-refl, leZ-antisym, leZ-neg, leZ-across}
 use Rattle.float32.proofs.ClampLaws.{clampOf-low, clampOf-high, clampOf-mono, clampOf-self}
@@ -74,8 +74,8 @@ zeros a b c d h k =
 
 toSigned-ordered : (h : ℕ) {x y : Float} → Ordered x y → T (leZ (toSigned h x) (toSigned h y))
 unfolding toSigned
-toSigned-ordered h (lowest {y = y} p) = low-end h y
-toSigned-ordered h (highest {x = x} p) = high-end h x
+toSigned-ordered h (from-lowest {y = y} p) = low-end h y
+toSigned-ordered h (to-highest {x = x} p) = high-end h x
 toSigned-ordered h (numbers {x = fin true m e} {y = fin true n d} p q k) =
     leZ-neg (min (m * up e / down e) (2 ^ h)) (min (n * up d / down d) (2 ^ h)) (let l = div-mono (n * up d) (down d) (m * up e) (down e) (down-pos d) (down-pos e) (omega arith) in omega arith)
 toSigned-ordered h (numbers {x = fin true m e} {y = fin false n d} p q k) = leZ-across (min (m * up e / down e) (2 ^ h)) (min (n * up d / down d) (2 ^ h - 1))

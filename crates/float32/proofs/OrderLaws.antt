@@ -11,7 +11,7 @@ use lib.Ieee.Fits.{and-l}
 use lib.Ieee.Scale.{finite}
 use lib.Ieee.Positive.{num, den, den-pos}
 use mir.Facts.{or-yes}
-use Rattle.float32.proofs.Order.{over, under, Ordered, lowest, highest, numbers, le→ordered, ordered→le, le→cross, cross→le, lt→strict, strict→lt, T-ext}
+use Rattle.float32.proofs.Order.{over, under, Ordered, from-lowest, to-highest, numbers, le→ordered, ordered→le, le→cross, cross→le, lt→strict, strict→lt, T-ext}
 
 -- ---- no NaN is ordered
 pub finite-no-nan : (x : Float) → T (finite x) → T (not (isNan x))
@@ -25,8 +25,8 @@ unfolding isNan
 inf-no-nan s = tt
 
 ordered-no-nan : {x y : Float} → Ordered x y → T (not (isNan x)) × T (not (isNan y))
-ordered-no-nan (lowest p) = (inf-no-nan true, p)
-ordered-no-nan (highest p) = (p, inf-no-nan false)
+ordered-no-nan (from-lowest p) = (inf-no-nan true, p)
+ordered-no-nan (to-highest p) = (p, inf-no-nan false)
 ordered-no-nan (numbers {x = x} {y = y} p q h) = (finite-no-nan x p, finite-no-nan y q)
 
 pub le-no-nan : (x y : Float) → T (le x y) → T (not (isNan x)) × T (not (isNan y))
@@ -40,9 +40,9 @@ chain p q d p' q' d' p'' q'' d'' D h k =
     le-of-mul-le-mul-right e D
 
 ordered-trans : {x y z : Float} → Ordered x y → Ordered y z → Ordered x z
-ordered-trans (lowest p) k = lowest (ordered-no-nan k .1)
-ordered-trans (highest p) (highest q) = highest p
-ordered-trans (numbers {x = x} p q h) (highest r) = highest (finite-no-nan x p)
+ordered-trans (from-lowest p) k = from-lowest (ordered-no-nan k .1)
+ordered-trans (to-highest p) (to-highest q) = to-highest p
+ordered-trans (numbers {x = x} p q h) (to-highest r) = to-highest (finite-no-nan x p)
 ordered-trans (numbers {x = x} {y = y} p q h) (numbers {y = z} r s k) =
     numbers p s (chain (over x) (under x) (den x) (over y) (under y) (den y) (over z) (under z) (den z) (den-pos y) h k)
 
@@ -51,8 +51,8 @@ le-trans x y z h k = ordered→le (ordered-trans (le→ordered x y h) (le→orde
 
 -- ---- between finite values lie only finite ones
 ordered-finite : {x y z : Float} → T (finite x) → T (finite z) → Ordered x y → Ordered y z → T (finite y)
-ordered-finite a c (lowest p) k = absurd a
-ordered-finite a c (highest p) (highest q) = absurd c
+ordered-finite a c (from-lowest p) k = absurd a
+ordered-finite a c (to-highest p) (to-highest q) = absurd c
 ordered-finite a c (numbers p q h) k = q
 
 pub finite-between : (x y z : Float) → T (finite x) → T (finite z) → T (le x y) → T (le y z) → T (finite y)
@@ -218,8 +218,8 @@ neg-den (fin s m e) = refl
 
 ordered-neg : {x y : Float} → Ordered x y → Ordered (neg y) (neg x)
 unfolding neg
-ordered-neg (lowest {y = y} p) = highest (neg-no-nan y p)
-ordered-neg (highest {x = x} p) = lowest (neg-no-nan x p)
+ordered-neg (from-lowest {y = y} p) = to-highest (neg-no-nan y p)
+ordered-neg (to-highest {x = x} p) = from-lowest (neg-no-nan x p)
 ordered-neg (numbers {x = x} {y = y} p q h) =
     numbers {x = neg y} {y = neg x} (neg-finite y q) (neg-finite x p) (rw (neg-over x, neg-over y, neg-under x, neg-under y, neg-den x, neg-den y) (omega arith))
 

@@ -14,7 +14,7 @@ use lib.Ieee.Scale.{finite}
 use lib.Ieee.Positive.{num, den, den-pos, positive, positive-finite, between, first-pos, le→cross}
 use borrow.Author.Tests.{eq-eqb}
 use Rattle.float32.specs.Casts.{limit, shortOf, vertexOf}
-use Rattle.float32.proofs.Order.{over, under, num-pos, positive-over, positive-under, Cross, Ordered, lowest, highest, numbers, le→ordered}
+use Rattle.float32.proofs.Order.{over, under, num-pos, positive-over, positive-under, Cross, Ordered, from-lowest, to-highest, numbers, le→ordered}
 use Rattle.float32.proofs.OrderLaws.{le-trans, le-lt-trans, neg-neg, neg-le, neg-lt}
 use Rattle.float32.proofs.Rounding.{Rounded, rounded-mono, div-rounded, mul-rounded, mul-neg, positive-not-zero}
 use Rattle.float32.proofs.Exactness.{self-rounded}
@@ -71,8 +71,8 @@ zeros x y h z w = (no-factor (over x) (den y) (den-pos y) (first (rw (z, w) at h
     second h = omega arith
 
 infinite : (f : Format) {x y : Float} → Ordered x y → T (leZ (vertexOf (mul f x (inf false))) (vertexOf (mul f y (inf false))))
-infinite f (lowest {y = y} p) = rw (inf-inf f true, vertexOf-inf true) (vertexOf-in (mul f y (inf false)) .0)
-infinite f (highest {x = x} p) = rw (inf-inf f false, vertexOf-inf false) (vertexOf-in (mul f x (inf false)) .1)
+infinite f (from-lowest {y = y} p) = rw (inf-inf f true, vertexOf-inf true) (vertexOf-in (mul f y (inf false)) .0)
+infinite f (to-highest {x = x} p) = rw (inf-inf f false, vertexOf-inf false) (vertexOf-in (mul f x (inf false)) .1)
 infinite f (numbers {x = x} {y = y} p q h) =
     elim (eq-zero-or-pos (under x)) [
       | inr l ↦ rw (under-inf f x p l, vertexOf-inf true) (vertexOf-in (mul f y (inf false)) .0)
