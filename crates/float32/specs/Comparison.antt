@@ -59,7 +59,8 @@ Related Equal a b = Same a b
 Related Greater a b = Below b a
 Related Unordered a b = Apart a b
 
-abbrev ofOrdering : Ordering → Relation
+-- The relation between two numbers, by how they compare.
+abbrev pub ofOrdering : Ordering → Relation
 ofOrdering Ordering·lt = Less
 ofOrdering Ordering·eq = Equal
 ofOrdering Ordering·gt = Greater

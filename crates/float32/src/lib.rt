@@ -4,5 +4,6 @@ pub mod compare;
 pub mod counts;
 pub mod extremes;
 pub mod root;
+pub mod signs;
 pub mod sorting;
 pub mod words;

@@ -1,0 +1,320 @@
+// The C interface: one function an operation, none of which asks anything of its caller.
+use float32::compare::Relation;
+use float32::sorting::Ordering;
+use math::aabb::Aabb;
+use math::mat4::Mat4;
+use math::mat4::Vec4;
+use math::vec3::Vec3;
+use math::words3::Words3;
+ghost use mathlib.Core.Path.{_≡_};
+ghost use lib.Ieee.{binary32, ofBits, toBits};
+ghost use Rattle.float32.specs.Casts.{castI32, low16, shortOf, vertexOf};
+ghost use Rattle.float32.specs.Comparison.{relationOf};
+ghost use Rattle.float32.specs.Counts.{ofCount};
+ghost use Rattle.float32.specs.Extremes.{vminOf, vmaxOf, vminWord, vmaxWord, minNumberOf, maxNumberOf};
+ghost use Rattle.float32.specs.SortOrder.{cmpOf, keyOf};
+ghost use Rattle.float32.specs.SquareRoot.{sqrtOf};
+ghost use Rattle.math.specs.Stored.{vminWordsOf, vmaxWordsOf};
+ghost use Rattle.math.specs.Transform.{pointOf, vectorOf, transformBox};
+ghost use Rattle.math.specs.Vec3s.{addOf, subOf, scaleOf, negOf, absOf, dotOf, crossOf, lengthOf, vmulOf, vdivOf, vaddOf, normOf, vmin3Of, vmax3Of, cmpVec3Of};
+ghost use Rattle.bounds.specs.Numbers.{relationNumber, orderingNumber};
+
+// ---- words and floats
+
+#[no_mangle]
+pub extern "C" fn bounds_value(word: u32) -> f32
+    ensures { λ r. ⌜ r ≡ ofBits binary32 word ⌝ }
+{
+    float32::words::value(word)
+}
+
+#[no_mangle]
+pub extern "C" fn bounds_bits(x: f32) -> u32
+    ensures { λ r. ⌜ r ≡ toBits binary32 x ⌝ }
+{
+    float32::words::bits(x)
+}
+
+// The word again, or 7FC00000 hexadecimal for each NaN.
+#[no_mangle]
+pub extern "C" fn bounds_value_bits(word: u32) -> u32
+    ensures { λ r. ⌜ r ≡ toBits binary32 (ofBits binary32 word) ⌝ }
+{
+    float32::words::bits(float32::words::value(word))
+}
+
+// ---- comparison
+
+fn relation_number(r: Relation) -> u32
+    ensures { λ n. ⌜ n ≡ relationNumber r ⌝ }
+{
+    match r {
+        Relation::Less => 0,
+        Relation::Equal => 1,
+        Relation::Greater => 2,
+        Relation::Unordered => 3,
+    }
+}
+
+fn ordering_number(o: Ordering) -> i32
+    ensures { λ n. ⌜ n ≡ orderingNumber o ⌝ }
+{
+    match o {
+        Ordering::Less => -1,
+        Ordering::Equal => 0,
+        Ordering::Greater => 1,
+    }
+}
+
+#[no_mangle]
+pub extern "C" fn bounds_relate(a: f32, b: f32) -> u32
+    ensures { λ r. ⌜ r ≡ relationNumber (relationOf a b) ⌝ }
+{
+    relation_number(float32::compare::relate(a, b))
+}
+
+#[no_mangle]
+pub extern "C" fn bounds_cmp_f32(a: f32, b: f32) -> i32
+    ensures { λ r. ⌜ r ≡ orderingNumber (cmpOf a b) ⌝ }
+{
+    ordering_number(float32::sorting::cmp_f32(a, b))
+}
+
+#[no_mangle]
+pub extern "C" fn bounds_order_key(word: u32) -> u32
+    ensures { λ r. ⌜ r ≡ keyOf word ⌝ }
+{
+    float32::sorting::order_key(word)
+}
+
+// ---- the lesser and the greater
+
+#[no_mangle]
+pub extern "C" fn bounds_vmin(a: f32, b: f32) -> f32
+    ensures { λ r. ⌜ r ≡ vminOf a b ⌝ }
+{
+    float32::extremes::vmin(a, b)
+}
+
+#[no_mangle]
+pub extern "C" fn bounds_vmax(a: f32, b: f32) -> f32
+    ensures { λ r. ⌜ r ≡ vmaxOf a b ⌝ }
+{
+    float32::extremes::vmax(a, b)
+}
+
+#[no_mangle]
+pub extern "C" fn bounds_min_number(a: f32, b: f32) -> f32
+    ensures { λ r. ⌜ r ≡ minNumberOf a b ⌝ }
+{
+    float32::extremes::min_number(a, b)
+}
+
+#[no_mangle]
+pub extern "C" fn bounds_max_number(a: f32, b: f32) -> f32
+    ensures { λ r. ⌜ r ≡ maxNumberOf a b ⌝ }
+{
+    float32::extremes::max_number(a, b)
+}
+
+#[no_mangle]
+pub extern "C" fn bounds_vmin_word(a: u32, b: u32) -> u32
+    ensures { λ r. ⌜ r ≡ vminWord a b ⌝ }
+{
+    float32::extremes::vmin_word(a, b)
+}
+
+#[no_mangle]
+pub extern "C" fn bounds_vmax_word(a: u32, b: u32) -> u32
+    ensures { λ r. ⌜ r ≡ vmaxWord a b ⌝ }
+{
+    float32::extremes::vmax_word(a, b)
+}
+
+// ---- casts, root, counts
+
+#[no_mangle]
+pub extern "C" fn bounds_to_i32(x: f32) -> i32
+    ensures { λ r. ⌜ r ≡ castI32 x ⌝ }
+{
+    float32::casts::to_i32(x)
+}
+
+#[no_mangle]
+pub extern "C" fn bounds_wrap_i16(n: i32) -> i16
+    ensures { λ r. ⌜ r ≡ low16 n ⌝ }
+{
+    float32::casts::wrap_i16(n)
+}
+
+#[no_mangle]
+pub extern "C" fn bounds_to_short(x: f32) -> i16
+    ensures { λ r. ⌜ r ≡ shortOf x ⌝ }
+{
+    float32::casts::to_short(x)
+}
+
+#[no_mangle]
+pub extern "C" fn bounds_vertex_value(x: f32) -> i16
+    ensures { λ r. ⌜ r ≡ vertexOf x ⌝ }
+{
+    float32::casts::vertex_value(x)
+}
+
+#[no_mangle]
+pub extern "C" fn bounds_sqrt(x: f32) -> f32
+    ensures { λ r. ⌜ r ≡ sqrtOf binary32 x ⌝ }
+{
+    float32::root::sqrt(x)
+}
+
+#[no_mangle]
+pub extern "C" fn bounds_of_count(n: u16) -> f32
+    ensures { λ r. ⌜ r ≡ ofCount n ⌝ }
+{
+    float32::counts::of_count(n)
+}
+
+// ---- points
+
+#[no_mangle]
+pub extern "C" fn bounds_add(a: Vec3, b: Vec3) -> Vec3
+    ensures { λ r. ⌜ r ≡ addOf a b ⌝ }
+{
+    a.add(b)
+}
+
+#[no_mangle]
+pub extern "C" fn bounds_sub(a: Vec3, b: Vec3) -> Vec3
+    ensures { λ r. ⌜ r ≡ subOf a b ⌝ }
+{
+    a.sub(b)
+}
+
+#[no_mangle]
+pub extern "C" fn bounds_cross(a: Vec3, b: Vec3) -> Vec3
+    ensures { λ r. ⌜ r ≡ crossOf a b ⌝ }
+{
+    a.cross(b)
+}
+
+#[no_mangle]
+pub extern "C" fn bounds_scale(a: Vec3, k: f32) -> Vec3
+    ensures { λ r. ⌜ r ≡ scaleOf a k ⌝ }
+{
+    a.scale(k)
+}
+
+#[no_mangle]
+pub extern "C" fn bounds_neg(a: Vec3) -> Vec3
+    ensures { λ r. ⌜ r ≡ negOf a ⌝ }
+{
+    a.neg()
+}
+
+#[no_mangle]
+pub extern "C" fn bounds_abs(a: Vec3) -> Vec3
+    ensures { λ r. ⌜ r ≡ absOf a ⌝ }
+{
+    a.abs()
+}
+
+#[no_mangle]
+pub extern "C" fn bounds_dot(a: Vec3, b: Vec3) -> f32
+    ensures { λ r. ⌜ r ≡ dotOf a b ⌝ }
+{
+    a.dot(b)
+}
+
+#[no_mangle]
+pub extern "C" fn bounds_length(a: Vec3) -> f32
+    ensures { λ r. ⌜ r ≡ lengthOf a ⌝ }
+{
+    a.length()
+}
+
+#[no_mangle]
+pub extern "C" fn bounds_vmul(a: Vec3, b: Vec3) -> Vec3
+    ensures { λ r. ⌜ r ≡ vmulOf a b ⌝ }
+{
+    math::vec3::vmul(a, b)
+}
+
+#[no_mangle]
+pub extern "C" fn bounds_vdiv(a: Vec3, b: Vec3) -> Vec3
+    ensures { λ r. ⌜ r ≡ vdivOf a b ⌝ }
+{
+    math::vec3::vdiv(a, b)
+}
+
+#[no_mangle]
+pub extern "C" fn bounds_vadd_f(a: Vec3, f: f32) -> Vec3
+    ensures { λ r. ⌜ r ≡ vaddOf a f ⌝ }
+{
+    math::vec3::vadd_f(a, f)
+}
+
+#[no_mangle]
+pub extern "C" fn bounds_norm(v: Vec3) -> Vec3
+    ensures { λ r. ⌜ r ≡ normOf v ⌝ }
+{
+    math::vec3::norm(v)
+}
+
+#[no_mangle]
+pub extern "C" fn bounds_vmin3(a: Vec3, b: Vec3) -> Vec3
+    ensures { λ r. ⌜ r ≡ vmin3Of a b ⌝ }
+{
+    math::vec3::vmin(a, b)
+}
+
+#[no_mangle]
+pub extern "C" fn bounds_vmax3(a: Vec3, b: Vec3) -> Vec3
+    ensures { λ r. ⌜ r ≡ vmax3Of a b ⌝ }
+{
+    math::vec3::vmax(a, b)
+}
+
+#[no_mangle]
+pub extern "C" fn bounds_cmp_vec3(a: Vec3, b: Vec3) -> i32
+    ensures { λ r. ⌜ r ≡ orderingNumber (cmpVec3Of a b) ⌝ }
+{
+    ordering_number(math::vec3::cmp_vec3(a, b))
+}
+
+#[no_mangle]
+pub extern "C" fn bounds_vmin_words3(a: Words3, b: Words3) -> Words3
+    ensures { λ r. ⌜ r ≡ vminWordsOf a b ⌝ }
+{
+    math::words3::vmin_words(a, b)
+}
+
+#[no_mangle]
+pub extern "C" fn bounds_vmax_words3(a: Words3, b: Words3) -> Words3
+    ensures { λ r. ⌜ r ≡ vmaxWordsOf a b ⌝ }
+{
+    math::words3::vmax_words(a, b)
+}
+
+// ---- transforms
+
+#[no_mangle]
+pub extern "C" fn bounds_transform_point(m: Mat4, p: Vec3) -> Vec4
+    ensures { λ r. ⌜ r ≡ pointOf m p ⌝ }
+{
+    m.transform_point(p)
+}
+
+#[no_mangle]
+pub extern "C" fn bounds_transform_vector(m: Mat4, v: Vec3) -> Vec3
+    ensures { λ r. ⌜ r ≡ vectorOf m v ⌝ }
+{
+    m.transform_vector(v)
+}
+
+#[no_mangle]
+pub extern "C" fn bounds_transform_box(b: Aabb, m: Mat4) -> Aabb
+    ensures { λ r. ⌜ r ≡ transformBox b m ⌝ }
+{
+    math::aabb::transform_box(b, m)
+}

@@ -1,0 +1,26 @@
+-- `extremes::vmin_word` meets its contract: the test is on the words' floats, the answer a copy.
+use mathlib.Core.Path.{sym, ap, _∙_}
+use Rattle.float32.specs.Extremes.{vminWord}
+use borrow.Author.Needs.{needs}
+use Rattle.float32.proofs.extremes.vmin_word.Statement.{statement}
+use Rattle.float32.proofs.extremes.vmin_word.Tie as tie
+use Rattle.float32.proofs.extremes.vmin_word.Reads as reads
+use Rattle.float32.proofs.extremes.vmin_word.Lts as lts
+use Rattle.float32.proofs.words.value.Reads as value-reads
+
+value-requires : tie.Need-value-requires
+value-requires c κs = search needs
+
+value-requires-2 : tie.Need-value-requires-2
+value-requires-2 c κs = search needs
+
+returns : tie.Need-returns
+unfolding vminWord
+returns c = rw (← c .before .before .value .ensures, ← c .before .value2 .ensures, c .if1 .taken)
+
+returns-2 : tie.Need-returns-2
+unfolding vminWord
+returns-2 c = rw (← c .before .before .value .ensures, ← c .before .value2 .ensures, c .if1 .left)
+
+pub vmin-word-spec : {M : Type 1} → statement M
+vmin-word-spec = tie.close (tie.spec value-requires value-requires-2 returns returns-2)

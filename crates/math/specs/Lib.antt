@@ -1,0 +1,3 @@
+pub mod Stored
+pub mod Transform
+pub mod Vec3s

@@ -1,0 +1,47 @@
+//! The measured series as a page: one table, and what it was measured with.
+
+use crate::measure::Series;
+
+pub fn page(series: &[Series], samples: usize, seed: u64) -> String {
+    format!(
+        "# Speed\n\n\
+         The proved library and the reference, compiled in release mode and timed in turn in one run, on the same random\n\
+         inputs (seed {seed}), one thread; medians of {samples} samples. The ratio is the library's time by the\n\
+         reference's: below 1 the library is faster. A step of the library is a call into it; the reference's is compiled\n\
+         into the loop.\n\n\
+         Made by `cargo run --release -p bench -- --write` in rust/, on: {}.\n\n\
+         ![Time over size](bench.svg)\n\n{}",
+        processor(),
+        table(series)
+    )
+}
+
+pub fn table(series: &[Series]) -> String {
+    let mut out = String::from(
+        "| operation | size | library, µs | reference, µs | library, ns each | reference, ns each | ratio |\n",
+    );
+    out += "|---|---:|---:|---:|---:|---:|---:|\n";
+    for s in series {
+        for p in &s.points {
+            let each = p.size.max(1) as f64;
+            out += &format!(
+                "| {} | {} {} | {:.1} | {:.1} | {:.2} | {:.2} | {:.2} |\n",
+                s.name,
+                p.size,
+                s.unit,
+                p.ours / 1e3,
+                p.theirs / 1e3,
+                p.ours / each,
+                p.theirs / each,
+                p.ratio()
+            );
+        }
+    }
+    out
+}
+
+fn processor() -> String {
+    let info = std::fs::read_to_string("/proc/cpuinfo").unwrap_or_default();
+    let model = info.lines().find_map(|l| l.strip_prefix("model name")?.split_once(':'));
+    model.map_or("a processor that does not say its name".to_string(), |(_, name)| name.trim().to_string())
+}

@@ -1,0 +1,18 @@
+//! Collision-bound preparation, proved in Rattle: the safe Rust interface.
+//!
+//! Names and types are those of the source that was ported (rage-formats). Every function calls the proved library
+//! `libbounds.a`; ffi.rs is the one file with unsafe code, and nothing here computes by itself.
+//!
+//! - [`float`]: one float step each, on values and on words (a float's 32 bits).
+//! - [`math`]: points, boxes and transforms.
+//! - [`refusal`]: what an operation turns down, by its number and in words.
+#![deny(unsafe_code)]
+#![warn(missing_docs)]
+
+mod ffi;
+pub mod float;
+pub mod math;
+pub mod refusal;
+
+pub use math::{Mat4, Vec3, Vec4};
+pub use refusal::Refusal;

@@ -1,0 +1,98 @@
+//! Lent buffers: filled with a pattern, guarded on both ends, and held to what may have been written.
+
+/// What a buffer holds.
+pub trait Cell: Copy + PartialEq + std::fmt::Debug {
+    fn of(pattern: u64) -> Self;
+}
+
+macro_rules! cells {
+    ($($of:ty),*) => { $(impl Cell for $of {
+        fn of(pattern: u64) -> Self {
+            pattern as $of
+        }
+    })* };
+}
+cells!(u8, i8, u16, i16, u32, i32, u64);
+
+/// Cells on each side of the buffer that nobody may touch.
+const GUARD: usize = 64;
+
+/// A buffer to lend. Before the call it holds a pattern that depends on the seed, so that an untouched cell is known
+/// and that no fixed value could be taken for one.
+pub struct Lent<T> {
+    cells: Vec<T>,
+    seed: u64,
+}
+
+impl<T: Cell> Lent<T> {
+    pub fn new(len: usize, seed: u64) -> Lent<T> {
+        Lent { cells: (0..len + 2 * GUARD).map(|i| pattern(seed, i)).collect(), seed }
+    }
+
+    /// The part that is lent.
+    pub fn buffer(&mut self) -> &mut [T] {
+        let end = self.cells.len() - GUARD;
+        &mut self.cells[GUARD..end]
+    }
+
+    /// `Err` with the first cell that is neither as `written` says (from the buffer's start) nor as it was before.
+    /// A refusal is checked with nothing written.
+    pub fn check(&self, written: &[T]) -> Result<(), String> {
+        let len = self.cells.len() - 2 * GUARD;
+        if written.len() > len {
+            return Err(format!("{} cells are to be written, {len} were lent", written.len()));
+        }
+        for (i, &cell) in self.cells.iter().enumerate() {
+            let at = i as isize - GUARD as isize;
+            let expected = i.checked_sub(GUARD).and_then(|at| written.get(at).copied());
+            let (expected, what) = match expected {
+                Some(value) => (value, "written"),
+                None => (pattern(self.seed, i), "untouched"),
+            };
+            if cell != expected {
+                return Err(format!("cell {at} of {len} holds {cell:?}, expected {expected:?} ({what})"));
+            }
+        }
+        Ok(())
+    }
+}
+
+fn pattern<T: Cell>(seed: u64, i: usize) -> T {
+    T::of(crate::random::Random::new(seed.wrapping_add(i as u64)).u64())
+}
+
+#[cfg(test)]
+mod tests {
+    use super::*;
+
+    #[test]
+    fn an_untouched_buffer_passes_with_nothing_written() {
+        let lent = Lent::<u8>::new(10, 1);
+        assert_eq!(lent.check(&[]), Ok(()));
+    }
+
+    #[test]
+    fn what_was_written_passes_and_the_rest_must_be_untouched() {
+        let mut lent = Lent::<u16>::new(5, 2);
+        lent.buffer()[..2].copy_from_slice(&[7, 8]);
+        assert_eq!(lent.check(&[7, 8]), Ok(()));
+        assert!(lent.check(&[7, 9]).is_err());
+        assert!(lent.check(&[7]).is_err(), "a cell too many");
+        lent.buffer()[4] ^= 1;
+        assert!(lent.check(&[7, 8]).is_err(), "a cell past what was written");
+    }
+
+    #[test]
+    fn a_write_on_either_side_is_found() {
+        for at in [GUARD - 1, GUARD + 3] {
+            let mut lent = Lent::<u32>::new(3, 3);
+            lent.cells[at] ^= 1;
+            assert!(lent.check(&[]).is_err());
+        }
+    }
+
+    #[test]
+    fn more_than_was_lent_cannot_be_written() {
+        assert!(Lent::<u8>::new(1, 4).check(&[1, 2]).is_err());
+    }
+}

@@ -1,0 +1,17 @@
+//! The same inputs to the proved library and to the reference, every answer compared.
+//!
+//! - [`operation`]: the operations, each with both sides on words.
+//! - [`inputs`]: hostile and random inputs.
+//! - [`check`]: runs an operation over many inputs and shrinks a mismatch.
+//! - [`exhaustive`]: operations of one word over all 2^32.
+//! - [`vectors`]: a sample of the reference's answers as a text file.
+//! - [`lent`]: buffers for operations that write into what they are lent.
+
+pub mod check;
+pub mod exhaustive;
+pub mod inputs;
+pub mod lent;
+pub mod operation;
+pub mod random;
+pub mod report;
+pub mod vectors;
