@@ -1,14 +1,25 @@
 mod Amounts
+pub mod CastLaws
+pub mod ClampLaws
 pub mod CmpLaws
+pub mod Exactness
+pub mod ExtremeLaws
+pub mod Halving
+pub mod IntegerOrder
 pub mod KeyLaws
 mod Keys
+pub mod Low16
 pub mod Monotone
 pub mod Order
 pub mod OrderLaws
 pub mod Patterns
+pub mod Quantise
 mod Range
 pub mod Relations
+pub mod RoundError
+pub mod Rounding
 pub mod SignLaws
+pub mod SumError
 mod Trichotomy
 mod Vertex
 pub mod Wrap

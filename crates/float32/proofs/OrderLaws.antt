@@ -1,156 +1,235 @@
--- The order of floats that are no NaN is total and transitive, and the cast to an integer keeps it. Assumes nothing.
+-- The order of floats: `le` is reflexive, transitive and total off NaN, `lt` is its negation the other way round, `eq` is both ways, and `neg` reverses it.
 use mathlib.Core.Path.{_≡_, refl, sym, ap, _∙_, subst}
 use mathlib.Core.Logic.{_⊎_, inl, inr}
-use mathlib.Core.Bool.{Bool, true, false, not, cond}
-use Prim.Native.Nat.{ℕ, zero, suc, _+_, _*_, _-_, _/_, _^_, _≤_, _<_, min}
-use native.Mathlib.Nat.{mul-comm, mul-assoc, mul-left-comm, mul-add, add-mul, mul-le-mul-right, le-of-mul-le-mul-right, le-trans, le-of-eq, zero-mul, mul-div-cancel, eq-zero-or-pos, eq-of-mul-eq-mul-right, lt-irrefl}
+use mathlib.Core.Bool.{Bool, true, false, not, _||_, Bool·beq}
+use Prim.Native.Nat.{ℕ, _+_, _*_, _≤_, _<_}
+use native.Mathlib.Nat.{mul-le-mul-right, le-of-mul-le-mul-right, lt-of-not-le, not-le-of-lt}
 use native.Mathlib.Omega.{arith}
-use native.Mathlib.Decide.{decLe}
-use lib.Dec.{T, leb, le→leb, leb·zero}
-use lib.IntN.{ℤ, pos, negsuc, negℤ}
-use lib.Signed.{leZ}
-use lib.Pow.{pow-pos}
-use lib.Ieee.{Float, nan, inf, fin, up, down, le, isNan, toSigned}
-use lib.Ieee.Fits.{down-pos}
-use lib.Ieee.Nearest.{div-mono}
-use Rattle.float32.proofs.Order.{SLe, Le, le→Le, Le→le}
-use Rattle.float32.proofs.Monotone.{plus, minus, apart-mul, plus-mul, minus-mul}
+use lib.Dec.{T, eqb, eqb→eq, T-not, not-T}
+use lib.Ieee.{Float, nan, inf, fin, up, down, neg, level, lt, eq, le, isNan}
+use lib.Ieee.Fits.{and-l}
+use lib.Ieee.Scale.{finite}
+use lib.Ieee.Positive.{num, den, den-pos}
+use mir.Facts.{or-yes}
+use Rattle.float32.proofs.Order.{over, under, Ordered, from-lowest, to-highest, numbers, le→ordered, ordered→le, le→cross, cross→le, lt→strict, strict→lt, T-ext}
 
-join : (s : Bool) (a : ℕ) (t : Bool) (b : ℕ) → plus s a + minus t b ≤ plus t b + minus s a → SLe s a t b
-join false a false b h = omega arith
-join false a true b h = omega arith
-join true a false b h = tt
-join true a true b h = omega arith
-
-join-mul : (s : Bool) (a x : ℕ) (t : Bool) (b y : ℕ) → plus s a * x + minus t b * y ≤ plus t b * y + minus s a * x → SLe s (a * x) t (b * y)
-join-mul s a x t b y h = join s (a * x) t (b * y) (rw (plus-mul s a x, plus-mul t b y, minus-mul s a x, minus-mul t b y) h)
-
-chain : (px qx dx py qy dy pz qz dz : ℕ) → 0 < dy → px * dy + qy * dx ≤ py * dx + qx * dy → py * dz + qz * dy ≤ pz * dy + qy * dz → px * dz + qz * dx ≤ pz * dx + qx * dz
-chain px qx dx py qy dy pz qz dz D h k =
-    le-of-mul-le-mul-right
-    (simp (add-mul, mul-assoc, mul-comm, mul-left-comm) (omega (arith, simp (add-mul, mul-assoc, mul-comm, mul-left-comm) at (mul-le-mul-right dz h), simp (add-mul, mul-assoc, mul-comm, mul-left-comm) at (mul-le-mul-right dx k))))
-    D
-
-no-nan-above : (y : Float) → Le y nan → ⊥
-no-nan-above nan l = l
-no-nan-above (inf true) l = l
-no-nan-above (inf false) l = l
-no-nan-above (fin s m e) l = l
-
-pub Le-trans : (x y z : Float) → Le x y → Le y z → Le x z
-Le-trans nan y z h k = absurd h
-Le-trans (inf true) y nan h k = no-nan-above y k
-Le-trans (inf true) y (inf t) h k = tt
-Le-trans (inf true) y (fin t n d) h k = tt
-Le-trans (inf false) nan z h k = absurd h
-Le-trans (inf false) (inf true) z h k = absurd h
-Le-trans (inf false) (inf false) z h k = k
-Le-trans (inf false) (fin t n d) z h k = absurd h
-Le-trans (fin s m e) nan z h k = absurd h
-Le-trans (fin s m e) (inf true) z h k = absurd h
-Le-trans (fin s m e) (inf false) nan h k = k
-Le-trans (fin s m e) (inf false) (inf true) h k = k
-Le-trans (fin s m e) (inf false) (inf false) h k = tt
-Le-trans (fin s m e) (inf false) (fin t n d) h k = absurd k
-Le-trans (fin s m e) (fin t n d) nan h k = k
-Le-trans (fin s m e) (fin t n d) (inf true) h k = k
-Le-trans (fin s m e) (fin t n d) (inf false) h k = tt
-Le-trans (fin s m e) (fin t n d) (fin u k g) h l =
-    join-mul s (m * up e) (down g) u (k * up g) (down e)
-    (chain (plus s (m * up e)) (minus s (m * up e)) (down e) (plus t (n * up d)) (minus t (n * up d)) (down d) (plus u (k * up g)) (minus u (k * up g)) (down g) (down-pos d)
-    (apart-mul s (m * up e) (down d) t (n * up d) (down e) h) (apart-mul t (n * up d) (down g) u (k * up g) (down d) l))
-
-either : (a b : ℕ) → (a ≤ b) ⊎ (b ≤ a)
-either a b = go (decLe a b)
-  where
-    other : (a b : ℕ) → (a ≤ b → ⊥) → b ≤ a
-    other a b h = omega arith
-
-    go : Dec (a ≤ b) → (a ≤ b) ⊎ (b ≤ a)
-    go (yes h) = inl h
-    go (no h) = inr (other a b h)
-
-SLe-total : (s : Bool) (a : ℕ) (t : Bool) (b : ℕ) → SLe s a t b ⊎ SLe t b s a
-SLe-total false a false b = either a b
-SLe-total false a true b = inr tt
-SLe-total true a false b = inl tt
-SLe-total true a true b = either b a
-
-pub Le-total : (x y : Float) → T (not (isNan x)) → T (not (isNan y)) → Le x y ⊎ Le y x
+-- ---- no NaN is ordered
+pub finite-no-nan : (x : Float) → T (finite x) → T (not (isNan x))
 unfolding isNan
-Le-total nan y p q = absurd p
-Le-total (inf s) nan p q = absurd q
-Le-total (fin s m e) nan p q = absurd q
-Le-total (inf true) (inf t) p q = inl tt
-Le-total (inf true) (fin t n d) p q = inl tt
-Le-total (inf false) (inf true) p q = inr tt
-Le-total (inf false) (inf false) p q = inl tt
-Le-total (inf false) (fin t n d) p q = inr tt
-Le-total (fin s m e) (inf true) p q = inr tt
-Le-total (fin s m e) (inf false) p q = inl tt
-Le-total (fin s m e) (fin t n d) p q = SLe-total s (m * up e * down d) t (n * up d * down e)
+finite-no-nan nan h = absurd h
+finite-no-nan (inf s) h = absurd h
+finite-no-nan (fin s m e) h = tt
 
--- ---- the cast
-neg-mono : (a b : ℕ) → b ≤ a → T (leZ (negℤ (pos a)) (negℤ (pos b)))
-neg-mono zero zero h = tt
-neg-mono zero (suc b) h = absurd (no b h)
+inf-no-nan : (s : Bool) → T (not (isNan (inf s)))
+unfolding isNan
+inf-no-nan s = tt
+
+ordered-no-nan : {x y : Float} → Ordered x y → T (not (isNan x)) × T (not (isNan y))
+ordered-no-nan (from-lowest p) = (inf-no-nan true, p)
+ordered-no-nan (to-highest p) = (p, inf-no-nan false)
+ordered-no-nan (numbers {x = x} {y = y} p q h) = (finite-no-nan x p, finite-no-nan y q)
+
+pub le-no-nan : (x y : Float) → T (le x y) → T (not (isNan x)) × T (not (isNan y))
+le-no-nan x y h = ordered-no-nan (le→ordered x y h)
+
+-- ---- transitive
+-- (p - q) / d ≤ (p' - q') / d' ≤ (p'' - q'') / d''
+chain : (p q d p' q' d' p'' q'' d'' : ℕ) → 0 < d' → p * d' + q' * d ≤ p' * d + q * d' → p' * d'' + q'' * d' ≤ p'' * d' + q' * d'' → p * d'' + q'' * d ≤ p'' * d + q * d''
+chain p q d p' q' d' p'' q'' d'' D h k =
+    let e : (p * d'' + q'' * d) * d' ≤ (p'' * d + q * d'') * d' = omega (arith, mul-le-mul-right d'' h, mul-le-mul-right d k) in
+    le-of-mul-le-mul-right e D
+
+ordered-trans : {x y z : Float} → Ordered x y → Ordered y z → Ordered x z
+ordered-trans (from-lowest p) k = from-lowest (ordered-no-nan k .1)
+ordered-trans (to-highest p) (to-highest q) = to-highest p
+ordered-trans (numbers {x = x} p q h) (to-highest r) = to-highest (finite-no-nan x p)
+ordered-trans (numbers {x = x} {y = y} p q h) (numbers {y = z} r s k) =
+    numbers p s (chain (over x) (under x) (den x) (over y) (under y) (den y) (over z) (under z) (den z) (den-pos y) h k)
+
+pub le-trans : (x y z : Float) → T (le x y) → T (le y z) → T (le x z)
+le-trans x y z h k = ordered→le (ordered-trans (le→ordered x y h) (le→ordered y z k))
+
+-- ---- between finite values lie only finite ones
+ordered-finite : {x y z : Float} → T (finite x) → T (finite z) → Ordered x y → Ordered y z → T (finite y)
+ordered-finite a c (from-lowest p) k = absurd a
+ordered-finite a c (to-highest p) (to-highest q) = absurd c
+ordered-finite a c (numbers p q h) k = q
+
+pub finite-between : (x y z : Float) → T (finite x) → T (finite z) → T (le x y) → T (le y z) → T (finite y)
+finite-between x y z a c h k = ordered-finite a c (le→ordered x y h) (le→ordered y z k)
+
+-- ---- strict
+pub lt-le : (x y : Float) → T (lt x y) → T (le x y)
+unfolding le
+lt-le x y h = or-l (lt x y) (eq x y) h
   where
-    no : (b : ℕ) → suc b ≤ 0 → ⊥
-    no b h = omega arith
-neg-mono (suc a) zero h = tt
-neg-mono (suc a) (suc b) h = le→leb b a (less a b h)
+    or-l : (a b : Bool) → T a → T (a || b)
+    or-l true b h = tt
+    or-l false b h = absurd h
+
+pub lt-not-le : (x y : Float) → T (not (isNan x)) → T (not (isNan y)) → lt x y ≡ not (le y x)
+unfolding isNan
+lt-not-le nan y p q = absurd p
+lt-not-le (inf s) nan p q = absurd q
+lt-not-le (inf true) (inf true) p q = unfold lt le in refl
+lt-not-le (inf true) (inf false) p q = unfold lt le in refl
+lt-not-le (inf false) (inf true) p q = unfold lt le in refl
+lt-not-le (inf false) (inf false) p q = unfold lt le in refl
+lt-not-le (inf true) (fin t n d) p q = unfold lt le in refl
+lt-not-le (inf false) (fin t n d) p q = unfold lt le in refl
+lt-not-le (fin s m e) nan p q = absurd q
+lt-not-le (fin s m e) (inf true) p q = unfold lt le in refl
+lt-not-le (fin s m e) (inf false) p q = unfold lt le in refl
+lt-not-le (fin s m e) (fin t n d) p q =
+    let x = fin s m e in
+    let y = fin t n d in
+    T-ext (lt x y) (not (le y x))
+    (λ h. not-T (le y x) (λ k. not-le-of-lt (lt→strict x y tt tt h) (le→cross y x tt tt k)))
+    (λ h. strict→lt x y tt tt (lt-of-not-le (λ k. T-not (le y x) h (cross→le y x tt tt k))))
+
+pub le-or-lt : (x y : Float) → T (not (isNan x)) → T (not (isNan y)) → T (le x y) ⊎ T (lt y x)
+le-or-lt x y p q = go (le x y) refl
   where
-    less : (a b : ℕ) → suc b ≤ suc a → b ≤ a
-    less a b h = omega arith
+    go : (b : Bool) → le x y ≡ b → T (le x y) ⊎ T (lt y x)
+    go true e = inl (subst T (sym e) tt)
+    go false e = inr (subst T (sym (lt-not-le y x q p ∙ ap not e)) tt)
 
-neg-pos : (a b : ℕ) → T (leZ (negℤ (pos a)) (pos b))
-neg-pos zero b = le→leb 0 b (omega arith)
-neg-pos (suc a) b = tt
+pub le-refl : (x : Float) → T (not (isNan x)) → T (le x x)
+le-refl x p = elim (le-or-lt x x p p) [ inl h ↦ h | inr h ↦ lt-le x x h ]
 
-cap : (a b c : ℕ) → a ≤ b → min a c ≤ min b c
-cap a b c h = omega arith
+pub le-total : (x y : Float) → T (not (isNan x)) → T (not (isNan y)) → T (le x y) ⊎ T (le y x)
+le-total x y p q = elim (le-or-lt x y p q) [ inl h ↦ inl h | inr h ↦ inr (lt-le y x h) ]
 
-cap-end : (a c : ℕ) → min a c ≤ c
-cap-end a c = omega arith
+pub not-lt→le : (x y : Float) → T (not (isNan x)) → T (not (isNan y)) → lt x y ≡ false → T (le y x)
+not-lt→le x y p q e = elim (le-or-lt y x q p) [ inl h ↦ h | inr h ↦ absurd (subst T e h) ]
 
-whole-zero : (a d : ℕ) → a ≡ 0 → 0 < d → a / d ≡ 0
-whole-zero a d e D = ap (λ (z : ℕ). z / d) (e ∙ sym (zero-mul d)) ∙ mul-div-cancel 0 D
+pub lt→not-le : (x y : Float) → T (lt x y) → T (le y x) → ⊥
+lt→not-le x y h k =
+    let n = le-no-nan y x k in
+    T-not (le y x) (subst T (lt-not-le x y (n .1) (n .0)) h) k
 
--- a * d = 0 with d above 0
-nil : (a d : ℕ) → 0 < d → a * d ≡ 0 → a ≡ 0
-nil a d D h = eq-of-mul-eq-mul-right d D a 0 (h ∙ sym (zero-mul d))
+pub le→not-lt : (x y : Float) → T (le x y) → lt y x ≡ false
+le→not-lt x y h = T-ext (lt y x) false (λ k. lt→not-le y x k h) (λ k. absurd k)
 
-zero-l : (a b : ℕ) → a + b ≤ 0 → a ≡ 0
-zero-l a b h = omega arith
+pub lt-le-trans : (x y z : Float) → T (lt x y) → T (le y z) → T (lt x z)
+lt-le-trans x y z h k =
+    elim (le-or-lt z x (le-no-nan y z k .1) (le-no-nan x y (lt-le x y h) .0)) [
+      | inl l ↦ absurd (lt→not-le x y h (le-trans y z x k l))
+      | inr l ↦ l
+    ]
 
-zero-r : (a b : ℕ) → a + b ≤ 0 → b ≡ 0
-zero-r a b h = omega arith
+pub le-lt-trans : (x y z : Float) → T (le x y) → T (lt y z) → T (lt x z)
+le-lt-trans x y z h k =
+    elim (le-or-lt z x (le-no-nan y z (lt-le y z k) .1) (le-no-nan x y h .0)) [
+      | inl l ↦ absurd (lt→not-le y z k (le-trans z x y l h))
+      | inr l ↦ l
+    ]
 
-pub toSigned-mono : (h : ℕ) (x y : Float) → Le x y → T (leZ (toSigned h x) (toSigned h y))
-unfolding toSigned
-toSigned-mono h nan y l = absurd l
-toSigned-mono h (inf true) nan l = absurd l
-toSigned-mono h (inf true) (inf true) l = neg-mono (2 ^ h) (2 ^ h) (le-of-eq refl)
-toSigned-mono h (inf true) (inf false) l = neg-pos (2 ^ h) (2 ^ h - 1)
-toSigned-mono h (inf true) (fin true n d) l = neg-mono (2 ^ h) (min (n * up d / down d) (2 ^ h)) (cap-end (n * up d / down d) (2 ^ h))
-toSigned-mono h (inf true) (fin false n d) l = neg-pos (2 ^ h) (min (n * up d / down d) (2 ^ h - 1))
-toSigned-mono h (inf false) nan l = absurd l
-toSigned-mono h (inf false) (inf true) l = absurd l
-toSigned-mono h (inf false) (inf false) l = le→leb (2 ^ h - 1) (2 ^ h - 1) (le-of-eq refl)
-toSigned-mono h (inf false) (fin t n d) l = absurd l
-toSigned-mono h (fin s m e) nan l = absurd l
-toSigned-mono h (fin s m e) (inf true) l = absurd l
-toSigned-mono h (fin true m e) (inf false) l = neg-pos (min (m * up e / down e) (2 ^ h)) (2 ^ h - 1)
-toSigned-mono h (fin false m e) (inf false) l = le→leb (min (m * up e / down e) (2 ^ h - 1)) (2 ^ h - 1) (cap-end (m * up e / down e) (2 ^ h - 1))
-toSigned-mono h (fin true m e) (fin true n d) l = neg-mono (min (m * up e / down e) (2 ^ h)) (min (n * up d / down d) (2 ^ h)) (cap (n * up d / down d) (m * up e / down e) (2 ^ h) (div-mono (n * up d) (down d) (m * up e) (down e) (down-pos d) (down-pos e) l))
-toSigned-mono h (fin true m e) (fin false n d) l = neg-pos (min (m * up e / down e) (2 ^ h)) (min (n * up d / down d) (2 ^ h - 1))
-toSigned-mono h (fin false m e) (fin false n d) l = le→leb (min (m * up e / down e) (2 ^ h - 1)) (min (n * up d / down d) (2 ^ h - 1)) (cap (m * up e / down e) (n * up d / down d) (2 ^ h - 1) (div-mono (m * up e) (down e) (n * up d) (down d) (down-pos e) (down-pos d) l))
-toSigned-mono h (fin false m e) (fin true n d) l =
-    let a = whole-zero (m * up e) (down e) (nil (m * up e) (down d) (down-pos d) (zero-l (m * up e * down d) (n * up d * down e) l)) (down-pos e) in
-    let b = whole-zero (n * up d) (down d) (nil (n * up d) (down e) (down-pos e) (zero-r (m * up e * down d) (n * up d * down e) l)) (down-pos d) in
-    subst (λ (p : ℕ). T (leZ (pos (min p (2 ^ h - 1))) (negℤ (pos (min (n * up d / down d) (2 ^ h)))))) (sym a)
-    (subst (λ (q : ℕ). T (leZ (pos (min 0 (2 ^ h - 1))) (negℤ (pos (min q (2 ^ h)))))) (sym b)
-    (subst (λ (p : ℕ). T (leZ (pos p) (negℤ (pos (min 0 (2 ^ h)))))) (at-zero (2 ^ h - 1)) (subst (λ (p : ℕ). T (leZ (pos 0) (negℤ (pos p)))) (at-zero (2 ^ h)) tt)))
+pub lt-trans : (x y z : Float) → T (lt x y) → T (lt y z) → T (lt x z)
+lt-trans x y z h k = lt-le-trans x y z h (lt-le y z k)
+
+-- ---- equal
+level-sym : (s t : Bool) (a : ℕ) → T (level s a t a) → T (level t a s a)
+level-sym true true a h = h
+level-sym true false a h = h
+level-sym false true a h = h
+level-sym false false a h = h
+
+pub eq-sym : (x y : Float) → T (eq x y) → T (eq y x)
+unfolding eq
+eq-sym nan y h = absurd h
+eq-sym (inf s) nan h = absurd h
+eq-sym (inf true) (inf true) h = h
+eq-sym (inf true) (inf false) h = h
+eq-sym (inf false) (inf true) h = h
+eq-sym (inf false) (inf false) h = h
+eq-sym (inf s) (fin t n d) h = absurd h
+eq-sym (fin s m e) nan h = absurd h
+eq-sym (fin s m e) (inf t) h = absurd h
+eq-sym (fin s m e) (fin t n d) h =
+    let a = m * up e * down d in
+    let b = n * up d * down e in
+    let i : a ≡ b = eqb→eq a b (and-l (eqb a b) (Bool·beq s t || eqb a 0) h) in
+    subst (λ (z : ℕ). T (level t z s a)) i (level-sym s t a (subst (λ (z : ℕ). T (level s a t z)) (sym i) h))
+
+eq-le : (x y : Float) → T (eq x y) → T (le x y)
+unfolding le
+eq-le x y h = or-r (lt x y) (eq x y) h
   where
-    at-zero : (c : ℕ) → 0 ≡ min 0 c
-    at-zero c = omega arith
+    or-r : (a b : Bool) → T b → T (a || b)
+    or-r true b h = tt
+    or-r false b h = h
+
+pub eq→le : (x y : Float) → T (eq x y) → T (le x y) × T (le y x)
+eq→le x y h = (eq-le x y h, eq-le y x (eq-sym x y h))
+
+pub le→eq : (x y : Float) → T (le x y) → T (le y x) → T (eq x y)
+le→eq x y h k = elim (or-yes (lt x y) (eq x y) (unfold le in h)) [ inl l ↦ absurd (lt→not-le x y l k) | inr e ↦ e ]
+
+-- ---- reversed
+pub neg-neg : (x : Float) → neg (neg x) ≡ x
+unfolding neg
+neg-neg nan = refl
+neg-neg (inf true) = refl
+neg-neg (inf false) = refl
+neg-neg (fin true m e) = refl
+neg-neg (fin false m e) = refl
+
+pub neg-no-nan : (x : Float) → T (not (isNan x)) → T (not (isNan (neg x)))
+unfolding neg isNan
+neg-no-nan nan h = h
+neg-no-nan (inf s) h = h
+neg-no-nan (fin s m e) h = h
+
+pub neg-finite : (x : Float) → T (finite x) → T (finite (neg x))
+unfolding neg
+neg-finite nan h = h
+neg-finite (inf s) h = h
+neg-finite (fin s m e) h = h
+
+pub neg-finite-back : (x : Float) → T (finite (neg x)) → T (finite x)
+neg-finite-back x h = rw neg-neg at (neg-finite (neg x) h)
+
+pub neg-num : (x : Float) → num (neg x) ≡ num x
+unfolding neg
+neg-num nan = refl
+neg-num (inf s) = refl
+neg-num (fin s m e) = refl
+
+pub neg-over : (x : Float) → over (neg x) ≡ under x
+unfolding neg
+neg-over nan = refl
+neg-over (inf s) = refl
+neg-over (fin true m e) = refl
+neg-over (fin false m e) = refl
+
+pub neg-under : (x : Float) → under (neg x) ≡ over x
+unfolding neg
+neg-under nan = refl
+neg-under (inf s) = refl
+neg-under (fin true m e) = refl
+neg-under (fin false m e) = refl
+
+pub neg-den : (x : Float) → den (neg x) ≡ den x
+unfolding neg
+neg-den nan = refl
+neg-den (inf s) = refl
+neg-den (fin s m e) = refl
+
+ordered-neg : {x y : Float} → Ordered x y → Ordered (neg y) (neg x)
+unfolding neg
+ordered-neg (from-lowest {y = y} p) = to-highest (neg-no-nan y p)
+ordered-neg (to-highest {x = x} p) = from-lowest (neg-no-nan x p)
+ordered-neg (numbers {x = x} {y = y} p q h) =
+    numbers {x = neg y} {y = neg x} (neg-finite y q) (neg-finite x p) (rw (neg-over x, neg-over y, neg-under x, neg-under y, neg-den x, neg-den y) (omega arith))
+
+pub neg-le : (x y : Float) → T (le x y) → T (le (neg y) (neg x))
+neg-le x y h = ordered→le (ordered-neg (le→ordered x y h))
+
+pub neg-lt : (x y : Float) → T (lt x y) → T (lt (neg y) (neg x))
+neg-lt x y h =
+    let n = le-no-nan x y (lt-le x y h) in
+    elim (le-or-lt (neg x) (neg y) (neg-no-nan x (n .0)) (neg-no-nan y (n .1))) [
+      | inl l ↦ absurd (lt→not-le x y h (subst (λ (z : Float). T (le z x)) (neg-neg y) (subst (λ (z : Float). T (le (neg (neg y)) z)) (neg-neg x) (neg-le (neg x) (neg y) l))))
+      | inr l ↦ l
+    ]
