@@ -16,7 +16,7 @@ abbrev pub pickRanges : Bool → List Range → List Range → List Range
 pickRanges true a b = a
 pickRanges false a b = b
 
--- Rule R4 (01, Records and ranges; bvh.rs, gather_trees): from the root, whose number is at, a part over 127 nodes is replaced by its two children's parts.
+-- Rule R14 (01, Records and ranges; bvh.rs, gather_trees): from the root, whose number is at, a part over 127 nodes is replaced by its two children's parts.
 abbrev pub ranges : ℕ → Node → List Range
 ranges at (leaf b ps) = record { box = b; first = at; last = at + 1 } ∷ []
 ranges at (inner b l r) =

@@ -14,7 +14,7 @@ pub record Row : Type 0 where
   pub head : ℕ
   pub count : ℕ
 
--- Rule R1 (01, Records and ranges; bvh.rs, gather_nodes): preorder, for a tree whose first item has the position lo.
+-- Rule R10 (01, Records and ranges; bvh.rs, gather_nodes): preorder, for a tree whose first item has the position lo.
 abbrev pub rows : ℕ → Node → List Row
 rows lo (leaf b ps) = record { box = b; head = lo; count = length ps } ∷ []
 rows lo (inner b l r) = record { box = b; head = size (inner b l r); count = 0 } ∷ (rows lo l ++ rows (lo + length (leafOrder l)) r)

@@ -1,0 +1,114 @@
+-- What a build answers, and what its output buffers then hold. Definitions only.
+use Prim.Native.Nat.{ℕ, _+_, _-_, _*_}
+use mathlib.Core.Bool.{Bool, true, false, cond, _||_}
+use mathlib.Core.List.{List, [], _∷_, _++_}
+use lib.Dec.{ltb}
+use lib.ListN.{length, drop}
+use Rattle.split.specs.declared.boxes.BoxWords.{BoxWords}
+use Rattle.records.specs.declared.Scale.{Scale}
+use Rattle.records.specs.Quantise.{scaleOf}
+use Rattle.bvh.specs.declared.core.Build.{Build}
+use Rattle.bvh.specs.declared.core.Build.the-variants.{Built, TooManyEntries, ThresholdOutside, BufferTooShort, TooManyNodes}
+use Rattle.bvh.specs.declared.core.BuiltTree.{BuiltTree}
+use Rattle.bvh.specs.Tree.{Node, grow, builder, boxOf, leafOrder, size}
+use Rattle.bvh.specs.Rows.{rows}
+use Rattle.bvh.specs.Ranges.{ranges}
+use Rattle.bvh.specs.Output.{nodesBytes, padBytes, capacityOf, treesBytes, orderOf}
+
+-- What a build is of: the entries' number, the box at each place, and the places of the present ones.
+pub record Entries : Type 0 where
+  pub number : ℕ
+  pub at : ℕ → BoxWords
+  pub places : List ℕ
+
+unfoldable pub treeOf : Entries → ℕ → Node
+treeOf e th = grow (builder (e .at)) th (e .places)
+
+-- Rule T2 (01, Tree build): cen, quantum and inverse of the box of all.
+abbrev pub scaleIn : Node → Scale
+scaleIn t = scaleOf (boxOf t .min) (boxOf t .max)
+
+-- The lengths of the lent buffers: nodes, trees, order, and each part of the work buffer.
+pub record Lengths : Type 0 where
+  pub nodes : ℕ
+  pub trees : ℕ
+  pub order : ℕ
+  pub words : ℕ
+  pub places : ℕ
+  pub temp : ℕ
+  pub stack : ℕ
+  pub first : ℕ
+  pub count : ℕ
+  pub boxes : ℕ
+
+-- 01, Build, 2: a buffer is too short.
+abbrev pub short : ℕ → Lengths → Bool
+short n l =
+    ltb (l .nodes) (16 * (2 * n + 1)) || ltb (l .trees) (16 * (2 * n + 1)) || ltb (l .order) n
+    || ltb (l .words) (7 * n) || ltb (l .places) n || ltb (l .temp) n || ltb (l .stack) n
+    || ltb (l .first) (2 * n + 1) || ltb (l .count) (2 * n + 1) || ltb (l .boxes) (6 * (2 * n + 1))
+
+abbrev pub pickBuild : Bool → Build → Build → Build
+pickBuild true a b = a
+pickBuild false a b = b
+
+-- the values of a build that is not refused
+abbrev pub builtOf : Entries → ℕ → Node → BuiltTree
+builtOf e th t =
+    record {
+      nodes = size t;
+      capacity = capacityOf th (e .number) (size t);
+      trees = length (ranges 0 t);
+      present = length (e .places);
+      min = boxOf t .min;
+      max = boxOf t .max;
+      scale = scaleIn t
+    }
+
+-- Rule B1 (01, Build): the checks in the order written.
+unfoldable pub answerOf : Entries → ℕ → Lengths → Build
+unfolding treeOf
+answerOf e th l =
+    let n = e .number in
+    let t = treeOf e th in
+    pickBuild (ltb 32767 n) TooManyEntries
+    (pickBuild (ltb th 1 || ltb 32767 th) ThresholdOutside
+    (pickBuild (short n l) BufferTooShort
+    (pickBuild (ltb 32767 (size t)) TooManyNodes
+    (Built (builtOf e th t)))))
+
+-- 01's number for each answer, 0 where it is not refused
+abbrev pub numberOf : Build → ℕ
+numberOf (Built b) = 0
+numberOf TooManyEntries = 1
+numberOf BufferTooShort = 2
+numberOf ThresholdOutside = 3
+numberOf TooManyNodes = 4
+
+-- what a buffer holds at the end: the bytes written and then what it had, or on a refusal what it had
+abbrev pub over : List ℕ → List ℕ → List ℕ
+over written before = written ++ drop (length written) before
+
+abbrev pub kept : Build → List ℕ → List ℕ → List ℕ
+kept (Built b) written before = over written before
+kept TooManyEntries written before = before
+kept BufferTooShort written before = before
+kept ThresholdOutside written before = before
+kept TooManyNodes written before = before
+
+-- Rules R10 to R12: the node records and the padding.
+unfoldable pub nodesWritten : Entries → ℕ → List ℕ
+unfolding treeOf
+nodesWritten e th =
+    let t = treeOf e th in
+    nodesBytes (scaleIn t) th (leafOrder t) (rows 0 t) ++ padBytes (capacityOf th (e .number) (size t) - size t)
+
+-- Rule R14.
+unfoldable pub treesWritten : Entries → ℕ → List ℕ
+unfolding treeOf
+treesWritten e th = treesBytes (scaleIn (treeOf e th)) (ranges 0 (treeOf e th))
+
+-- Rule R13.
+unfoldable pub orderWritten : Entries → ℕ → List ℕ
+unfolding treeOf
+orderWritten e th = orderOf th (e .places) (leafOrder (treeOf e th))

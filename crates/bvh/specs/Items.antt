@@ -1,0 +1,35 @@
+-- The list of entries that a build is lent. Definitions only.
+use Prim.Native.Nat.{ℕ, _+_}
+use mathlib.Core.Bool.{Bool, true, false, cond}
+use mathlib.Core.List.{List, [], _∷_, _++_}
+use lib.ListN.{getD}
+use Rattle.split.specs.Boxes.{boxWords}
+use Rattle.split.specs.Lists.{pick}
+use Rattle.split.specs.declared.boxes.BoxWords.{BoxWords}
+use Rattle.bvh.specs.declared.items.BvhItem.{BvhItem}
+
+-- an entry's box
+abbrev pub itemBox : BvhItem → BoxWords
+itemBox i = record { min = i .min; max = i .max }
+
+-- an absent entry of zeros, for a place past the list
+abbrev pub absent : BvhItem
+absent =
+    record { present = false; min = record { x = 0; y = 0; z = 0 }; max = record { x = 0; y = 0; z = 0 } }
+
+-- the box at a place of the list
+unfoldable pub boxIn : List BvhItem → ℕ → BoxWords
+boxIn items p = itemBox (getD items p absent)
+
+-- Rule T9 (bvh.rs, build_bvh): the places of the present entries, rising; the first entry's place is at.
+abbrev pub present : ℕ → List BvhItem → List ℕ
+present at [] = []
+present at (i ∷ is) = pick (i .present) (at ∷ present (at + 1) is) (present (at + 1) is)
+
+-- an entry as seven words: 1 or 0, then the box
+abbrev pub itemWords : BvhItem → List ℕ
+itemWords i = cond (i .present) 1 0 ∷ boxWords (itemBox i)
+
+abbrev pub wordsOf : List BvhItem → List ℕ
+wordsOf [] = []
+wordsOf (i ∷ is) = itemWords i ++ wordsOf is
