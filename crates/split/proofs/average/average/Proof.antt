@@ -1,30 +1,29 @@
 -- `average::average` meets its contract. The loop's invariant: the rest added to the sum so far is the whole sum.
 use Rattle.split.proofs.average.average.Statement.{statement}
 use Rattle.split.proofs.average.average.Tie as tie
-use Prim.Native.Nat.{ℕ, _≤_, _<_, _-_, _+_}
-use mathlib.Core.Path.{_≡_, refl, sym, ap, ap₂, _∙_}
-use lib.ListN.{length, drop, drop-of-length-le}
-use Rattle.split.specs.Boxes.{boxAt}
-use Rattle.split.specs.Lists.{Within}
-use Rattle.split.specs.Rule.{origin, sumFrom, averageOf}
-use Rattle.split.specs.declared.boxes.BoxWords.{BoxWords}
+use Prim.Native.Nat.{_+_, _-_}
+use mathlib.Core.Path.{_≡_, ap, ap₂, _∙_}
+use lib.ListN.{length, drop}
+use lib.Ieee.{Float}
 use Rattle.math.specs.declared.vec3.Vec3.{Vec3}
 use Rattle.math.specs.Stored.{valuesOf}
 use Rattle.math.specs.Vec3s.{_⊘_, addOf, scaleOf}
 use Rattle.math.specs.Transform.{half}
-use lib.Ieee.{Float}
-use Rattle.split.proofs.Places.{within-at, rest-one}
+use Rattle.split.specs.declared.boxes.BoxWords.{BoxWords}
+use Rattle.split.specs.Boxes.{boxAt}
+use Rattle.split.specs.Rule.{origin, sumFrom, averageOf}
+use Rattle.split.proofs.Places.{Pass, begin, taken, finished, next-within}
 use native.Mathlib.Omega.{arith}
 use borrow.Author.Needs.{needs}
 
 abbrev Inv-loop : tie.InvT-loop
-Inv-loop boxes places sum₀ i₀ sum i = (Within (length boxes) places) × (i ≤ length places) × (sumFrom (boxAt boxes) sum (drop i places) ≡ sumFrom (boxAt boxes) origin places)
+Inv-loop boxes places sum₀ i₀ sum i = Pass (sumFrom (boxAt boxes)) (length boxes) places origin sum i
 
 abbrev μ-loop : tie.MeasureT-loop
 μ-loop boxes places sum₀ i₀ sum i = length places - i
 
 loop-holds : tie.Need-loop-holds Inv-loop μ-loop
-loop-holds c = (c .before .before .pre .0, omega arith, refl)
+loop-holds c = begin (sumFrom (boxAt (c .before .before .args .boxes .now))) _ (c .before .before .args .places .now) origin (c .before .before .pre .0)
 
 mul-t6 : tie.Need-mul-t6 Inv-loop μ-loop
 mul-t6 c = search needs
@@ -35,7 +34,7 @@ shared-slice-read-t9 c = search needs
 box-at-requires : tie.Need-box-at-requires Inv-loop μ-loop
 box-at-requires c κs =
     let l = c .before .before .loop in
-    within-at _ (c .before .before .before .before .before .args .places .now) (l .i) (l .inv .0) (omega arith)
+    next-within _ _ (c .before .before .before .before .before .args .places .now) _ (l .sum) (l .i) (l .inv) (omega arith)
 
 values-requires : tie.Need-values-requires Inv-loop μ-loop
 values-requires c κs = search needs
@@ -60,10 +59,11 @@ loop-again c =
     let l = c .before .before .before .before .before .before .before .loop in
     let at = boxAt (c .before .before .before .before .before .before .before .before .before .before .args .boxes .now) in
     let ps = c .before .before .before .before .before .before .before .before .before .before .args .places .now in
-    let lows = c .before .before .before .values .ensures ∙ ap (λ (b : BoxWords). valuesOf (b .min)) (c .before .before .before .before .box-at .ensures) in
-    let highs = c .before .values2 .ensures ∙ ap (λ (b : BoxWords). valuesOf (b .max)) (c .before .before .before .before .box-at .ensures) in
-    let step = c .add2 .ensures ∙ ap₂ addOf (c .before .before .add .ensures ∙ ap (addOf (l .sum)) lows) highs in
-    (l .inv .0, omega arith, ap (λ (v : Vec3). sumFrom at v (drop (l .i + 1) ps)) step ∙ sym (ap (sumFrom at (l .sum)) (rest-one ps (l .i) (omega arith))) ∙ l .inv .2)
+    let box = c .before .before .before .before .box-at .ensures in
+    let low = c .before .before .before .values .ensures ∙ ap (λ (b : BoxWords). valuesOf (b .min)) box in
+    let high = c .before .values2 .ensures ∙ ap (λ (b : BoxWords). valuesOf (b .max)) box in
+    let step = c .add2 .ensures ∙ ap₂ addOf (c .before .before .add .ensures ∙ ap (addOf (l .sum)) low) high in
+    taken (sumFrom at) _ ps origin (l .sum) _ (l .i) (l .inv) (omega arith) (ap (λ (v : Vec3). sumFrom at v (drop (l .i + 1) ps)) step)
 
 cast-of-count : tie.Need-cast-of-count Inv-loop μ-loop
 cast-of-count c = search needs
@@ -78,9 +78,8 @@ returns : tie.Need-returns Inv-loop μ-loop
 unfolding averageOf
 returns c =
     let l = c .before .before .before .loop in
-    let at = boxAt (c .before .before .before .before .before .before .args .boxes .now) in
-    let ps = c .before .before .before .before .before .before .args .places .now in
-    let whole = sym (ap (sumFrom at (l .sum)) (drop-of-length-le ps (c .before .before .loop-test .left))) ∙ l .inv .2 in
+    let g = c .before .before .before .before .before .before in
+    let whole = finished (sumFrom (boxAt (g .args .boxes .now))) _ (g .args .places .now) origin (l .sum) (l .i) (l .inv) (c .before .before .loop-test .left) in
     c .scale .ensures ∙ ap₂ scaleOf whole (ap (λ (n : Float). half ⊘ n) (c .before .of-count .ensures))
 
 pub average-spec : {M : Type 1} → statement M
