@@ -1,8 +1,7 @@
 -- Counting the centres below the average: one place more, and a count is at most the number of places.
-use Prim.Native.Nat.{ℕ, zero, suc, _+_, _≤_, _<_}
+use Prim.Native.Nat.{ℕ, _+_, _≤_}
 use native.Mathlib.Omega.{arith}
-use mathlib.Core.Path.{_≡_, refl, sym, ap, _∙_}
-use mathlib.Core.Bool.{Bool, true, false}
+use mathlib.Core.Path.{_≡_, refl, ap}
 use mathlib.Core.List.{List, [], _∷_}
 use lib.ListN.{length}
 use Rattle.math.specs.declared.vec3.Vec3.{Vec3}
@@ -10,26 +9,11 @@ use Rattle.split.specs.declared.average.Axis.{Axis}
 use Rattle.split.specs.declared.average.Axis.the-variants.{X, Y, Z}
 use Rattle.split.specs.declared.boxes.BoxWords.{BoxWords}
 use Rattle.split.specs.declared.groups.Counts.{Counts}
-use Rattle.split.specs.Lists.{oneIf, pick, sift}
+use Rattle.split.specs.Lists.{oneIf, sift}
 use Rattle.split.specs.Rule.{below, countBelow}
 use Rattle.split.specs.Groups.{countsOf, countMore}
 use Rattle.split.proofs.Places.{Pass}
-
-pub one-or-none : (b : Bool) → oneIf b ≤ 1
-one-or-none true = omega arith
-one-or-none false = omega arith
-
-length-pick : (b : Bool) (x : ℕ) (xs : List ℕ) → length (pick b (x ∷ xs) xs) ≡ oneIf b + length xs
-length-pick true x xs = omega arith
-length-pick false x xs = omega arith
-
-length-sift : (test : ℕ → Bool) (ps : List ℕ) → length (sift test ps) ≤ length ps
-length-sift test [] = omega arith
-length-sift test (p ∷ ps) = at-pick (test p) (length-sift test ps)
-  where
-    at-pick : (b : Bool) → length (sift test ps) ≤ length ps → length (pick b (p ∷ sift test ps) (sift test ps)) ≤ suc (length ps)
-    at-pick true h = omega arith
-    at-pick false h = omega arith
+use Rattle.split.proofs.Sifting.{length-pick, length-sift}
 
 module _ (at : ℕ → BoxWords) (avg : Vec3) where
   count-more : (a : Axis) (p : ℕ) (ps : List ℕ) → countBelow at avg a (p ∷ ps) ≡ oneIf (below at avg a p) + countBelow at avg a ps

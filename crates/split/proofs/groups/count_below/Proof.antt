@@ -12,7 +12,8 @@ use Rattle.split.specs.Lists.{oneIf}
 use Rattle.split.specs.Rule.{below}
 use Rattle.split.specs.Groups.{countMore}
 use Rattle.split.proofs.Places.{Pass, begin, taken, finished, next-within}
-use Rattle.split.proofs.Counting.{onto, none, onto-more, onto-none, none-onto, small, one-or-none}
+use Rattle.split.proofs.Counting.{onto, none, onto-more, onto-none, none-onto, small}
+use Rattle.split.proofs.Sifting.{one-or-none}
 use native.Mathlib.Omega.{arith}
 use borrow.Author.Needs.{needs}
 

@@ -11,7 +11,7 @@ use Rattle.split.specs.Lists.{oneIf}
 use Rattle.split.specs.Rule.{above}
 use Rattle.split.specs.Groups.{stepOf, passes, Parted}
 use Rattle.split.proofs.Places.{within-at}
-use Rattle.split.proofs.Counting.{one-or-none}
+use Rattle.split.proofs.Sifting.{one-or-none}
 use Rattle.split.proofs.Parting.{Parting, begin, next-same, turn, parted, passes-above}
 use native.Mathlib.Omega.{arith}
 use borrow.Author.Needs.{needs}
@@ -24,7 +24,7 @@ use Rattle.split.specs.Lists.{oneIf}
 use Rattle.split.specs.Rule.{above}
 use Rattle.split.specs.Groups.{stepOf, passes, Parted}
 use Rattle.split.proofs.Places.{within-at}
-use Rattle.split.proofs.Counting.{one-or-none}
+use Rattle.split.proofs.Sifting.{one-or-none}
 use Rattle.split.proofs.Parting.{Parting, begin, next-same, turn, parted, passes-above, step-small}
 
 abbrev Inv-loop : tie.InvT-loop
