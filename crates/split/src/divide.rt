@@ -1,0 +1,34 @@
+// A node's items split in two.
+ghost use mathlib.Core.Path.{_≡_};
+ghost use Prim.Native.Nat.{_≤_, _<_};
+ghost use lib.ListN.{length};
+ghost use Rattle.split.specs.Boxes.{boxAt};
+ghost use Rattle.split.specs.Lists.{Within};
+ghost use Rattle.split.specs.Rule.{Divided};
+ghost use Rattle.split.specs.Groups.{Settled};
+
+// Sorts the places where a group is empty, to be cut in the middle; where the second group begins.
+fn settle(a: &mut [u32], t: &mut [u32], boxes: &[u32], k: usize) -> usize
+    requires { ⌜ (length (now a) ≤ length (now t)) × (Within (length (now boxes)) (now a)) ⌝ }
+    ensures { λ r. ⌜ Settled (boxAt (now (boxes .entry))) k (now (a .entry)) (now (a .exit)) r ⌝ }
+{
+    let n = a.len();
+    if k == 0 || k == n {
+        crate::merging::sort(a, t, boxes);
+        return n / 2;
+    }
+    k
+}
+
+// The first group, then the second, in place of the places of `a`, with `t` to work in; how many the first has.
+pub fn divide(a: &mut [u32], t: &mut [u32], boxes: &[u32]) -> usize
+    requires { ⌜ (2 ≤ length (now a)) × (length (now a) < 32768) × (length (now a) ≤ length (now t)) × (Within (length (now boxes)) (now a)) ⌝ }
+    ensures { λ r. ⌜ Divided (boxAt (now (boxes .entry))) (now (a .entry)) (now (a .exit)) r ⌝ }
+{
+    let avg = crate::average::average(boxes, a);
+    let counts = crate::groups::count_below(boxes, a, avg);
+    let axis = crate::groups::choose_axis(a.len() as u32, counts);
+    let k = crate::groups::partition(a, t, boxes, avg, axis);
+    let h = settle(a, t, boxes, k);
+    crate::groups::larger_first(a, t, h)
+}
