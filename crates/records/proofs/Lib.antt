@@ -1,4 +1,5 @@
 mod Fields
 pub mod LittleEndian
+pub mod ReadBack
 pub mod Sizes
 pub mod Stores

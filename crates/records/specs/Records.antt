@@ -2,6 +2,8 @@
 use Prim.Native.Nat.{ℕ, _+_}
 use mathlib.Core.List.{List, _++_}
 use lib.IntN.{ℤ}
+use mir.Syntax.{w16}
+use mir.Val.{SFits}
 use Rattle.records.specs.declared.BoundVertex.{BoundVertex}
 use Rattle.records.specs.declared.BvhNode.{BvhNode}
 use Rattle.records.specs.declared.BvhTree.{BvhTree}
@@ -32,3 +34,19 @@ nodeAt bytes k = record { min = vertexAt bytes k; max = vertexAt bytes (k + 6); 
 
 abbrev pub treeAt : List ℕ → ℕ → BvhTree
 treeAt bytes k = record { min = vertexAt bytes k; max = vertexAt bytes (k + 6); «node_index1» = shortAt bytes (k + 12); «node_index2» = shortAt bytes (k + 14) }
+
+-- The fields hold i16s, as those of a record in memory do.
+abbrev pub VertexFits : BoundVertex → Type 0
+VertexFits v = SFits w16 (v .0) × SFits w16 (v .1) × SFits w16 (v .2)
+
+pub record BoxedFits (min max : BoundVertex) (first second : ℤ) : Type 0 where
+  pub low : VertexFits min
+  pub high : VertexFits max
+  pub one : SFits w16 first
+  pub two : SFits w16 second
+
+abbrev pub NodeFits : BvhNode → Type 0
+NodeFits n = BoxedFits (n .min) (n .max) (n .«item_id») (n .«item_count»)
+
+abbrev pub TreeFits : BvhTree → Type 0
+TreeFits t = BoxedFits (t .min) (t .max) (t .«node_index1») (t .«node_index2»)
