@@ -1,4 +1,6 @@
+pub mod Examples
 mod Fields
+pub mod Fitting
 pub mod LittleEndian
 pub mod ReadBack
 pub mod Sizes

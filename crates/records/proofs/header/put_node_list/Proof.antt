@@ -2,12 +2,12 @@
 use mathlib.Core.Path.{_∙_, ap}
 use mathlib.Core.List.{List}
 use Prim.Native.Nat.{ℕ}
-use lib.ListN.{replicate, length-append}
+use lib.ListN.{replicate}
 use lib.Seq.{sets}
 use Rattle.records.specs.LittleEndian.{littleEndian}
 use Rattle.records.specs.Header.{nodeListBytes}
 use Rattle.records.proofs.LittleEndian.{zeros-stored}
-use Rattle.records.proofs.Sizes.{number-size}
+use Rattle.records.proofs.Sizes.{joined, number-bytes}
 use Rattle.records.proofs.Stores.{four-stores}
 use borrow.Author.Needs.{needs}
 use Rattle.records.proofs.header.put_node_list.Statement.{statement}
@@ -43,8 +43,9 @@ returns c =
     let first = second .before .before .before .before .before in
     let a = first .before .before .before .args in
     let h = a .h in
+    let two = joined (number-bytes 8 (h .«nodes_address»)) (number-bytes 4 (h .«nodes_count»)) in
     four-stores (a .out .now) (littleEndian 8 (h .«nodes_address»)) (littleEndian 4 (h .«nodes_count»)) (littleEndian 4 (h .«nodes_capacity»)) (replicate 16 0) 0 8 12 16
-    (number-size 8 (h .«nodes_address»)) (simp (length-append, number-size)) (simp (length-append, number-size))
+    (number-bytes 8 (h .«nodes_address») .size) (two .size) (joined two (number-bytes 4 (h .«nodes_capacity»)) .size)
     (first .put-le .ensures) (second .put-le2 .ensures) (third .put-le3 .ensures) (zeros-stored _ 16 16 (fourth .put-le4 .ensures))
 
 pub put-node-list-spec : {M : Type 1} → statement M

@@ -1,8 +1,7 @@
 -- `header::put_point` meets its contract: four runs of four stores, each from where the last one ended, are one run.
-use lib.ListN.{length-append}
 use Rattle.records.specs.LittleEndian.{littleEndian}
 use Rattle.records.specs.Header.{pointBytes}
-use Rattle.records.proofs.Sizes.{number-size}
+use Rattle.records.proofs.Sizes.{joined, number-bytes}
 use Rattle.records.proofs.Stores.{four-stores}
 use borrow.Author.Needs.{needs}
 use Rattle.records.proofs.header.put_point.Statement.{statement}
@@ -50,8 +49,9 @@ returns c =
     let x = y .before .before .before .before .before in
     let a = x .before .before .before .before .args in
     let p = a .p in
+    let xy = joined (number-bytes 4 (p .x)) (number-bytes 4 (p .y)) in
     four-stores (a .out .now) (littleEndian 4 (p .x)) (littleEndian 4 (p .y)) (littleEndian 4 (p .z)) (littleEndian 4 0xffc0_0000) (a .at) 4 8 12
-    (number-size 4 (p .x)) (simp (length-append, number-size)) (simp (length-append, number-size))
+    (number-bytes 4 (p .x) .size) (xy .size) (joined xy (number-bytes 4 (p .z)) .size)
     (x .put-le .ensures) (y .put-le2 .ensures) (z .put-le3 .ensures) (w .put-le4 .ensures)
 
 pub put-point-spec : {M : Type 1} → statement M

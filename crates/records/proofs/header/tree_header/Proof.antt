@@ -4,11 +4,11 @@ use mathlib.Core.Bool.{Bool, cond}
 use mathlib.Core.List.{List, _++_}
 use Prim.Native.Nat.{ℕ}
 use lib.Dec.{ltb, eqb}
-use lib.ListN.{length, drop, length-append}
+use lib.ListN.{length, drop}
 use borrow.Author.Tests.{lt-ltb, le-ltb}
 use Rattle.records.specs.Header.{nodeListBytes, pointsBytes, treeListBytes, headerBytes, headerAnswer, headerExit}
 use Rattle.records.specs.declared.header.Bvh.{Bvh}
-use Rattle.records.proofs.Sizes.{node-list-size, points-size, header-size}
+use Rattle.records.proofs.Sizes.{joined, node-list-bytes, points-bytes, header-bytes}
 use Rattle.records.proofs.Stores.{store-next, stores-leave}
 use borrow.Author.Needs.{needs}
 use Rattle.records.proofs.header.tree_header.Statement.{statement}
@@ -57,9 +57,9 @@ returns-3 c =
     let h = a .h in
     let out = a .out .now in
     let e = answer h out (le-ltb _ _ (tests .before .if1 .left)) (le-ltb _ _ (tests .if2 .left)) in
-    let two = store-next out (nodeListBytes h) (pointsBytes h) 0 32 (node-list-size h) (nodes .put-node-list .ensures) (points .put-points .ensures) in
-    let three = store-next out (nodeListBytes h ++ pointsBytes h) (treeListBytes h) 0 112 (simp (length-append, node-list-size, points-size)) two (trees .put-tree-list .ensures) in
-    record { answer = sym e; bytes = three ∙ stores-leave out (headerBytes h) 0 128 (header-size h) (tests .if2 .left) ∙ sym (exit h out 0 e) }
+    let two = store-next out (nodeListBytes h) (pointsBytes h) 0 32 (node-list-bytes h .size) (nodes .put-node-list .ensures) (points .put-points .ensures) in
+    let three = store-next out (nodeListBytes h ++ pointsBytes h) (treeListBytes h) 0 112 (joined (node-list-bytes h) (points-bytes h) .size) two (trees .put-tree-list .ensures) in
+    record { answer = sym e; bytes = three ∙ stores-leave out (headerBytes h) 0 128 (header-bytes h .size) (tests .if2 .left) ∙ sym (exit h out 0 e) }
 
 pub tree-header-spec : {M : Type 1} → statement M
 tree-header-spec =
