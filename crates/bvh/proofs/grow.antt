@@ -1,0 +1,3 @@
+pub mod Going
+pub mod Pending
+pub mod Written
