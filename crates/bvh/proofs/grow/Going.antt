@@ -80,27 +80,39 @@ pushed st sp a v h₀ h =
     ∙ drop-cons s₁ sp 0 (omega arith)
     ∙ ap₂ _∷_ (getD-set-same st sp v 0 h) (drop-set-lt (suc sp) st sp v (omega arith)))
 
+-- a store into the stack leaves the room
+pub room-set : {th : ℕ} {order temp boxes stack first count nodes : List ℕ} (i v : ℕ) → Room th order temp boxes stack first count nodes → Room th order temp boxes (set stack i v) first count nodes
+room-set i v r =
+    record {
+      few = r .few;
+      temp-room = r .temp-room;
+      stack-room = rw length-set (r .stack-room);
+      first-room = r .first-room;
+      count-room = r .count-room;
+      nodes-room = r .nodes-room;
+      threshold = r .threshold;
+      places = r .places;
+    }
+
 pub segment-length : (l : List ℕ) (lo k : ℕ) → lo + k ≤ length l → length (take (lo + k - lo) (drop lo l)) ≡ k
 segment-length l lo k h = length-take-le (lo + k - lo) (drop lo l) (omega (arith, length-drop lo l)) ∙ omega arith
 
 module _ (b : Builder) (law : Lawful b) (th : ℕ) (boxes : List ℕ) (s₀ : Slices) (room : Room th (s₀ .order) (s₀ .temp) boxes (s₀ .stack) (s₀ .first) (s₀ .count) (s₀ .nodes)) where
-  pub start : 0 < length (s₀ .order)
-      → Going b th boxes s₀ (record { order = s₀ .order; temp = s₀ .temp; stack = set (s₀ .stack) (length (s₀ .stack) - 1) (length (s₀ .order)); first = s₀ .first; count = s₀ .count; nodes = s₀ .nodes }) (length (s₀ .stack) - 1) 0 0
-  start some =
-      let p : ℕ = length (s₀ .stack) - 1 in
+  pub start : (stack : List ℕ) → s₀ .stack ≡ set stack (length stack - 1) (length (s₀ .order)) → 0 < length (s₀ .order) → Going b th boxes s₀ s₀ (length stack - 1) 0 0
+  start stack es some =
+      let p : ℕ = length stack - 1 in
       let n : ℕ = length (s₀ .order) in
-      let st : List ℕ = set (s₀ .stack) p n in
-      let l : length st ≡ length (s₀ .stack) = length-set (s₀ .stack) p n in
+      let l : length (s₀ .stack) ≡ length stack = ap length es ∙ length-set stack p n in
       let deep = room .stack-room in
-      let e : drop p st ≡ n ∷ [] =
-      drop-cons st p 0 (omega arith)
-      ∙ ap₂ _∷_ (getD-set-same (s₀ .stack) p n 0 (omega arith)) (drop-of-length-le st {i = suc p} (omega arith)) in
+      let e : drop p (s₀ .stack) ≡ n ∷ [] =
+      drop-cons (s₀ .stack) p 0 (omega arith)
+      ∙ ap₂ _∷_ (rw es (getD-set-same stack p n 0 (omega arith))) (drop-of-length-le (s₀ .stack) {i = suc p} (omega arith)) in
       record {
         laid = [];
         pending = rw e (begin b law th (room .threshold) (s₀ .order) some);
         written = none (s₀ .first) (s₀ .count) (s₀ .nodes);
         deep = omega arith;
-        same = record { order-same = refl; temp-same = refl; stack-same = l; first-same = refl; count-same = refl; nodes-same = refl };
+        same = record { order-same = refl; temp-same = refl; stack-same = refl; first-same = refl; count-same = refl; nodes-same = refl };
         places = room .places;
       }
 
