@@ -67,7 +67,7 @@ words-same lo (inner b l r) =
     words-append (bareRows lo l) (bareRows hi r) ∙ ap₂ _++_ (words-same lo l) (words-same hi r) ∙ sym (words-append (rows lo l) (rows hi r)) in
     rw e
 
-length-counts : (lo : ℕ) (t : Node) → length (counts (rows lo t)) ≡ size t
+pub length-counts : (lo : ℕ) (t : Node) → length (counts (rows lo t)) ≡ size t
 length-counts lo t = length-map (rows lo t) (λ (r : Row). r .count) ∙ length-rows lo t
 
 length-heads : (lo : ℕ) (t : Node) → length (heads (rows lo t)) ≡ size t
