@@ -1,0 +1,244 @@
+-- Laws of the tree that a lawful builder grows: how `grow` unfolds whatever the fuel, what its leaves hold, and how its rows lie.
+use Prim.Native.Nat.{ℕ, zero, suc, _+_, _-_, _*_, _≤_, _<_}
+use native.Mathlib.Omega.{arith}
+use mathlib.Core.Bool.{Bool, true, false, _&&_}
+use mathlib.Core.List.{List, [], _∷_, _++_, append-assoc, map-append}
+use mathlib.Core.Path.{_≡_, refl, sym, ap, ap₂, _∙_, subst}
+use lib.Dec.{leb, ltb}
+use lib.ListN.{length, take, drop, length-append}
+use lib.Seq.{take-at, drop-at}
+use native.Mathlib.Decide.{decLe}
+use borrow.Author.Tests.{leb-true, leb-false, le-leb, lt-leb, lt-ltb, le-ltb}
+use Rattle.split.specs.declared.boxes.BoxWords.{BoxWords}
+use Rattle.split.specs.Boxes.{boxWords}
+use Rattle.split.specs.Lists.{Within}
+use Rattle.bvh.specs.Rows.{Row, rows, heads, counts, words}
+use Rattle.bvh.specs.Tree.{Node, leaf, inner, Builder, growF, grow, leafOrder, size, occurrences}
+use Rattle.bvh.proofs.Places.{within-append, occurrences-append}
+use Rattle.bvh.proofs.Lawful.{Lawful}
+
+module _ (b : Builder) where
+  growF-leaf : (th k : ℕ) (ps : List ℕ) → length ps ≤ th → growF b th k ps ≡ leaf (b .box ps) ps
+  unfolding growF
+  growF-leaf th zero ps h = refl
+  growF-leaf th (suc k) ps h = rw (le-leb (length ps) th h, growF)
+
+  growF-inner : (th k : ℕ) (ps : List ℕ) → th < length ps → growF b th (suc k) ps ≡ inner (b .box ps) (growF b th k (b .first ps)) (growF b th k (b .second ps))
+  unfolding growF
+  growF-inner th k ps h = rw (lt-leb (length ps) th h, growF)
+
+  -- at most th items are a leaf
+  pub grow-leaf : (th : ℕ) (ps : List ℕ) → length ps ≤ th → grow b th ps ≡ leaf (b .box ps) ps
+  unfolding grow
+  grow-leaf th ps h = growF-leaf th (length ps) ps h
+
+module _ (b : Builder) (law : Lawful b) where
+  fuel-by : (th k j : ℕ) (ps : List ℕ) (t : Bool) → leb (length ps) th ≡ t → 0 < th → length ps ≤ suc k → length ps ≤ suc j
+      → ((qs : List ℕ) → length qs ≤ k → length qs ≤ j → growF b th k qs ≡ growF b th j qs)
+      → growF b th (suc k) ps ≡ growF b th (suc j) ps
+  fuel-by th k j ps true e p hk hj same = growF-leaf b th (suc k) ps (leb-true _ _ e) ∙ sym (growF-leaf b th (suc j) ps (leb-true _ _ e))
+  fuel-by th k j ps false e p hk hj same =
+      let big : th < length ps = leb-false _ _ e in
+      let t = law .total ps in
+      let s₁ = law .some-first ps (omega arith) in
+      let s₂ = law .some-second ps (omega arith) in
+      growF-inner b th k ps big
+      ∙ ap₂ (inner (b .box ps)) (same (b .first ps) (omega arith) (omega arith)) (same (b .second ps) (omega arith) (omega arith))
+      ∙ sym (growF-inner b th j ps big)
+
+  -- as many levels as items are enough
+  pub fuel : (th k j : ℕ) (ps : List ℕ) → 0 < th → length ps ≤ k → length ps ≤ j → growF b th k ps ≡ growF b th j ps
+  fuel th zero zero ps p hk hj = refl
+  fuel th zero (suc j) ps p hk hj = growF-leaf b th zero ps (omega arith) ∙ sym (growF-leaf b th (suc j) ps (omega arith))
+  fuel th (suc k) zero ps p hk hj = growF-leaf b th (suc k) ps (omega arith) ∙ sym (growF-leaf b th zero ps (omega arith))
+  fuel th (suc k) (suc j) ps p hk hj = fuel-by th k j ps _ refl p hk hj (λ qs hk′ hj′. fuel th k j qs p hk′ hj′)
+
+  inner-by : (th n : ℕ) (ps : List ℕ) → length ps ≡ n → 0 < th → th < n
+      → growF b th n ps ≡ inner (b .box ps) (grow b th (b .first ps)) (grow b th (b .second ps))
+  unfolding grow
+  inner-by th zero ps e p h = absurd (omega arith)
+  inner-by th (suc n) ps e p h =
+      let t = law .total ps in
+      let s₁ = law .some-first ps (omega arith) in
+      let s₂ = law .some-second ps (omega arith) in
+      growF-inner b th n ps (omega arith)
+      ∙ ap₂ (inner (b .box ps)) (fuel th n (length (b .first ps)) (b .first ps) p (omega arith) (omega arith))
+      (fuel th n (length (b .second ps)) (b .second ps) p (omega arith) (omega arith))
+
+  -- more are an inner node over their groups' trees
+  pub grow-inner : (th : ℕ) (ps : List ℕ) → 0 < th → th < length ps → grow b th ps ≡ inner (b .box ps) (grow b th (b .first ps)) (grow b th (b .second ps))
+  unfolding grow
+  grow-inner th ps p h = inner-by th (length ps) ps refl p h
+
+-- what holds of each leaf, and of each inner node over trees of which it holds, holds of the tree that grows
+module _ (b : Builder) (law : Lawful b) (th : ℕ) (pos : 0 < th) (P : List ℕ → Node → Type 0) (on-leaf : (ps : List ℕ) → length ps ≤ th → P ps (leaf (b .box ps) ps)) (on-inner : (ps : List ℕ) (l r : Node) → th < length ps → P (b .first ps) l → P (b .second ps) r → P ps (inner (b .box ps) l r)) where
+  induction-by : (k : ℕ) (ps : List ℕ) (t : Bool) → leb (length ps) th ≡ t → length ps ≤ suc k → ((qs : List ℕ) → length qs ≤ k → P qs (growF b th k qs)) → P ps (growF b th (suc k) ps)
+  induction-by k ps true e h below = rw (growF-leaf b th (suc k) ps (leb-true _ _ e)) (on-leaf ps (leb-true _ _ e))
+  induction-by k ps false e h below =
+      let big : th < length ps = leb-false _ _ e in
+      let t = law .total ps in
+      let s₁ = law .some-first ps (omega arith) in
+      let s₂ = law .some-second ps (omega arith) in
+      rw (growF-inner b th k ps big) (on-inner ps (growF b th k (b .first ps)) (growF b th k (b .second ps)) big (below (b .first ps) (omega arith)) (below (b .second ps) (omega arith)))
+
+  inductionF : (k : ℕ) (ps : List ℕ) → length ps ≤ k → P ps (growF b th k ps)
+  inductionF zero ps h = rw (growF-leaf b th zero ps (omega arith)) (on-leaf ps (omega arith))
+  inductionF (suc k) ps h = induction-by k ps _ refl h (λ qs h′. inductionF k qs h′)
+
+  pub grow-induction : (ps : List ℕ) → P ps (grow b th ps)
+  unfolding grow
+  grow-induction ps = inductionF (length ps) ps (omega arith)
+
+-- ---- what the leaves hold
+
+-- every leaf has an item
+abbrev pub Full : Node → Type 0
+Full (leaf b ps) = 0 < length ps
+Full (inner b l r) = Full l × Full r
+
+-- no leaf has more than th
+abbrev pub AtMost : ℕ → Node → Type 0
+AtMost th (leaf b ps) = length ps ≤ th
+AtMost th (inner b l r) = AtMost th l × AtMost th r
+
+full-most : (t : Node) → Full t → size t < 2 * length (leafOrder t)
+full-most (leaf b ps) f = omega arith
+full-most (inner b l r) f = omega (arith, length-append (leafOrder l) (leafOrder r), full-most l (f .0), full-most r (f .1))
+
+module _ (b : Builder) (law : Lawful b) (th : ℕ) (pos : 0 < th) where
+  -- the leaf order is the items in another order
+  pub leaf-order-count : (p : ℕ) (ps : List ℕ) → occurrences p (leafOrder (grow b th ps)) ≡ occurrences p ps
+  leaf-order-count p = grow-induction b law th pos (λ ps t. occurrences p (leafOrder t) ≡ occurrences p ps)
+      (λ ps h. refl)
+      (λ ps l r h el er. occurrences-append p (leafOrder l) (leafOrder r) ∙ ap₂ _+_ el er ∙ sym (occurrences-append p (b .first ps) (b .second ps)) ∙ law .same-count p ps)
+
+  pub leaf-order-length : (ps : List ℕ) → length (leafOrder (grow b th ps)) ≡ length ps
+  leaf-order-length = grow-induction b law th pos (λ ps t. length (leafOrder t) ≡ length ps)
+      (λ ps h. refl)
+      (λ ps l r h el er. length-append (leafOrder l) (leafOrder r) ∙ ap₂ _+_ el er ∙ law .total ps)
+
+  pub leaf-order-within : (words : ℕ) (ps : List ℕ) → Within words ps → Within words (leafOrder (grow b th ps))
+  leaf-order-within words = grow-induction b law th pos (λ ps t. Within words ps → Within words (leafOrder t))
+      (λ ps h w. w)
+      (λ ps l r h wl wr w. within-append words (leafOrder l) (leafOrder r) (wl (law .within-first words ps w)) (wr (law .within-second words ps w)))
+
+  -- a leaf has at most th items
+  pub grow-at-most : (ps : List ℕ) → AtMost th (grow b th ps)
+  grow-at-most = grow-induction b law th pos (λ ps t. AtMost th t) (λ ps h. h) (λ ps l r h al ar. (al, ar))
+
+  -- and at least one
+  pub grow-full : (ps : List ℕ) → 0 < length ps → Full (grow b th ps)
+  grow-full = grow-induction b law th pos (λ ps t. 0 < length ps → Full t)
+      (λ ps h some. some)
+      (λ ps l r h fl fr some. (fl (law .some-first ps (omega arith)), fr (law .some-second ps (omega arith))))
+
+  pub size-most : (ps : List ℕ) → 0 < length ps → size (grow b th ps) < 2 * length ps
+  size-most ps some = omega (arith, full-most (grow b th ps) (grow-full ps some), leaf-order-length ps)
+
+-- ---- how the rows lie
+
+pub heads-append : (xs ys : List Row) → heads (xs ++ ys) ≡ heads xs ++ heads ys
+heads-append xs ys = map-append (λ (r : Row). r .head) xs ys
+
+pub counts-append : (xs ys : List Row) → counts (xs ++ ys) ≡ counts xs ++ counts ys
+counts-append xs ys = map-append (λ (r : Row). r .count) xs ys
+
+pub words-append : (xs ys : List Row) → words (xs ++ ys) ≡ words xs ++ words ys
+words-append [] ys = refl
+words-append (x ∷ xs) ys = ap (λ (ws : List ℕ). boxWords (x .box) ++ ws) (words-append xs ys) ∙ sym (append-assoc (boxWords (x .box)) (words xs) (words ys))
+
+-- a row a node
+pub length-rows : (lo : ℕ) (t : Node) → length (rows lo t) ≡ size t
+length-rows lo (leaf b ps) = refl
+length-rows lo (inner b l r) =
+    omega (arith, length-append (rows lo l) (rows (lo + length (leafOrder l)) r), length-rows lo l, length-rows (lo + length (leafOrder l)) r)
+
+pub length-words : (rs : List Row) → length (words rs) ≡ 6 * length rs
+length-words [] = refl
+length-words (r ∷ rs) = omega (arith, length-words rs)
+
+-- An inner row is followed by as many rows as its first child has nodes, which are that child's, and then by the second child's.
+pub first-rows : (lo : ℕ) (b : BoxWords) (l r : Node) → take (size l) (drop 1 (rows lo (inner b l r))) ≡ rows lo l
+first-rows lo b l r = take-at (rows lo l) (rows (lo + length (leafOrder l)) r) (size l) (length-rows lo l)
+
+pub second-rows : (lo : ℕ) (b : BoxWords) (l r : Node) → drop (suc (size l)) (rows lo (inner b l r)) ≡ rows (lo + length (leafOrder l)) r
+second-rows lo b l r = drop-at (rows lo l) (rows (lo + length (leafOrder l)) r) (size l) (length-rows lo l)
+
+-- The rows that have items have the positions from lo to hi, each where the one before ends.
+abbrev pub Running : ℕ → ℕ → List Row → Type 0
+Running lo hi [] = lo ≡ hi
+Running lo hi (r ∷ rs) = (0 < r .count → r .head ≡ lo) × Running (lo + r .count) hi rs
+
+running-append : (lo mid hi : ℕ) (xs ys : List Row) → Running lo mid xs → Running mid hi ys → Running lo hi (xs ++ ys)
+running-append lo mid hi [] ys p q = subst (λ (at : ℕ). Running at hi ys) (sym p) q
+running-append lo mid hi (x ∷ xs) ys p q = (p .0, running-append (lo + x .count) mid hi xs ys (p .1) q)
+
+pub rows-running : (lo : ℕ) (t : Node) → Running lo (lo + length (leafOrder t)) (rows lo t)
+rows-running lo (leaf b ps) = (λ h. refl, refl)
+rows-running lo (inner b l r) =
+    let mid : ℕ = lo + length (leafOrder l) in
+    let hi : ℕ = lo + length (leafOrder l ++ leafOrder r) in
+    let e : mid + length (leafOrder r) ≡ hi = omega (arith, length-append (leafOrder l) (leafOrder r)) in
+    (λ h. absurd (omega arith),
+    subst (λ (at : ℕ). Running at hi (rows lo l ++ rows mid r)) (omega arith)
+    (running-append lo mid hi (rows lo l) (rows mid r) (rows-running lo l) (subst (λ (at : ℕ). Running mid at (rows mid r)) e (rows-running mid r))))
+
+-- n positions from lo on have i among them
+abbrev pub holds : ℕ → ℕ → ℕ → Bool
+holds lo n i = leb lo i && ltb i (lo + n)
+
+abbrev pub tally : Bool → ℕ
+tally true = 1
+tally false = 0
+
+-- how many of the rows have the position i among theirs: an inner row has none
+abbrev pub holders : ℕ → List Row → ℕ
+holders i [] = 0
+holders i (r ∷ rs) = tally (holds (r .head) (r .count) i) + holders i rs
+
+holders-append : (i : ℕ) (xs ys : List Row) → holders i (xs ++ ys) ≡ holders i xs + holders i ys
+holders-append i [] ys = omega arith
+holders-append i (x ∷ xs) ys = omega (arith, holders-append i xs ys)
+
+holds-in : (lo n i : ℕ) → lo ≤ i → i < lo + n → holds lo n i ≡ true
+holds-in lo n i h h′ = rw (le-leb lo i h, lt-ltb i (lo + n) h′)
+
+holds-before : (lo n i : ℕ) → i < lo → holds lo n i ≡ false
+holds-before lo n i h = rw (lt-leb lo i h)
+
+holds-behind : (lo n i : ℕ) → lo + n ≤ i → holds lo n i ≡ false
+holds-behind lo n i h = rw (le-leb lo i (omega arith), le-ltb i (lo + n) h)
+
+holds-none : (lo i : ℕ) → Dec (lo ≤ i) → holds lo 0 i ≡ false
+holds-none lo i (yes d) = holds-behind lo 0 i (omega arith)
+holds-none lo i (no d) = holds-before lo 0 i (omega arith)
+
+module _ (i : ℕ) where
+  inner-holders : (lo : ℕ) (b : BoxWords) (l r : Node) → holders i (rows lo (inner b l r)) ≡ holders i (rows lo l) + holders i (rows (lo + length (leafOrder l)) r)
+  inner-holders lo b l r = omega (arith, ap tally (holds-none (size (inner b l r)) i (decLe (size (inner b l r)) i)), holders-append i (rows lo l) (rows (lo + length (leafOrder l)) r))
+
+  -- a position before the tree's, or behind them, is in no leaf
+  pub held-before : (lo : ℕ) (t : Node) → i < lo → holders i (rows lo t) ≡ 0
+  held-before lo (leaf b ps) h = omega (arith, ap tally (holds-before lo (length ps) i h))
+  held-before lo (inner b l r) h = omega (arith, inner-holders lo b l r, held-before lo l h, held-before (lo + length (leafOrder l)) r (omega arith))
+
+  pub held-behind : (lo : ℕ) (t : Node) → lo + length (leafOrder t) ≤ i → holders i (rows lo t) ≡ 0
+  held-behind lo (leaf b ps) h = omega (arith, ap tally (holds-behind lo (length ps) i h))
+  held-behind lo (inner b l r) h =
+      let n = length-append (leafOrder l) (leafOrder r) in
+      omega (arith, inner-holders lo b l r, held-behind lo l (omega arith), held-behind (lo + length (leafOrder l)) r (omega arith))
+
+  held-by : (lo : ℕ) (l r : Node) → lo ≤ i → i < lo + (length (leafOrder l) + length (leafOrder r)) → Dec (lo + length (leafOrder l) ≤ i)
+      → (i < lo + length (leafOrder l) → holders i (rows lo l) ≡ 1)
+      → (lo + length (leafOrder l) ≤ i → i < lo + length (leafOrder l) + length (leafOrder r) → holders i (rows (lo + length (leafOrder l)) r) ≡ 1)
+      → holders i (rows lo l) + holders i (rows (lo + length (leafOrder l)) r) ≡ 1
+  held-by lo l r h h′ (yes d) left right = omega (arith, held-behind lo l d, right d (omega arith))
+  held-by lo l r h h′ (no d) left right = omega (arith, left (omega arith), held-before (lo + length (leafOrder l)) r (omega arith))
+
+  -- and each of its positions is in exactly one
+  pub held-once : (lo : ℕ) (t : Node) → lo ≤ i → i < lo + length (leafOrder t) → holders i (rows lo t) ≡ 1
+  held-once lo (leaf b ps) h h′ = omega (arith, ap tally (holds-in lo (length ps) i h h′))
+  held-once lo (inner b l r) h h′ =
+      inner-holders lo b l r
+      ∙ held-by lo l r h (omega (arith, length-append (leafOrder l) (leafOrder r))) (decLe (lo + length (leafOrder l)) i)
+      (λ d. held-once lo l h d) (λ d d′. held-once (lo + length (leafOrder l)) r d d′)

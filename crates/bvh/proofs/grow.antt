@@ -1,0 +1,4 @@
+pub mod Finished
+pub mod Going
+pub mod Pending
+pub mod Written
