@@ -1,3 +1,6 @@
+pub mod Flat
+pub mod Numbers
+pub mod Output
 pub mod Ranges
 pub mod Rows
 pub mod Tree

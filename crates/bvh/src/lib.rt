@@ -1,2 +1,2 @@
 // From boxes to tree records.
-pub mod grow;
+pub mod ranges;
