@@ -1,3 +1,5 @@
 pub mod LittleEndian
+pub mod Quantise
 pub mod Records
+pub mod Scale
 pub mod Shorts
