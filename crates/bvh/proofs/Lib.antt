@@ -1,3 +1,4 @@
 pub mod Lawful
 pub mod Places
 pub mod TreeLaws
+pub mod RangeLaws

@@ -1,4 +1,7 @@
 pub mod Laid
+pub mod Flat
+pub mod Numbers
+pub mod Output
 pub mod Ranges
 pub mod Rows
 pub mod Sizes

@@ -1,0 +1,39 @@
+-- A tree as it lies in slices, and what the scan for its ranges writes. Definitions only.
+use Prim.Native.Nat.{ℕ, _+_, _*_, _≤_, _<_}
+use mathlib.Core.List.{List, [], _∷_, _++_}
+use mathlib.Core.Path.{_≡_}
+use lib.ListN.{length, take, drop}
+use Rattle.records.specs.declared.scale.Scale.{Scale}
+use Rattle.bvh.specs.Tree.{Node, leaf, inner, size}
+use Rattle.bvh.specs.Rows.{rows, heads, counts, words}
+use Rattle.bvh.specs.Ranges.{ranges}
+use Rattle.bvh.specs.Output.{treesBytes, over}
+
+-- every leaf has an item
+abbrev pub Full : Node → Type 0
+Full (leaf b ps) = 0 < length ps
+Full (inner b l r) = Full l × Full r
+
+-- A tree of no items is one empty leaf; in any other tree every leaf has an item.
+abbrev pub Filled : Node → Type 0
+Filled (leaf b ps) = Unit {0}
+Filled (inner b l r) = Full l × Full r
+
+-- The slices hold the rows of the tree t. An inner row is told from a leaf's by its count of 0, and the numbers of nodes fit a record.
+pub record Flat (t : Node) (first count boxes : List ℕ) : Type 0 where
+  pub heads-are : first ≡ heads (rows 0 t)
+  pub counts-are : count ≡ counts (rows 0 t)
+  pub words-are : take (6 * size t) boxes ≡ words (rows 0 t)
+  pub filled : Filled t
+  pub few : size t ≤ 32767
+
+-- What the scan for ranges asks: the rows of some tree, and room for its ranges' records.
+pub record Scannable (first count boxes trees : List ℕ) : Type 0 where
+  pub tree : Node
+  pub flat : Flat tree first count boxes
+  pub room : 16 * length (ranges 0 tree) ≤ length trees
+
+-- What it leaves: the records of the ranges of t, r of them, before what there was.
+pub record TreesPut (scale : Scale) (t : Node) (trees trees′ : List ℕ) (r : ℕ) : Type 0 where
+  pub bytes-are : trees′ ≡ over (treesBytes scale (ranges 0 t)) trees
+  pub number-is : r ≡ length (ranges 0 t)

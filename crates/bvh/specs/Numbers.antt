@@ -1,0 +1,72 @@
+-- The numbers of a tree's nodes in preorder, and which of them the ranges hold. Definitions only.
+use Prim.Native.Nat.{ℕ, zero, suc, _+_, _-_, _≤_, _<_}
+use mathlib.Core.Bool.{Bool, cond, _&&_}
+use mathlib.Core.List.{List, [], _∷_, _++_, List·Memᴰ}
+use mathlib.Core.Path.{_≡_}
+use lib.Dec.{leb, ltb}
+use lib.ListN.{drop}
+use Rattle.bvh.specs.Tree.{Node, leaf, inner, boxOf, size}
+use Rattle.bvh.specs.Ranges.{Range}
+use Rattle.bvh.specs.Rows.{Row, rows}
+
+-- a node with all below it, and its number
+pub record Subtree : Type 0 where
+  pub number : ℕ
+  pub root : Node
+
+-- Rule R10 (01, Records and ranges; bvh.rs, number): every node in preorder, for a tree whose root has the number at.
+abbrev pub subtrees : ℕ → Node → List Subtree
+subtrees at (leaf b ps) = record { number = at; root = leaf b ps } ∷ []
+subtrees at (inner b l r) = record { number = at; root = inner b l r } ∷ (subtrees (at + 1) l ++ subtrees (at + 1 + size l) r)
+
+-- the numbers of the leaves
+abbrev pub leafNumbers : ℕ → Node → List ℕ
+leafNumbers at (leaf b ps) = at ∷ []
+leafNumbers at (inner b l r) = leafNumbers (at + 1) l ++ leafNumbers (at + 1 + size l) r
+
+-- n numbers, rising from at
+abbrev pub upFrom : ℕ → ℕ → List ℕ
+upFrom at zero = []
+upFrom at (suc n) = at ∷ upFrom (at + 1) n
+
+-- the range of one subtree: its box and its nodes
+abbrev pub rangeOf : Subtree → Range
+rangeOf s = record { box = boxOf (s .root); first = s .number; last = s .number + size (s .root) }
+
+-- 01, Walk: a range holds the nodes first to last − 1.
+abbrev pub holds : ℕ → Range → Bool
+holds k r = leb (r .first) k && ltb k (r .last)
+
+-- how many nodes a range has
+abbrev pub nodesIn : Range → ℕ
+nodesIn r = r .last - r .first
+
+-- how many of the ranges hold node k
+abbrev pub holders : ℕ → List Range → ℕ
+holders k [] = 0
+holders k (r ∷ rs) = cond (holds k r) 1 0 + holders k rs
+
+-- The ranges lie between lo and hi, each has a node, and each begins where the one before it has ended, or later.
+abbrev pub Rising : ℕ → List Range → ℕ → Type 0
+Rising lo [] hi = lo ≤ hi
+Rising lo (r ∷ rs) hi = (lo ≤ r .first) × (r .first < r .last) × Rising (r .last) rs hi
+
+-- A range is that of one subtree of at most 127 nodes.
+pub record Part (at : ℕ) (t : Node) (r : Range) : Type 0 where
+  pub subtree : Subtree
+  pub within : List·Memᴰ subtree (subtrees at t)
+  pub small : size (subtree .root) ≤ 127
+  pub range-is : r ≡ rangeOf subtree
+
+-- Among the rows rs, those of the tree t stand from number k on; its first item has the position given.
+pub record RowsFrom (k : ℕ) (t : Node) (rs : List Row) : Type 0 where
+  pub position : ℕ
+  pub rest : List Row
+  pub rows-are : drop k rs ≡ rows position t ++ rest
+
+-- What the request's point 3 asks of the ranges rs of a tree t.
+pub record Cut (t : Node) (rs : List Range) : Type 0 where
+  pub sizes : (r : Range) → List·Memᴰ r rs → (0 < nodesIn r) × (nodesIn r ≤ 127)
+  pub rising : Rising 0 rs (size t)
+  pub parts : (r : Range) → List·Memᴰ r rs → Part 0 t r
+  pub leaves : (k : ℕ) → List·Memᴰ k (leafNumbers 0 t) → holders k rs ≡ 1
