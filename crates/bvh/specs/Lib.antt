@@ -1,3 +1,8 @@
+pub mod Build
+pub mod Decode
+pub mod Entry
+pub mod Items
+pub mod Output
 pub mod Ranges
 pub mod Rows
 pub mod Tree

@@ -1,2 +1,4 @@
 // From boxes to tree records.
+pub mod entry;
 pub mod grow;
+pub mod items;

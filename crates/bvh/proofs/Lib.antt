@@ -1,0 +1,2 @@
+mod EntryWords
+mod ItemWords
