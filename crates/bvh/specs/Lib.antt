@@ -1,6 +1,10 @@
 pub mod Laid
 pub mod Flat
 pub mod Numbers
+pub mod Build
+pub mod Decode
+pub mod Entry
+pub mod Items
 pub mod Output
 pub mod Ranges
 pub mod Rows

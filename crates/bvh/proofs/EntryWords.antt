@@ -1,0 +1,133 @@
+-- A build over the words of some items is the build over the items: the words hold the same entries, or the build is refused before it reads one.
+use Prim.Native.Nat.{ℕ, zero, suc, _+_, _*_, _≤_, _<_}
+use native.Mathlib.Nat.{add-assoc}
+use native.Mathlib.Omega.{arith}
+use mathlib.Core.Path.{_≡_, refl, sym, ap, _∙_, subst}
+use mathlib.Core.Logic.{_⊎_, inl, inr, ⊎-elim}
+use mathlib.Core.Bool.{Bool, true, false, cond, _&&_, _||_, or-true}
+use mathlib.Core.List.{List, [], _∷_, _++_, append-assoc}
+use lib.Dec.{leb, ltb}
+use lib.ListN.{length, getD, take, drop, length-append}
+use lib.Seq.{take-at, getD-at, getD-append-add}
+use borrow.Author.Tests.{lt-ltb, leb-true, leb-false}
+use Rattle.split.specs.declared.boxes.BoxWords.{BoxWords}
+use Rattle.bvh.specs.declared.core.Build.{Build}
+use Rattle.bvh.specs.declared.core.Build.the-variants.{TooManyEntries, ThresholdOutside, BufferTooShort}
+use Rattle.bvh.specs.declared.items.BvhItem.{BvhItem}
+use Rattle.bvh.specs.Build.{Entries, Lengths, short, pickBuild, answerOf, kept, nodesWritten, treesWritten, orderWritten}
+use Rattle.bvh.specs.Decode.{isMarked, marked, boxFrom}
+use Rattle.bvh.specs.Entry.{entriesOf, entriesIn, takenOf, lengthsOf, Answered}
+use Rattle.bvh.specs.Items.{itemWords, wordsOf, boxIn, present}
+use Rattle.bvh.proofs.ItemWords.{length-words, apart, apart-all, length-apart}
+
+-- ---- the entries that the words hold
+next-word : (i : BvhItem) (ws : List ℕ) (at : ℕ) → getD (itemWords i ++ ws) (7 + at) 0 ≡ getD ws at 0
+next-word i ws at = getD-append-add (itemWords i) ws at 0
+
+next-box : (i : BvhItem) (ws : List ℕ) (at : ℕ) → boxFrom (itemWords i ++ ws) (7 + at) ≡ boxFrom ws at
+next-box i ws at = simp (add-assoc, next-word i ws)
+
+box-is : (items : List BvhItem) (p : ℕ) → boxFrom (wordsOf items) (7 * p + 1) ≡ boxIn items p
+unfolding boxIn
+box-is [] p = refl
+box-is (i ∷ is) zero = refl
+box-is (i ∷ is) (suc p) =
+    let far : 7 * suc p + 1 ≡ 7 + (7 * p + 1) = omega arith in
+    rw far (next-box i (wordsOf is) (7 * p + 1) ∙ box-is is p)
+
+mark-of : (b : Bool) → isMarked (cond b 1 0) ≡ b
+mark-of true = refl
+mark-of false = refl
+
+-- the words before those of the items are an earlier entry's
+marked-is : (items : List BvhItem) (at : ℕ) (before : List ℕ) → length before ≡ 7 * at → marked at (length items) (before ++ wordsOf items) ≡ present at items
+marked-is [] at before h = refl
+marked-is (i ∷ is) at before h =
+    let mark : getD (before ++ wordsOf (i ∷ is)) (7 * at) 0 ≡ cond (i .present) 1 0 = getD-at before _ _ 0 (7 * at) h in
+    let more : length (before ++ itemWords i) ≡ 7 * (at + 1) = simp length-append (omega arith) in
+    let rest : marked (at + 1) (length is) (before ++ wordsOf (i ∷ is)) ≡ present (at + 1) is =
+    rw (← append-assoc before (itemWords i) (wordsOf is)) (marked-is is (at + 1) (before ++ itemWords i) more) in
+    simp (mark, rest, mark-of)
+
+pub entries-in : (items : List BvhItem) (rest : List ℕ) → entriesIn (length items) (take (7 * length items) (wordsOf items ++ rest)) ≡ entriesOf items
+unfolding entriesIn entriesOf
+entries-in items rest =
+    rw (take-at (wordsOf items) rest (7 * length items) (length-words items))
+    (λ j. record { number = length items; at = λ p. box-is items p j; places = marked-is items 0 [] refl j })
+
+-- ---- the build that is refused before it reads an entry
+short-words : (n : ℕ) (l : Lengths) → l .words < 7 * n → short n l ≡ true
+short-words n l few = simp (lt-ltb (l .words) (7 * n) few, or-true)
+
+-- the words are not read
+abbrev Unread : ℕ → Lengths → Type 0
+Unread n l = (32767 < n) ⊎ (l .words < 7 * n)
+
+unread-answer : (e e′ : Entries) (th : ℕ) (l : Lengths) → e .number ≡ e′ .number → Unread (e .number) l → answerOf e th l ≡ answerOf e′ th l
+unfolding answerOf
+unread-answer e e′ th l same (inl many) = rw (← same, lt-ltb 32767 (e .number) many)
+unread-answer e e′ th l same (inr few) = rw (← same, short-words (e .number) l few)
+
+-- a refusal that comes before the nodes are counted
+abbrev early : Bool → Bool → Build
+early many outside = pickBuild many TooManyEntries (pickBuild outside ThresholdOutside BufferTooShort)
+
+early-keeps : (many outside : Bool) (w w′ before : List ℕ) → kept (early many outside) w before ≡ kept (early many outside) w′ before
+early-keeps true outside w w′ before = refl
+early-keeps false true w w′ before = refl
+early-keeps false false w w′ before = refl
+
+unread-kept : (e : Entries) (th : ℕ) (l : Lengths) → Unread (e .number) l → (w w′ before : List ℕ) → kept (answerOf e th l) w before ≡ kept (answerOf e th l) w′ before
+unfolding answerOf
+unread-kept e th l (inl many) w w′ before = rw (lt-ltb 32767 (e .number) many)
+unread-kept e th l (inr few) w w′ before = rw (short-words (e .number) l few) (early-keeps (ltb 32767 (e .number)) (ltb th 1 || ltb 32767 th) w w′ before)
+
+-- so nothing hangs on the entries but their number
+unread-same : (e e′ : Entries) (th : ℕ) (l : Lengths) (r : Build) (nodes trees order nodes′ trees′ order′ : List ℕ) → e .number ≡ e′ .number → Unread (e .number) l
+    → Answered e th l r nodes trees order nodes′ trees′ order′ → Answered e′ th l r nodes trees order nodes′ trees′ order′
+unread-same e e′ th l r nodes trees order nodes′ trees′ order′ same unread a =
+    record {
+      answer = a .answer ∙ unread-answer e e′ th l same unread;
+      nodes-are = a .nodes-are ∙ keeps (nodesWritten e th) (nodesWritten e′ th) nodes;
+      trees-are = a .trees-are ∙ keeps (treesWritten e th) (treesWritten e′ th) trees;
+      order-is = a .order-is ∙ keeps (orderWritten e th) (orderWritten e′ th) order
+    }
+  where
+    keeps : (w w′ before : List ℕ) → kept r w before ≡ kept r w′ before
+    keeps w w′ before = rw (a .answer) (unread-kept e th l unread w w′ before)
+
+-- ---- the two together
+taken-cases : (n room : ℕ) → ((takenOf n room ≡ n) × (7 * n ≤ room)) ⊎ ((takenOf n room ≡ 0) × ((32767 < n) ⊎ (room < 7 * n)))
+taken-cases n room = cases (leb n 32767) (leb (7 * n) room) refl refl
+  where
+    cases : (s t : Bool) → leb n 32767 ≡ s → leb (7 * n) room ≡ t
+        → ((cond (s && t) n 0 ≡ n) × (7 * n ≤ room)) ⊎ ((cond (s && t) n 0 ≡ 0) × ((32767 < n) ⊎ (room < 7 * n)))
+    cases true true few fits = inl (refl, leb-true (7 * n) room fits)
+    cases true false few fits = inr (refl, inr (leb-false (7 * n) room fits))
+    cases false t few fits = inr (refl, inl (leb-false n 32767 few))
+
+pub taken-fits : (n room : ℕ) → (takenOf n room ≤ n) × (7 * takenOf n room ≤ room)
+taken-fits n room = ⊎-elim (λ all. omega arith) (λ none. omega arith) (taken-cases n room)
+
+-- What the core answers over the words, the entry point answers over the items.
+pub answers : (items : List BvhItem) (th : ℕ) (nodes trees order words places temp stack first count boxes : List ℕ) (r : Build) (nodes′ trees′ order′ : List ℕ)
+    → let n = length items in
+    let held = apart items words (takenOf n (length words)) in
+    Answered (entriesIn n (take (7 * n) held)) th (lengthsOf nodes trees order held places temp stack first count boxes) r nodes trees order nodes′ trees′ order′
+    → Answered (entriesOf items) th (lengthsOf nodes trees order words places temp stack first count boxes) r nodes trees order nodes′ trees′ order′
+unfolding entriesIn entriesOf
+answers items th nodes trees order words places temp stack first count boxes r nodes′ trees′ order′ a =
+    let n = length items in
+    let k = takenOf n (length words) in
+    let fits = taken-fits n (length words) in
+    let same : length (apart items words k) ≡ length words = length-apart items words k (fits .0) (fits .1) in
+    let l = lengthsOf nodes trees order words places temp stack first count boxes in
+    let b : Answered (entriesIn n (take (7 * n) (apart items words k))) th l r nodes trees order nodes′ trees′ order′ = rw same at a in
+    ⊎-elim
+    (λ all. subst (λ (e : Entries). Answered e th l r nodes trees order nodes′ trees′ order′) (whole (all .0)) b)
+    (λ none. unread-same (entriesIn n (take (7 * n) (apart items words k))) (entriesOf items) th l r nodes trees order nodes′ trees′ order′ refl (none .1) b)
+    (taken-cases n (length words))
+  where
+    whole : takenOf (length items) (length words) ≡ length items
+        → entriesIn (length items) (take (7 * length items) (apart items words (takenOf (length items) (length words)))) ≡ entriesOf items
+    whole all = rw (all, apart-all items words) (entries-in items (drop (7 * length items) words))

@@ -1,0 +1,50 @@
+-- `entry::put_item` meets its contract: a store of the mark, and the box after it.
+use borrow.Author.Needs.{needs}
+use Rattle.bvh.proofs.entry.put_item.Statement.{statement}
+use Rattle.bvh.proofs.entry.put_item.Tie as tie
+use Prim.Native.Nat.{_*_}
+use lib.ListN.{length-set}
+use mathlib.Core.Path.{_∙_}
+use Rattle.split.specs.Boxes.{boxWords}
+use Rattle.bvh.specs.Items.{itemBox}
+use Rattle.bvh.proofs.ItemWords.{mark-is, mark-then-box}
+use native.Mathlib.Omega.{arith}
+
+mul-at : tie.Need-mul-at
+mul-at c = search needs
+
+cast-words : tie.Need-cast-words
+cast-words c = search needs
+
+mul-words : tie.Need-mul-words
+mul-words c = search needs
+
+slice-write-words : tie.Need-slice-write-words
+slice-write-words c = search needs
+
+add-put-box : tie.Need-add-put-box
+add-put-box c = search needs
+
+put-box-requires : tie.Need-put-box-requires
+put-box-requires c κs = simp length-set (omega arith)
+
+same-length : tie.Need-same-length
+same-length c = c .before .before .put-box .kept .0 ∙ simp length-set
+
+returns : tie.Need-returns
+returns c =
+    let a = c .before .before .before .before .before .before .before .before .args in
+    c .before .before .put-box .ensures ∙ rw (← mark-is (a .item .present)) (mark-then-box (a .words .now) (boxWords (itemBox (a .item))) (7 * a .i) _ (omega arith))
+
+pub put-item-spec : {M : Type 1} → statement M
+put-item-spec =
+    tie.close
+    (tie.spec
+    mul-at
+    cast-words
+    mul-words
+    slice-write-words
+    add-put-box
+    put-box-requires
+    same-length
+    returns)
