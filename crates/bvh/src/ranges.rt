@@ -9,15 +9,15 @@ ghost use mathlib.Core.List.{_++_};
 ghost use Prim.Native.Nat.{_+_, _*_, _≤_, _<_};
 ghost use lib.ListN.{length, take, drop};
 ghost use Rattle.records.specs.Records.{treeBytes};
-ghost use Rattle.split.specs.Boxes.{boxAt};
+ghost use Rattle.split.specs.Boxes.{boxFrom};
 ghost use Rattle.bvh.specs.Flat.{Flat, Scannable, TreesPut};
 ghost use Rattle.bvh.specs.Output.{treeRecord};
 ghost use Rattle.bvh.specs.Tree.{Node};
 
-// The box of row i. A row's number is no place, though the rows' boxes lie as the entries' do.
+// The box of row i.
 fn row_box(boxes: &[u32], i: usize) -> BoxWords
     requires { ⌜ 6 * i + 6 ≤ length (now boxes) ⌝ }
-    ensures { λ r. ⌜ r ≡ boxAt (now (boxes .entry)) i ⌝ }
+    ensures { λ r. ⌜ r ≡ boxFrom (now (boxes .entry)) (6 * i) ⌝ }
 {
     let at = 6 * i;
     BoxWords {
@@ -37,7 +37,7 @@ fn row_box(boxes: &[u32], i: usize) -> BoxWords
 // The record of the tree at row `first`, whose nodes end before `last`.
 fn put_range(trees: &mut [u8], at: usize, boxes: &[u32], first: usize, last: usize, scale: Scale)
     requires { ⌜ (at + 16 ≤ length (now trees)) × (6 * first + 6 ≤ length (now boxes)) × (first < 32768) × (last < 32768) ⌝ }
-    ensures { λ _. ⌜ now (trees .exit) ≡ take at (now (trees .entry)) ++ (treeBytes (treeRecord scale (record { box = boxAt (now (boxes .entry)) first; first = first; last = last })) ++ drop (at + 16) (now (trees .entry))) ⌝ }
+    ensures { λ _. ⌜ now (trees .exit) ≡ take at (now (trees .entry)) ++ (treeBytes (treeRecord scale (record { box = boxFrom (now (boxes .entry)) (6 * first); first = first; last = last })) ++ drop (at + 16) (now (trees .entry))) ⌝ }
 {
     let b = row_box(boxes, first);
     let t = BvhTree {

@@ -20,9 +20,9 @@ use Rattle.split.proofs.Places.{rest-one}
 
 -- the two words of an axis are those that stand `step` after x's
 centre-along : (ws : List ℕ) (p : ℕ) (a : Axis) → centreAt ws (stepOf a) p ≡ along a (centreOf (boxAt ws p))
-centre-along ws p X = let z : 6 * p + 0 ≡ 6 * p = omega arith in rw z
-centre-along ws p Y = let z : 6 * p + 1 + 3 ≡ 6 * p + 3 + 1 = omega arith in rw z
-centre-along ws p Z = let z : 6 * p + 2 + 3 ≡ 6 * p + 3 + 2 = omega arith in rw z
+centre-along ws p X = let z : 7 * p + 1 + 0 ≡ 7 * p + 1 = omega arith in rw z
+centre-along ws p Y = let z : 7 * p + 1 + 1 + 3 ≡ 7 * p + 1 + 3 + 1 = omega arith in rw z
+centre-along ws p Z = let z : 7 * p + 1 + 2 + 3 ≡ 7 * p + 1 + 3 + 2 = omega arith in rw z
 
 pub step-small : (a : Axis) → stepOf a < 3
 step-small X = omega arith

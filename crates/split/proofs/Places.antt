@@ -8,7 +8,7 @@ use lib.ListN.{length, getD, drop, drop-of-length-le}
 use lib.Seq.{drop-cons}
 use Rattle.split.specs.Lists.{Within}
 
-pub within-at : (n : ℕ) (ps : List ℕ) (i : ℕ) → Within n ps → i < length ps → 6 * getD ps i 0 + 6 ≤ n
+pub within-at : (n : ℕ) (ps : List ℕ) (i : ℕ) → Within n ps → i < length ps → 7 * getD ps i 0 + 7 ≤ n
 within-at n [] i w h = absurd (omega arith)
 within-at n (p ∷ ps) zero w h = w .0
 within-at n (p ∷ ps) (suc i) w h = within-at n ps i (w .1) (omega arith)
@@ -37,5 +37,5 @@ module _ {A : Type 0} (run : A → List ℕ → A) (n : ℕ) (ps : List ℕ) (st
   pub finished : (s : A) (i : ℕ) → Pass run n ps start s i → length ps ≤ i → run s [] ≡ run start ps
   finished s i q h = ap (run s) (sym (drop-of-length-le ps h)) ∙ q .rest
 
-  pub next-within : (s : A) (i : ℕ) → Pass run n ps start s i → i < length ps → 6 * getD ps i 0 + 6 ≤ n
+  pub next-within : (s : A) (i : ℕ) → Pass run n ps start s i → i < length ps → 7 * getD ps i 0 + 7 ≤ n
   next-within s i q h = within-at n ps i (q .within) h

@@ -1,4 +1,4 @@
--- The boxes that a list of places speaks of, six words each. Definitions only.
+-- The boxes that a list of places speaks of, seven words an entry. Definitions only.
 use Prim.Native.Nat.{ℕ, _+_, _*_}
 use mathlib.Core.List.{List, [], _∷_}
 use lib.ListN.{getD}
@@ -14,9 +14,13 @@ use Rattle.split.specs.declared.boxes.BoxWords.{BoxWords}
 abbrev pub pointAt : List ℕ → ℕ → Words3
 pointAt ws at = record { x = getD ws at 0; y = getD ws (at + 1) 0; z = getD ws (at + 2) 0 }
 
--- the box at a place: min and max, from word 6 · place on
+-- the box whose six words stand from `at` on
+abbrev pub boxFrom : List ℕ → ℕ → BoxWords
+boxFrom ws at = record { min = pointAt ws at; max = pointAt ws (at + 3) }
+
+-- the box at a place: an entry has seven words, a mark and then its box
 abbrev pub boxAt : List ℕ → ℕ → BoxWords
-boxAt ws p = record { min = pointAt ws (6 * p); max = pointAt ws (6 * p + 3) }
+boxAt ws p = boxFrom ws (7 * p + 1)
 
 -- a box's six words
 abbrev pub boxWords : BoxWords → List ℕ

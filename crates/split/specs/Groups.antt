@@ -38,7 +38,7 @@ stepOf Z = 2
 
 -- Rule T3 on the axis that comes `step` words after x, and whether the centre is above the cut there
 abbrev pub centreAt : List ℕ → ℕ → ℕ → Float
-centreAt ws step p = (ofBits binary32 (getD ws (6 * p + step) 0) ⊕ ofBits binary32 (getD ws (6 * p + step + 3) 0)) ⊗ half
+centreAt ws step p = (ofBits binary32 (getD ws (7 * p + 1 + step) 0) ⊕ ofBits binary32 (getD ws (7 * p + 1 + step + 3) 0)) ⊗ half
 
 unfoldable pub passes : List ℕ → ℕ → Float → ℕ → Bool
 passes ws step cut p = lt cut (centreAt ws step p)

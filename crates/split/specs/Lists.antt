@@ -20,10 +20,10 @@ abbrev pub sift : (ℕ → Bool) → List ℕ → List ℕ
 sift p [] = []
 sift p (x ∷ xs) = pick (p x) (x ∷ sift p xs) (sift p xs)
 
--- Each place's six words lie within `size` words.
+-- Each place's seven words lie within `size` words.
 abbrev pub Within : ℕ → List ℕ → Type 0
 Within size [] = Unit {0}
-Within size (x ∷ xs) = (6 * x + 6 ≤ size) × Within size xs
+Within size (x ∷ xs) = (7 * x + 7 ≤ size) × Within size xs
 
 -- how often a place stands in a list
 abbrev pub occurrences : ℕ → List ℕ → ℕ

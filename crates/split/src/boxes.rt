@@ -15,12 +15,12 @@ pub struct BoxWords {
     pub max: Words3,
 }
 
-// The box at a place.
+// The box at a place: an entry has seven words, its mark and its box.
 pub fn box_at(boxes: &[u32], place: Place) -> BoxWords
-    requires { ⌜ 6 * place .0 + 6 ≤ length (now boxes) ⌝ }
+    requires { ⌜ 7 * place .0 + 7 ≤ length (now boxes) ⌝ }
     ensures { λ r. ⌜ r ≡ boxAt (now (boxes .entry)) (place .0) ⌝ }
 {
-    let at = 6 * (place.0 as usize);
+    let at = 7 * (place.0 as usize) + 1;
     BoxWords {
         min: Words3 {
             x: boxes[at],

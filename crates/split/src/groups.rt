@@ -84,10 +84,10 @@ fn step_of(a: Axis) -> usize
 
 // 1 where the place's centre is above the cut, else 0, on the axis that comes `step` words after x. Only that axis is read.
 fn one_if_above(boxes: &[u32], place: Place, step: usize, cut: f32) -> usize
-    requires { ⌜ (6 * place .0 + 6 ≤ length (now boxes)) × (step < 3) ⌝ }
+    requires { ⌜ (7 * place .0 + 7 ≤ length (now boxes)) × (step < 3) ⌝ }
     ensures { λ r. ⌜ r ≡ oneIf (passes (now (boxes .entry)) step cut (place .0)) ⌝ }
 {
-    let at = 6 * (place.0 as usize) + step;
+    let at = 7 * (place.0 as usize) + 1 + step;
     let low = float32::words::value(boxes[at]);
     let high = float32::words::value(boxes[at + 3]);
     if (low + high) * 0.5 > cut { 1 } else { 0 }

@@ -66,8 +66,8 @@ shared-slice-read-t27 c = search needs
 returns : tie.Need-returns
 returns c =
     let p = c .before .before .before .before .before .before .before .args .place .0 in
-    let y : 6 * p + 3 + 1 ≡ 6 * p + 4 = omega arith in
-    let z : 6 * p + 3 + 2 ≡ 6 * p + 5 = omega arith in
+    let y : 7 * p + 1 + 3 + 1 ≡ 7 * p + 1 + 4 = omega arith in
+    let z : 7 * p + 1 + 3 + 2 ≡ 7 * p + 1 + 5 = omega arith in
     rw (y, z)
 
 pub box-at-spec : {M : Type 1} → statement M
