@@ -10,7 +10,7 @@ abbrev pub startBox : BoxWords
 startBox =
     record {
       min = record { x = 0x7f7f_ffff; y = 0x7f7f_ffff; z = 0x7f7f_ffff };
-      max = record { x = 0xff7f_ffff; y = 0xff7f_ffff; z = 0xff7f_ffff }
+      max = record { x = 0xff7f_ffff; y = 0xff7f_ffff; z = 0xff7f_ffff };
     }
 
 -- one box more

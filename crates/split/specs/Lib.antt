@@ -1,5 +1,6 @@
 pub mod Boxes
 pub mod Folding
+pub mod Groups
 pub mod Lists
 pub mod Rule
 pub mod Sorted

@@ -9,6 +9,11 @@ abbrev pub pick : Bool → List ℕ → List ℕ → List ℕ
 pick true a b = a
 pick false a b = b
 
+-- 1 where the test holds
+abbrev pub oneIf : Bool → ℕ
+oneIf true = 1
+oneIf false = 0
+
 -- the places that pass the test, in their order
 abbrev pub sift : (ℕ → Bool) → List ℕ → List ℕ
 sift p [] = []

@@ -2,7 +2,6 @@
 use crate::boxes::BoxWords;
 use crate::boxes::Place;
 use math::vec3::Vec3;
-
 ghost use mathlib.Core.Path.{_≡_};
 ghost use Prim.Native.Nat.{_≤_, _<_};
 ghost use lib.ListN.{length};
@@ -19,7 +18,9 @@ pub enum Axis {
 pub fn centre(b: BoxWords) -> Vec3
     ensures { λ r. ⌜ r ≡ centreOf b ⌝ }
 {
-    math::words3::values(b.min).add(math::words3::values(b.max)).scale(0.5)
+    math::words3::values(b.min)
+        .add(math::words3::values(b.max))
+        .scale(0.5)
 }
 
 pub fn along(a: Axis, v: Vec3) -> f32
@@ -45,7 +46,8 @@ pub fn average(boxes: &[u32], places: &[u32]) -> Vec3
     let mut i = 0;
     while i < places.len() {
         let b = crate::boxes::box_at(boxes, Place(places[i]));
-        sum = sum.add(math::words3::values(b.min)).add(math::words3::values(b.max));
+        sum = sum.add(math::words3::values(b.min))
+            .add(math::words3::values(b.max));
         i += 1;
     }
     sum.scale(0.5 / float32::counts::of_count(places.len() as u16))

@@ -1,6 +1,5 @@
 // A place in the list of entries, and the box that is kept for it.
 use math::words3::Words3;
-
 ghost use mathlib.Core.Path.{_≡_};
 ghost use mathlib.Core.List.{_++_};
 ghost use Prim.Native.Nat.{_+_, _*_, _≤_};

@@ -2,7 +2,6 @@
 use crate::boxes::BoxWords;
 use crate::boxes::Place;
 use math::words3::Words3;
-
 ghost use mathlib.Core.Path.{_≡_};
 ghost use lib.ListN.{length};
 ghost use Rattle.split.specs.Boxes.{boxAt};

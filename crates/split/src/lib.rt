@@ -2,3 +2,4 @@
 pub mod average;
 pub mod boxes;
 pub mod fold;
+pub mod groups;

@@ -1,0 +1,4 @@
+mod Counting
+mod Parting
+mod Places
+mod Rotated

@@ -1,0 +1,117 @@
+-- `groups::count_below` meets its contract. The loop's invariant: the counts of the rest added to those so far are the whole counts.
+use Rattle.split.proofs.groups.count_below.Statement.{statement}
+use Rattle.split.proofs.groups.count_below.Tie as tie
+use Prim.Native.Nat.{_+_, _-_}
+use mathlib.Core.Path.{_≡_, ap, _∙_}
+use lib.ListN.{length, getD, drop}
+use lib.Ieee.{lt}
+use Rattle.math.specs.declared.vec3.Vec3.{Vec3}
+use Rattle.split.specs.declared.groups.Counts.{Counts}
+use Rattle.split.specs.Boxes.{boxAt, centreOf}
+use Rattle.split.specs.Lists.{oneIf}
+use Rattle.split.specs.Rule.{below}
+use Rattle.split.specs.Groups.{countMore}
+use Rattle.split.proofs.Places.{Pass, begin, taken, finished, next-within}
+use Rattle.split.proofs.Counting.{onto, none, onto-more, onto-none, none-onto, small, one-or-none}
+use native.Mathlib.Omega.{arith}
+use borrow.Author.Needs.{needs}
+
+abbrev Inv-loop : tie.InvT-loop
+Inv-loop boxes places avg counts₀ i₀ counts i = Pass (onto (boxAt boxes) avg) (length boxes) places (none (boxAt boxes) avg) counts i
+
+abbrev μ-loop : tie.MeasureT-loop
+μ-loop boxes places avg counts₀ i₀ counts i = length places - i
+
+loop-holds : tie.Need-loop-holds Inv-loop μ-loop
+loop-holds c =
+    let at = boxAt (c .before .before .args .boxes .now) in
+    begin (onto at (c .before .before .args .avg)) _ (c .before .before .args .places .now) (none at (c .before .before .args .avg)) (c .before .before .pre .0)
+
+mul-t7 : tie.Need-mul-t7 Inv-loop μ-loop
+mul-t7 c = search needs
+
+shared-slice-read-t11 : tie.Need-shared-slice-read-t11 Inv-loop μ-loop
+shared-slice-read-t11 c = search needs
+
+box-at-requires : tie.Need-box-at-requires Inv-loop μ-loop
+box-at-requires c κs =
+    let l = c .before .before .loop in
+    next-within _ _ (c .before .before .before .before .before .args .places .now) _ (l .counts) (l .i) (l .inv) (omega arith)
+
+centre-requires : tie.Need-centre-requires Inv-loop μ-loop
+centre-requires c κs = search needs
+
+one-if-below-requires : tie.Need-one-if-below-requires Inv-loop μ-loop
+one-if-below-requires c κs = search needs
+
+add-t13 : tie.Need-add-t13 Inv-loop μ-loop
+add-t13 c =
+    let g = c .before .before .before .before .before .before .before .before .before .args in
+    omega (arith, c .before .one-if-below .ensures, one-or-none (lt (c .before .before .centre .result .x) (g .avg .x)), small (boxAt (g .boxes .now)) (g .avg) _ (g .places .now) _ _ (c .before .before .before .before .before .before .loop .inv) .0)
+
+one-if-below-requires-2 : tie.Need-one-if-below-requires-2 Inv-loop μ-loop
+one-if-below-requires-2 c κs = search needs
+
+add-t15 : tie.Need-add-t15 Inv-loop μ-loop
+add-t15 c =
+    let g = c .before .before .before .before .before .before .before .before .before .before .before .args in
+    omega (arith, c .before .one-if-below2 .ensures, one-or-none (lt (c .before .before .before .before .centre .result .y) (g .avg .y)), small (boxAt (g .boxes .now)) (g .avg) _ (g .places .now) _ _ (c .before .before .before .before .before .before .before .before .loop .inv) .1)
+
+one-if-below-requires-3 : tie.Need-one-if-below-requires-3 Inv-loop μ-loop
+one-if-below-requires-3 c κs = search needs
+
+add-t17 : tie.Need-add-t17 Inv-loop μ-loop
+add-t17 c =
+    let g = c .before .before .before .before .before .before .before .before .before .before .before .before .before .args in
+    omega (arith, c .before .one-if-below3 .ensures, one-or-none (lt (c .before .before .before .before .before .before .centre .result .z) (g .avg .z)), small (boxAt (g .boxes .now)) (g .avg) _ (g .places .now) _ _ (c .before .before .before .before .before .before .before .before .before .before .loop .inv) .2)
+
+add-i : tie.Need-add-i Inv-loop μ-loop
+add-i c = search needs
+
+loop-less : tie.Need-loop-less Inv-loop μ-loop
+loop-less c = search needs
+
+loop-again : tie.Need-loop-again Inv-loop μ-loop
+unfolding below
+loop-again c =
+    let l = c .before .before .before .before .before .before .before .before .before .before .loop in
+    let g = c .before .before .before .before .before .before .before .before .before .before .before .before .before .args in
+    let at = boxAt (g .boxes .now) in
+    let ps = g .places .now in
+    let n = l .counts in
+    let centre = c .before .before .before .before .before .before .centre .ensures ∙ ap centreOf (c .before .before .before .before .before .before .before .box-at .ensures) in
+    let x = c .before .before .before .before .before .one-if-below .ensures ∙ ap (λ (v : Vec3). oneIf (lt (v .x) (g .avg .x))) centre in
+    let y = c .before .before .before .one-if-below2 .ensures ∙ ap (λ (v : Vec3). oneIf (lt (v .y) (g .avg .y))) centre in
+    let z = c .before .one-if-below3 .ensures ∙ ap (λ (v : Vec3). oneIf (lt (v .z) (g .avg .z))) centre in
+    let step : record { x = n .x + c .before .before .before .before .before .one-if-below .result; y = n .y + c .before .before .before .one-if-below2 .result; z = n .z + c .before .one-if-below3 .result } ≡ countMore at (g .avg) n (getD ps (l .i) 0) = λ i. record { x = n .x + x i; y = n .y + y i; z = n .z + z i } in
+    taken (onto at (g .avg)) _ ps _ n _ (l .i) (l .inv) (omega arith)
+    (ap (λ (k : Counts). onto at (g .avg) k (drop (l .i + 1) ps)) step ∙ onto-more at (g .avg) n (getD ps (l .i) 0) (drop (l .i + 1) ps))
+
+returns : tie.Need-returns Inv-loop μ-loop
+returns c =
+    let l = c .before .loop in
+    let g = c .before .before .before .before .args in
+    let at = boxAt (g .boxes .now) in
+    onto-none at (g .avg) (l .counts) ∙ finished (onto at (g .avg)) _ (g .places .now) _ (l .counts) (l .i) (l .inv) (c .loop-test .left) ∙ none-onto at (g .avg) (g .places .now)
+
+pub count-below-spec : {M : Type 1} → statement M
+count-below-spec =
+    tie.close
+    (tie.spec
+    Inv-loop
+    μ-loop
+    loop-holds
+    mul-t7
+    shared-slice-read-t11
+    box-at-requires
+    centre-requires
+    one-if-below-requires
+    add-t13
+    one-if-below-requires-2
+    add-t15
+    one-if-below-requires-3
+    add-t17
+    add-i
+    loop-less
+    loop-again
+    returns)

@@ -1,0 +1,67 @@
+-- `groups::one_if_above` meets its contract: what the two words stand for, and each arm by its test.
+use borrow.Author.Needs.{needs}
+use Rattle.split.proofs.groups.one_if_above.Statement.{statement}
+use Rattle.split.proofs.groups.one_if_above.Tie as tie
+use mathlib.Core.Path.{_≡_, sym, ap, _∙_}
+use lib.Ieee.{lt}
+use Rattle.math.specs.Vec3s.{_⊕_, _⊗_}
+use Rattle.math.specs.Transform.{half}
+use Rattle.split.specs.Lists.{oneIf}
+use Rattle.split.specs.Groups.{passes}
+
+test-is : (c : tie.After-value2) → lt (c .before .before .before .before .before .before .args .cut) ((c .before .before .value .result ⊕ c .value2 .result) ⊗ half) ≡ passes (c .before .before .before .before .before .before .args .boxes .now) (c .before .before .before .before .before .before .args .step) (c .before .before .before .before .before .before .args .cut) (c .before .before .before .before .before .before .args .place .0)
+unfolding passes
+test-is c = ap (lt (c .before .before .before .before .before .before .args .cut)) (λ i. (c .before .before .value .ensures i ⊕ c .value2 .ensures i) ⊗ half)
+
+cast-at : tie.Need-cast-at
+cast-at c = search needs
+
+mul-at : tie.Need-mul-at
+mul-at c = search needs
+
+add-at : tie.Need-add-at
+add-at c = search needs
+
+mul-value : tie.Need-mul-value
+mul-value c = search needs
+
+shared-slice-read-value : tie.Need-shared-slice-read-value
+shared-slice-read-value c = search needs
+
+value-requires : tie.Need-value-requires
+value-requires c κs = search needs
+
+add-value : tie.Need-add-value
+add-value c = search needs
+
+mul-value-2 : tie.Need-mul-value-2
+mul-value-2 c = search needs
+
+shared-slice-read-value-2 : tie.Need-shared-slice-read-value-2
+shared-slice-read-value-2 c = search needs
+
+value-requires-2 : tie.Need-value-requires-2
+value-requires-2 c κs = search needs
+
+returns : tie.Need-returns
+returns c = sym (ap oneIf (sym (test-is (c .before)) ∙ c .if1 .taken))
+
+returns-2 : tie.Need-returns-2
+returns-2 c = sym (ap oneIf (sym (test-is (c .before)) ∙ c .if1 .left))
+
+pub one-if-above-spec : {M : Type 1} → statement M
+one-if-above-spec =
+    tie.close
+    (tie.spec
+    cast-at
+    mul-at
+    add-at
+    mul-value
+    shared-slice-read-value
+    value-requires
+    add-value
+    mul-value-2
+    shared-slice-read-value-2
+    value-requires-2
+    returns
+    returns-2)

@@ -1,0 +1,135 @@
+-- `groups::partition` meets its contract. The loop's invariant: what is stored so far, followed by what the rest gives, is the whole of each group.
+-- `groups::partition` meets its contract. The loop's invariant: what is stored so far, followed by what the rest gives, is the whole of each group.
+use Rattle.split.proofs.groups.partition.Statement.{statement}
+use Rattle.split.proofs.groups.partition.Tie as tie
+use Prim.Native.Nat.{ℕ, _+_, _-_, _*_, _≤_, _<_}
+use mathlib.Core.Path.{_≡_, subst, ap, _∙_}
+use mathlib.Core.Bool.{Bool}
+use lib.ListN.{length, getD}
+use Rattle.split.specs.Boxes.{boxAt}
+use Rattle.split.specs.Lists.{oneIf}
+use Rattle.split.specs.Rule.{above}
+use Rattle.split.specs.Groups.{stepOf, passes, Parted}
+use Rattle.split.proofs.Places.{within-at}
+use Rattle.split.proofs.Counting.{one-or-none}
+use Rattle.split.proofs.Parting.{Parting, begin, next-same, turn, parted, passes-above}
+use native.Mathlib.Omega.{arith}
+use borrow.Author.Needs.{needs}
+use Prim.Native.Nat.{ℕ, _+_, _-_, _*_, _≤_, _<_}
+use mathlib.Core.Path.{_≡_, subst, ap, _∙_}
+use mathlib.Core.Bool.{Bool}
+use lib.ListN.{length, getD}
+use Rattle.split.specs.Boxes.{boxAt}
+use Rattle.split.specs.Lists.{oneIf}
+use Rattle.split.specs.Rule.{above}
+use Rattle.split.specs.Groups.{stepOf, passes, Parted}
+use Rattle.split.proofs.Places.{within-at}
+use Rattle.split.proofs.Counting.{one-or-none}
+use Rattle.split.proofs.Parting.{Parting, begin, next-same, turn, parted, passes-above, step-small}
+
+abbrev Inv-loop : tie.InvT-loop
+Inv-loop a₀ t₀ boxes n step cut k₀ i₀ a t k i = Parting (passes boxes step cut) a₀ t₀ a t k i
+
+abbrev μ-loop : tie.MeasureT-loop
+μ-loop a₀ t₀ boxes n step cut k₀ i₀ a t k i = n - i
+
+step-of-requires : tie.Need-step-of-requires Inv-loop μ-loop
+step-of-requires c κs = search needs
+
+along-requires : tie.Need-along-requires Inv-loop μ-loop
+along-requires c κs = search needs
+
+loop-holds : tie.Need-loop-holds Inv-loop μ-loop
+loop-holds c = begin _ (c .before .before .before .before .before .args .a .now) (c .before .before .before .before .before .args .t .now)
+
+mul-p : tie.Need-mul-p Inv-loop μ-loop
+mul-p c = omega arith
+
+slice-read-p : tie.Need-slice-read-p Inv-loop μ-loop
+slice-read-p c = omega arith
+
+mul-a : tie.Need-mul-a Inv-loop μ-loop
+mul-a c = omega arith
+
+slice-write-a : tie.Need-slice-write-a Inv-loop μ-loop
+slice-write-a c = omega arith
+
+sub-t : tie.Need-sub-t Inv-loop μ-loop
+sub-t c = omega arith
+
+mul-t : tie.Need-mul-t Inv-loop μ-loop
+mul-t c = omega arith
+
+slice-write-t : tie.Need-slice-write-t Inv-loop μ-loop
+slice-write-t c = omega arith
+
+one-if-above-requires : tie.Need-one-if-above-requires Inv-loop μ-loop
+one-if-above-requires c κs =
+    let l = c .before .before .loop in
+    let g = c .before .before .before .before .before .before .before .before in
+    let e = next-same _ (g .args .a .now) (g .args .t .now) (l .a) (l .t) (l .k) (l .i) (l .inv) (omega arith) in
+    (rw e (within-at _ (g .args .a .now) (l .i) (g .pre .1) (omega arith)), omega (arith, c .before .before .before .before .step-of .ensures, step-small (g .args .axis)))
+
+add-k : tie.Need-add-k Inv-loop μ-loop
+add-k c =
+    let l = c .before .before .before .loop in
+    omega (arith, c .one-if-above .ensures, one-or-none (passes (c .before .before .before .before .before .before .before .before .before .args .boxes .now) (c .before .before .before .before .before .step-of .result) (c .before .before .before .before .along .result) (getD (l .a) (l .i) 0)))
+
+add-i : tie.Need-add-i Inv-loop μ-loop
+add-i c = omega arith
+
+loop-less : tie.Need-loop-less Inv-loop μ-loop
+loop-less c = omega arith
+
+loop-again : tie.Need-loop-again Inv-loop μ-loop
+loop-again c =
+    let l = c .before .before .before .loop in
+    let g = c .before .before .before .before .before .before .before .before .before in
+    turn _ (g .args .a .now) (g .args .t .now) (l .a) (l .t) (l .k) (l .i) (c .one-if-above .result) (l .inv) (omega arith) (g .pre .0) (c .one-if-above .ensures)
+
+sub-paste : tie.Need-sub-paste Inv-loop μ-loop
+sub-paste c = omega arith
+
+paste-requires : tie.Need-paste-requires Inv-loop μ-loop
+paste-requires c κs = omega arith
+
+same-length : tie.Need-same-length Inv-loop μ-loop
+same-length c = c .before .before .paste .kept .0 ∙ c .before .before .before .before .before .before .loop .inv .len-a
+
+same-length-2 : tie.Need-same-length-2 Inv-loop μ-loop
+same-length-2 c = c .before .before .before .before .before .before .loop .inv .len-t
+
+returns : tie.Need-returns Inv-loop μ-loop
+returns c =
+    let l = c .before .before .before .before .before .before .loop in
+    let g = c .before .before .before .before .before .before .before .before .before .before .before .before in
+    let ps = g .args .a .now in
+    let e = passes-above (g .args .boxes .now) (g .args .avg) (g .args .axis) (c .before .before .before .before .before .before .before .before .step-of .result) (c .before .before .before .before .before .before .before .along .result) (c .before .before .before .before .before .before .before .before .step-of .ensures) (c .before .before .before .before .before .before .before .along .ensures) in
+    rw (← e, c .before .before .paste .ensures) (parted _ ps (g .args .t .now) (l .a) (l .t) (l .k) (l .i) (l .inv) (omega arith) (g .pre .0))
+
+pub partition-spec : {M : Type 1} → statement M
+partition-spec =
+    tie.close
+    (tie.spec
+    Inv-loop
+    μ-loop
+    step-of-requires
+    along-requires
+    loop-holds
+    mul-p
+    slice-read-p
+    mul-a
+    slice-write-a
+    sub-t
+    mul-t
+    slice-write-t
+    one-if-above-requires
+    add-k
+    add-i
+    loop-less
+    loop-again
+    sub-paste
+    paste-requires
+    same-length
+    same-length-2
+    returns)

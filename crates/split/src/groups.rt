@@ -1,0 +1,153 @@
+// The two groups of a node's items: the counts that choose the axis, the partition, and the larger group first.
+use crate::average::Axis;
+use crate::boxes::Place;
+use math::vec3::Vec3;
+ghost use mathlib.Core.Path.{_≡_};
+ghost use mathlib.Core.List.{_++_};
+ghost use Prim.Native.Nat.{_+_, _*_, _≤_, _<_};
+ghost use lib.ListN.{length, take, drop};
+ghost use lib.Seq.{paste};
+ghost use lib.Ieee.{lt};
+ghost use Rattle.split.specs.Boxes.{boxAt};
+ghost use Rattle.split.specs.Lists.{oneIf, Within};
+ghost use Rattle.split.specs.Rule.{above, offset};
+ghost use Rattle.split.specs.Groups.{countsOf, axisBy, stepOf, passes, Parted, LargerFirst};
+
+// How many centres are below the average, on each axis.
+pub struct Counts {
+    pub x: u32,
+    pub y: u32,
+    pub z: u32,
+}
+
+// 1 where a is below b, else 0: a NaN is below nothing, and nothing below it.
+fn one_if_below(a: f32, b: f32) -> u32
+    ensures { λ r. ⌜ r ≡ oneIf (lt a b) ⌝ }
+{
+    if a < b { 1 } else { 0 }
+}
+
+// The counts on the three axes, in one pass.
+pub fn count_below(boxes: &[u32], places: &[u32], avg: Vec3) -> Counts
+    requires { ⌜ (Within (length (now boxes)) (now places)) × (length (now places) < 65536) ⌝ }
+    ensures { λ r. ⌜ r ≡ countsOf (boxAt (now (boxes .entry))) avg (now (places .entry)) ⌝ }
+{
+    let mut counts = Counts { x: 0, y: 0, z: 0 };
+    let mut i = 0;
+    while i < places.len() {
+        let c = crate::average::centre(crate::boxes::box_at(boxes, Place(places[i])));
+        counts = Counts {
+            x: counts.x + one_if_below(c.x, avg.x),
+            y: counts.y + one_if_below(c.y, avg.y),
+            z: counts.z + one_if_below(c.z, avg.z),
+        };
+        i += 1;
+    }
+    counts
+}
+
+// Twice the distance of the count c from n / 2: whole numbers, where the source has floats that are exact.
+fn offset(n: u32, c: u32) -> u32
+    requires { ⌜ (n < 65536) × (c ≤ n) ⌝ }
+    ensures { λ r. ⌜ r ≡ offset n c ⌝ }
+{
+    let d = 2 * c;
+    if d < n { n - d } else { d - n }
+}
+
+// The axis whose count is nearest n / 2, x before y before z.
+pub fn choose_axis(n: u32, c: Counts) -> Axis
+    requires { ⌜ (n < 65536) × (c .x ≤ n) × (c .y ≤ n) × (c .z ≤ n) ⌝ }
+    ensures { λ r. ⌜ r ≡ axisBy n c ⌝ }
+{
+    let x = offset(n, c.x);
+    let y = offset(n, c.y);
+    let z = offset(n, c.z);
+    if x <= y && x <= z {
+        Axis::X
+    } else if y <= z {
+        Axis::Y
+    } else {
+        Axis::Z
+    }
+}
+
+fn step_of(a: Axis) -> usize
+    ensures { λ r. ⌜ r ≡ stepOf a ⌝ }
+{
+    match a {
+        Axis::X => 0,
+        Axis::Y => 1,
+        Axis::Z => 2,
+    }
+}
+
+// 1 where the place's centre is above the cut, else 0, on the axis that comes `step` words after x. Only that axis is read.
+fn one_if_above(boxes: &[u32], place: Place, step: usize, cut: f32) -> usize
+    requires { ⌜ (6 * place .0 + 6 ≤ length (now boxes)) × (step < 3) ⌝ }
+    ensures { λ r. ⌜ r ≡ oneIf (passes (now (boxes .entry)) step cut (place .0)) ⌝ }
+{
+    let at = 6 * (place.0 as usize) + step;
+    let low = float32::words::value(boxes[at]);
+    let high = float32::words::value(boxes[at + 3]);
+    if (low + high) * 0.5 > cut { 1 } else { 0 }
+}
+
+// Copies the first n places of `src` into `dst`, from `at` on.
+pub fn paste(dst: &mut [u32], at: usize, src: &[u32], n: usize)
+    requires { ⌜ (at + n ≤ length (now dst)) × (n ≤ length (now src)) ⌝ }
+    ensures { λ _. ⌜ now (dst .exit) ≡ paste (now (dst .entry)) at (now (src .entry)) n ⌝ }
+{
+    let mut j = 0;
+    while j < n {
+        dst[at + j] = src[j];
+        j += 1;
+    }
+}
+
+// The places whose centre is above the average on the axis, then the others, in their order; how many are above.
+// Each place is stored at both ends, so that no branch waits for the comparison.
+pub fn partition(a: &mut [u32], t: &mut [u32], boxes: &[u32], avg: Vec3, axis: Axis) -> usize
+    requires { ⌜ (length (now a) ≤ length (now t)) × (Within (length (now boxes)) (now a)) ⌝ }
+    ensures { λ r. ⌜ Parted (above (boxAt (now (boxes .entry))) avg axis) (now (a .entry)) (now (a .exit)) r ⌝ }
+{
+    let n = a.len();
+    let step = step_of(axis);
+    let cut = crate::average::along(axis, avg);
+    let mut k = 0;
+    let mut i = 0;
+    while i < n {
+        let p = a[i];
+        a[k] = p;
+        t[i - k] = p;
+        k += one_if_above(boxes, Place(p), step, cut);
+        i += 1;
+    }
+    paste(a, k, t, n - k);
+    k
+}
+
+// The places from h on before the others.
+fn rotate(a: &mut [u32], t: &mut [u32], h: usize)
+    requires { ⌜ (length (now a) ≤ length (now t)) × (h ≤ length (now a)) ⌝ }
+    ensures { λ _. ⌜ now (a .exit) ≡ drop h (now (a .entry)) ++ take h (now (a .entry)) ⌝ }
+{
+    let n = a.len();
+    paste(t, 0, a, n);
+    let m = n - h;
+    paste(a, m, t, h);
+    paste(a, 0, &t[h..n], m);
+}
+
+// Of the first h places and the others, the larger part first; how many those are.
+pub fn larger_first(a: &mut [u32], t: &mut [u32], h: usize) -> usize
+    requires { ⌜ (length (now a) ≤ length (now t)) × (h ≤ length (now a)) ⌝ }
+    ensures { λ r. ⌜ LargerFirst h (now (a .entry)) (now (a .exit)) r ⌝ }
+{
+    let m = a.len() - h;
+    if h < m {
+        rotate(a, t, h);
+        return m;
+    }
+    h
+}
