@@ -19,7 +19,7 @@ pub fn to_i32(x: f32) -> i32
 }
 
 // The low 16 bits of n, in two's complement.
-fn low_bits(n: i32) -> u32
+pub fn low_bits(n: i32) -> u32
     ensures { λ r. ⌜ r ≡ low16bits n ⌝ }
 {
     if n >= 0 {

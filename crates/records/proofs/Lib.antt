@@ -1,0 +1,4 @@
+mod Fields
+pub mod LittleEndian
+pub mod Sizes
+pub mod Stores

@@ -1,0 +1,67 @@
+-- `put_boxed` meets its contract: four runs of stores, each from where the last one ended, are one run of 16.
+use mathlib.Core.Path.{_∙_}
+use mathlib.Core.List.{_++_}
+use Rattle.records.specs.Shorts.{shortBytes}
+use Rattle.records.specs.Records.{vertexBytes, boxedBytes}
+use Rattle.records.proofs.Fields.{same-stored}
+use Rattle.records.proofs.Sizes.{vertex-size, box-size, box-short-size, boxed-size}
+use Rattle.records.proofs.Stores.{store-next, stores-leave}
+use borrow.Author.Needs.{needs}
+use Rattle.records.proofs.put_boxed.Statement.{statement}
+use Rattle.records.proofs.put_boxed.Tie as tie
+
+put-vertex-requires : tie.Need-put-vertex-requires
+put-vertex-requires c κs = search needs
+
+add-put-vertex : tie.Need-add-put-vertex
+add-put-vertex c = search needs
+
+put-vertex-requires-2 : tie.Need-put-vertex-requires-2
+put-vertex-requires-2 c κs = search needs
+
+add-put-short : tie.Need-add-put-short
+add-put-short c = search needs
+
+put-short-requires : tie.Need-put-short-requires
+put-short-requires c κs = search needs
+
+add-put-short-2 : tie.Need-add-put-short-2
+add-put-short-2 c = search needs
+
+put-short-requires-2 : tie.Need-put-short-requires-2
+put-short-requires-2 c κs = search needs
+
+same-length : tie.Need-same-length
+same-length c = search needs
+
+returns : tie.Need-returns
+returns c =
+    let fourth = c .before .before in
+    let third = fourth .before .before .before .before in
+    let second = third .before .before .before .before in
+    let first = second .before .before .before .before in
+    let start = first .before .before .before in
+    let a = start .args in
+    let out = a .out .now in
+    let min = vertexBytes (a .min) in
+    let max = vertexBytes (a .max) in
+    let one = shortBytes (a .first) in
+    let two = shortBytes (a .second) in
+    let box = store-next out min max (a .at) 6 (vertex-size (a .min)) (first .put-vertex .ensures) (second .put-vertex2 .ensures) in
+    let more = store-next out (min ++ max) one (a .at) 12 (box-size (a .min) (a .max)) box (same-stored _ _ (a .first) (start .fits .first .sfits) (third .put-short .ensures)) in
+    let all = store-next out (min ++ max ++ one) two (a .at) 14 (box-short-size (a .min) (a .max) (a .first)) more (same-stored _ _ (a .second) (start .fits .second .sfits) (fourth .put-short2 .ensures)) in
+    all ∙ stores-leave out (boxedBytes (a .min) (a .max) (a .first) (a .second)) (a .at) 16 (boxed-size (a .min) (a .max) (a .first) (a .second)) (start .pre)
+
+pub put-boxed-spec : {M : Type 1} → statement M
+put-boxed-spec =
+    tie.close
+    (tie.spec
+    put-vertex-requires
+    add-put-vertex
+    put-vertex-requires-2
+    add-put-short
+    put-short-requires
+    add-put-short-2
+    put-short-requires-2
+    same-length
+    returns)

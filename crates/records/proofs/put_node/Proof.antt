@@ -1,0 +1,22 @@
+-- `put_node` meets its contract: what `put_boxed` ensures of the node's fields.
+use Rattle.records.proofs.Fields.{same-short}
+use borrow.Author.Needs.{needs}
+use Rattle.records.proofs.put_node.Statement.{statement}
+use Rattle.records.proofs.put_node.Tie as tie
+
+put-boxed-requires : tie.Need-put-boxed-requires
+put-boxed-requires c κs = search needs
+
+same-length : tie.Need-same-length
+same-length c = search needs
+
+returns : tie.Need-returns
+returns c =
+    let p = c .before .before in
+    let n = p .before .before .before .before .before .args .n in
+    let first = same-short (n .«item_id») (p .before .struct-told2 .given .1 .1 .0 .1) in
+    let second = same-short (n .«item_count») (p .before .struct-told2 .given .1 .1 .1 .0 .1) in
+    cc
+
+pub put-node-spec : {M : Type 1} → statement M
+put-node-spec = tie.close (tie.spec put-boxed-requires same-length returns)

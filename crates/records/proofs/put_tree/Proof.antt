@@ -1,0 +1,22 @@
+-- `put_tree` meets its contract: what `put_boxed` ensures of the tree's fields.
+use Rattle.records.proofs.Fields.{same-short}
+use borrow.Author.Needs.{needs}
+use Rattle.records.proofs.put_tree.Statement.{statement}
+use Rattle.records.proofs.put_tree.Tie as tie
+
+put-boxed-requires : tie.Need-put-boxed-requires
+put-boxed-requires c κs = search needs
+
+same-length : tie.Need-same-length
+same-length c = search needs
+
+returns : tie.Need-returns
+returns c =
+    let p = c .before .before in
+    let t = p .before .before .before .before .before .args .t in
+    let first = same-short (t .«node_index1») (p .before .struct-told2 .given .1 .1 .0 .1) in
+    let second = same-short (t .«node_index2») (p .before .struct-told2 .given .1 .1 .1 .0 .1) in
+    cc
+
+pub put-tree-spec : {M : Type 1} → statement M
+put-tree-spec = tie.close (tie.spec put-boxed-requires same-length returns)

@@ -1,0 +1,45 @@
+-- `tree_at` meets its contract: field by field what the calls ensure.
+use Rattle.records.proofs.Fields.{same-short}
+use borrow.Author.Needs.{needs}
+use Rattle.records.proofs.tree_at.Statement.{statement}
+use Rattle.records.proofs.tree_at.Tie as tie
+
+vertex-at-requires : tie.Need-vertex-at-requires
+vertex-at-requires c κs = search needs
+
+add-vertex-at : tie.Need-add-vertex-at
+add-vertex-at c = search needs
+
+vertex-at-requires-2 : tie.Need-vertex-at-requires-2
+vertex-at-requires-2 c κs = search needs
+
+add-short-at : tie.Need-add-short-at
+add-short-at c = search needs
+
+short-at-requires : tie.Need-short-at-requires
+short-at-requires c κs = search needs
+
+add-short-at-2 : tie.Need-add-short-at-2
+add-short-at-2 c = search needs
+
+short-at-requires-2 : tie.Need-short-at-requires-2
+short-at-requires-2 c κs = search needs
+
+returns : tie.Need-returns
+returns c =
+    let first = same-short (c .before .short-at .result) (c .before .short-at .ok) in
+    let second = same-short (c .short-at2 .result) (c .short-at2 .ok) in
+    cc
+
+pub tree-at-spec : {M : Type 1} → statement M
+tree-at-spec =
+    tie.close
+    (tie.spec
+    vertex-at-requires
+    add-vertex-at
+    vertex-at-requires-2
+    add-short-at
+    short-at-requires
+    add-short-at-2
+    short-at-requires-2
+    returns)

@@ -1,0 +1,3 @@
+pub mod LittleEndian
+pub mod Records
+pub mod Shorts
