@@ -1,3 +1,6 @@
+pub mod Header
 pub mod LittleEndian
+pub mod Quantise
 pub mod Records
+pub mod Scale
 pub mod Shorts
