@@ -3,7 +3,7 @@ use Prim.Native.Nat.{ℕ, _+_, _-_, _*_}
 use mathlib.Core.Bool.{Bool, true, false, cond, _||_}
 use mathlib.Core.List.{List, [], _∷_, _++_}
 use lib.Dec.{ltb}
-use lib.ListN.{length, drop}
+use lib.ListN.{length}
 use Rattle.split.specs.declared.boxes.BoxWords.{BoxWords}
 use Rattle.records.specs.declared.Scale.{Scale}
 use Rattle.records.specs.Quantise.{scaleOf}
@@ -13,7 +13,7 @@ use Rattle.bvh.specs.declared.core.BuiltTree.{BuiltTree}
 use Rattle.bvh.specs.Tree.{Node, grow, builder, boxOf, leafOrder, size}
 use Rattle.bvh.specs.Rows.{rows}
 use Rattle.bvh.specs.Ranges.{ranges}
-use Rattle.bvh.specs.Output.{nodesBytes, padBytes, capacityOf, treesBytes, orderOf}
+use Rattle.bvh.specs.Output.{over, nodesBytes, padBytes, capacityOf, treesBytes, orderOf}
 
 -- What a build is of: the entries' number, the box at each place, and the places of the present ones.
 pub record Entries : Type 0 where
@@ -85,10 +85,7 @@ numberOf BufferTooShort = 2
 numberOf ThresholdOutside = 3
 numberOf TooManyNodes = 4
 
--- what a buffer holds at the end: the bytes written and then what it had, or on a refusal what it had
-abbrev pub over : List ℕ → List ℕ → List ℕ
-over written before = written ++ drop (length written) before
-
+-- what a buffer holds at the end: on a refusal what it had
 abbrev pub kept : Build → List ℕ → List ℕ → List ℕ
 kept (Built b) written before = over written before
 kept TooManyEntries written before = before

@@ -4,16 +4,20 @@ use mathlib.Core.Bool.{Bool, true, false, cond}
 use mathlib.Core.List.{List, [], _∷_, _++_}
 use lib.Dec.{eqb}
 use lib.IntN.{ℤ, pos}
-use lib.ListN.{length, getD}
+use lib.ListN.{length, getD, drop}
 use Rattle.split.specs.declared.boxes.BoxWords.{BoxWords}
 use Rattle.split.specs.Lists.{pick}
 use Rattle.records.specs.declared.BvhNode.{BvhNode}
 use Rattle.records.specs.declared.BvhTree.{BvhTree}
-use Rattle.records.specs.declared.Scale.{Scale}
+use Rattle.records.specs.declared.scale.Scale.{Scale}
 use Rattle.records.specs.Records.{nodeBytes, treeBytes}
 use Rattle.records.specs.Quantise.{quantiseOf}
 use Rattle.bvh.specs.Rows.{Row}
 use Rattle.bvh.specs.Ranges.{Range}
+
+-- what a buffer holds at the end: the bytes written and then what it had
+abbrev pub over : List ℕ → List ℕ → List ℕ
+over written before = written ++ drop (length written) before
 
 -- Rule R11 (01, Records and ranges; bvh.rs, item_id): an inner node's id is its number of nodes. A leaf's is its first position:
 -- the list place of its item at threshold 1, else the place in the leaf order. An empty leaf's is 0.

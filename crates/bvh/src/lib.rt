@@ -1,2 +1,3 @@
 // From boxes to tree records.
-pub mod grow;
+pub mod emit;
+pub mod items;

@@ -1,0 +1,4 @@
+pub mod EmitLaws
+pub mod MarkedLaws
+pub mod RowsInLaws
+pub mod WordLaws
