@@ -1,6 +1,10 @@
-pub mod Lawful
-pub mod Places
-pub mod TreeLaws
-pub mod RangeLaws
+pub mod EmitLaws
 mod EntryWords
 mod ItemWords
+pub mod Lawful
+pub mod MarkedLaws
+pub mod Places
+pub mod RangeLaws
+pub mod RowsInLaws
+pub mod TreeLaws
+pub mod WordLaws

@@ -1,10 +1,10 @@
-pub mod Laid
-pub mod Flat
-pub mod Numbers
 pub mod Build
 pub mod Decode
 pub mod Entry
+pub mod Flat
 pub mod Items
+pub mod Laid
+pub mod Numbers
 pub mod Output
 pub mod Ranges
 pub mod Rows

@@ -1,6 +1,7 @@
 // From boxes to tree records.
+pub mod emit;
 pub mod entry;
 pub mod grow;
-pub mod sizes;
-pub mod ranges;
 pub mod items;
+pub mod ranges;
+pub mod sizes;

@@ -1,0 +1,64 @@
+-- What is written: how many bytes it has, and that what is written part after part is written as one.
+use Prim.Native.Nat.{ℕ, zero, suc, _+_, _-_, _*_, _≤_, _<_}
+use native.Mathlib.Omega.{arith}
+use native.Mathlib.Numerals.{add-one}
+use mathlib.Core.Path.{_≡_, refl, sym, ap, ap₂, _∙_}
+use mathlib.Core.List.{List, [], _∷_, _++_, append-assoc, append-nil}
+use lib.ListN.{length, getD, take, drop, set, length-append}
+use lib.Seq.{take-at, drop-append-add, drop-drop, drop-cons, set-at}
+use Rattle.records.specs.declared.scale.Scale.{Scale}
+use Rattle.records.specs.Records.{nodeBytes}
+use Rattle.records.proofs.Sizes.{node-bytes}
+use Rattle.bvh.specs.Rows.{Row}
+use Rattle.bvh.specs.Output.{over, nodeOf, nodesBytes, padNode, padBytes}
+
+-- Another part behind what is written.
+pub over-more : (written part before : List ℕ) (m n : ℕ) → length written ≡ m → length part ≡ n
+    → take m (over written before) ++ (part ++ drop (m + n) (over written before)) ≡ over (written ++ part) before
+over-more written part before m n e f =
+    let kept : take m (over written before) ≡ written = take-at written (drop (length written) before) m e in
+    let past : drop (m + n) (over written before) ≡ drop (length (written ++ part)) before =
+    ap (λ (k : ℕ). drop (k + n) (over written before)) (sym e)
+    ∙ drop-append-add written (drop (length written) before) n
+    ∙ drop-drop n (length written) before
+    ∙ ap (λ (k : ℕ). drop k before) (ap (λ (k : ℕ). length written + k) (sym f) ∙ sym (length-append written part)) in
+    ap₂ (λ (a b : List ℕ). a ++ (part ++ b)) kept past ∙ sym (append-assoc written part (drop (length (written ++ part)) before))
+
+-- One number behind what is written.
+pub over-one : (written before : List ℕ) (x i : ℕ) → length written ≡ i → i < length before → set (over written before) i x ≡ over (written ++ (x ∷ [])) before
+over-one written before x i e h =
+    let cut : drop (length written) before ≡ getD before i 0 ∷ drop (suc i) before = ap (λ (k : ℕ). drop k before) e ∙ drop-cons before i 0 h in
+    let next : suc i ≡ length (written ++ (x ∷ [])) = omega (arith, length-append written (x ∷ [])) in
+    ap (λ (l : List ℕ). set (written ++ l) i x) cut
+    ∙ set-at written (getD before i 0) (drop (suc i) before) x i e
+    ∙ ap (λ (k : ℕ). written ++ x ∷ drop k before) next
+    ∙ sym (append-assoc written (x ∷ []) (drop (length (written ++ (x ∷ []))) before))
+
+pub length-nodes : (s : Scale) (th : ℕ) (order : List ℕ) (rs : List Row) → length (nodesBytes s th order rs) ≡ 16 * length rs
+length-nodes s th order [] = refl
+length-nodes s th order (r ∷ rs) =
+    omega (arith, length-append (nodeBytes (nodeOf s th order r)) (nodesBytes s th order rs), node-bytes (nodeOf s th order r) .size, length-nodes s th order rs)
+
+pub nodes-append : (s : Scale) (th : ℕ) (order : List ℕ) (rs qs : List Row) → nodesBytes s th order (rs ++ qs) ≡ nodesBytes s th order rs ++ nodesBytes s th order qs
+nodes-append s th order [] qs = refl
+nodes-append s th order (r ∷ rs) qs =
+    ap (λ (bs : List ℕ). nodeBytes (nodeOf s th order r) ++ bs) (nodes-append s th order rs qs)
+    ∙ sym (append-assoc (nodeBytes (nodeOf s th order r)) (nodesBytes s th order rs) (nodesBytes s th order qs))
+
+pub length-pad : (k : ℕ) → length (padBytes k) ≡ 16 * k
+length-pad zero = refl
+length-pad (suc k) = omega (arith, length-append (nodeBytes padNode) (padBytes k), node-bytes padNode .size, length-pad k)
+
+pub pad-more : (k : ℕ) → padBytes (k + 1) ≡ padBytes k ++ nodeBytes padNode
+pad-more k = rw add-one (go k)
+  where
+    go : (k : ℕ) → padBytes (suc k) ≡ padBytes k ++ nodeBytes padNode
+    go zero = append-nil (nodeBytes padNode)
+    go (suc k) = ap (λ (bs : List ℕ). nodeBytes padNode ++ bs) (go k) ∙ sym (append-assoc (nodeBytes padNode) (padBytes k) (nodeBytes padNode))
+
+-- Padding that is put from `from` up to `upto`, behind `from` records that are written.
+pub padded : (written before : List ℕ) (from upto : ℕ) → length written ≡ 16 * from → from ≤ upto
+    → take (16 * from) (over written before) ++ (padBytes (upto - from) ++ drop (16 * upto) (over written before)) ≡ over (written ++ padBytes (upto - from)) before
+padded written before from upto e h =
+    let k : 16 * upto ≡ 16 * from + 16 * (upto - from) = omega arith in
+    rw k (over-more written (padBytes (upto - from)) before (16 * from) (16 * (upto - from)) e (length-pad (upto - from)))
