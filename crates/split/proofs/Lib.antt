@@ -1,3 +1,4 @@
+mod BoxOrder
 mod Counting
 pub mod DivideLaws
 mod Parting

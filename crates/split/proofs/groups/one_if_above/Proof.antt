@@ -22,6 +22,9 @@ mul-at c = search needs
 add-at : tie.Need-add-at
 add-at c = search needs
 
+add-at-2 : tie.Need-add-at-2
+add-at-2 c = search needs
+
 mul-value : tie.Need-mul-value
 mul-value c = search needs
 
@@ -56,6 +59,7 @@ one-if-above-spec =
     cast-at
     mul-at
     add-at
+    add-at-2
     mul-value
     shared-slice-read-value
     value-requires
