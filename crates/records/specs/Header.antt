@@ -29,29 +29,29 @@ pointsBytes h =
     ++ pointBytes (bitsOf (h .scale .inverse))
     ++ pointBytes (bitsOf (h .scale .quantum))
 
--- Rule R8 (01: tree address, count twice (u16), 4 zeros; base.rs, write_simple_list64).
+-- Rule R6 (01: tree address, count twice (u16), 4 zeros; base.rs, write_simple_list64).
 unfoldable pub treeListBytes : Bvh → List ℕ
 treeListBytes h = littleEndian 8 (h .«trees_address») ++ littleEndian 2 (h .«trees_count») ++ littleEndian 2 (h .«trees_count») ++ replicate 4 0
 
--- Rule R9 (01: the header is 128 bytes).
+-- Rule R8 (01: the header is 128 bytes): the nodes, the points, the trees.
 unfoldable pub headerBytes : Bvh → List ℕ
 headerBytes h = nodeListBytes h ++ pointsBytes h ++ treeListBytes h
 
--- The number that 01 gives each answer; 0 for no refusal.
+-- Rule R9 (01, What each operation turns down): the number of each answer; 0 for no refusal.
 abbrev pub headerNumber : Header → ℕ
 headerNumber Written = 0
 headerNumber TooManyTrees = 1
 headerNumber BufferTooShort = 2
 
--- Rule R10 (01, Tree header: 1 over 65,535 trees; 2 under 128 bytes): the checks in this order.
+-- Rule R9 (01, Tree header: 1 over 65,535 trees; 2 under 128 bytes): the checks in this order.
 abbrev pub headerAnswer : Bvh → List ℕ → ℕ
 headerAnswer h out = cond (ltb 65535 (h .«trees_count»)) 1 (cond (ltb (length out) 128) 2 0)
 
--- Rule R10 (01: a refusal changes no output buffer): the bytes at exit.
+-- Rule R9 (01: a refusal changes no output buffer): the bytes at exit.
 unfoldable pub headerExit : Bvh → List ℕ → List ℕ
 headerExit h out = cond (eqb (headerAnswer h out) 0) (headerBytes h ++ drop 128 out) out
 
--- Rule R10: what `tree_header` promises of its answer r and of the bytes after it.
+-- Rule R9: what `tree_header` promises of its answer r and of the bytes after it.
 pub record Headed (h : Bvh) (before after : List ℕ) (r : Header) : Type 0 where
   pub answer : headerNumber r ≡ headerAnswer h before
   pub bytes : after ≡ headerExit h before

@@ -1,4 +1,4 @@
--- Node and tree records (01, Records and ranges; bvh.rs, the Pod forms of BvhNode and BvhTree). Definitions only.
+-- Node and tree records (01, Records and ranges). Definitions only.
 use Prim.Native.Nat.{ℕ, _+_}
 use mathlib.Core.List.{List, _++_}
 use lib.IntN.{ℤ}
@@ -9,29 +9,30 @@ use Rattle.records.specs.declared.BvhNode.{BvhNode}
 use Rattle.records.specs.declared.BvhTree.{BvhTree}
 use Rattle.records.specs.Shorts.{shortBytes, shortAt}
 
--- a quantised point: x, y, z
+-- Rule R3 (bvh.rs, the Pod forms): a quantised point is x, y, z.
 unfoldable pub vertexBytes : BoundVertex → List ℕ
 vertexBytes v = shortBytes (v .0) ++ shortBytes (v .1) ++ shortBytes (v .2)
 
 abbrev pub vertexAt : List ℕ → ℕ → BoundVertex
 vertexAt bytes k = record { 0 = shortAt bytes k; 1 = shortAt bytes (k + 2); 2 = shortAt bytes (k + 4) }
 
--- Rule R3 (bvh.rs, Pod::write): min, max, then two numbers.
+-- Rule R3: a box, min then max, then two numbers.
 unfoldable pub boxedBytes : BoundVertex → BoundVertex → ℤ → ℤ → List ℕ
 boxedBytes min max first second = vertexBytes min ++ vertexBytes max ++ shortBytes first ++ shortBytes second
 
--- Rule R4 (01: min, max, item id, item count).
+-- Rule R4 (01: min, max, item id, item count; bvh.rs, BvhNode::write).
 unfoldable pub nodeBytes : BvhNode → List ℕ
 nodeBytes n = boxedBytes (n .min) (n .max) (n .«item_id») (n .«item_count»)
 
--- Rule R5 (01: a box, its first node, and one past its last).
+-- Rule R5 (01: a box, its first node, and one past its last; bvh.rs, BvhTree::write).
 unfoldable pub treeBytes : BvhTree → List ℕ
 treeBytes t = boxedBytes (t .min) (t .max) (t .«node_index1») (t .«node_index2»)
 
--- the record that stands at k
+-- Rule R4 (bvh.rs, BvhNode::read): the node that stands at k.
 abbrev pub nodeAt : List ℕ → ℕ → BvhNode
 nodeAt bytes k = record { min = vertexAt bytes k; max = vertexAt bytes (k + 6); «item_id» = shortAt bytes (k + 12); «item_count» = shortAt bytes (k + 14) }
 
+-- Rule R5 (bvh.rs, BvhTree::read): the tree that stands at k.
 abbrev pub treeAt : List ℕ → ℕ → BvhTree
 treeAt bytes k = record { min = vertexAt bytes k; max = vertexAt bytes (k + 6); «node_index1» = shortAt bytes (k + 12); «node_index2» = shortAt bytes (k + 14) }
 
