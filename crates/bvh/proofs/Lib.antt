@@ -1,1 +1,3 @@
 pub mod RangeLaws
+pub mod RowBoxes
+pub mod Scanning

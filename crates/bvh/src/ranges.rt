@@ -7,10 +7,10 @@ use split::boxes::BoxWords;
 ghost use mathlib.Core.Path.{_≡_};
 ghost use mathlib.Core.List.{_++_};
 ghost use Prim.Native.Nat.{_+_, _*_, _≤_, _<_};
-ghost use lib.ListN.{length, take, drop};
+ghost use lib.ListN.{length, getD, take, drop};
 ghost use Rattle.records.specs.Records.{treeBytes};
 ghost use Rattle.split.specs.Boxes.{boxAt};
-ghost use Rattle.bvh.specs.Flat.{Flat, Scannable, TreesPut};
+ghost use Rattle.bvh.specs.Flat.{treeSize, Flat, Scannable, TreesPut};
 ghost use Rattle.bvh.specs.Output.{treeRecord};
 ghost use Rattle.bvh.specs.Tree.{Node};
 
@@ -47,4 +47,38 @@ fn put_range(trees: &mut [u8], at: usize, boxes: &[u32], first: usize, last: usi
         node_index2: last as i16,
     };
     records::put_tree(trees, at, t);
+}
+
+// How many nodes the tree at row i has.
+fn tree_size(first: &[u32], count: &[u32], i: usize) -> usize
+    requires { ⌜ (i < length (now first)) × (i < length (now count)) ⌝ }
+    ensures { λ r. ⌜ r ≡ treeSize (getD (now (first .entry)) i 0) (getD (now (count .entry)) i 0) ⌝ }
+{
+    if count[i] == 0 {
+        // The leaf of a tree of no items has the count 0 too, and the head 0.
+        if 1 < first[i] { first[i] as usize } else { 1 }
+    } else {
+        1
+    }
+}
+
+// The records of the ranges of the tree whose rows the slices hold, and how many they are. From the first row on: a tree over 127 nodes is left for its children, any other is a range, and its rows are passed.
+pub fn put_trees(trees: &mut [u8], first: &[u32], count: &[u32], boxes: &[u32], scale: Scale) -> usize
+    requires { ⌜ Scannable (now first) (now count) (now boxes) (now trees) ⌝ }
+    ensures { λ r. ⌜ ((t : Node) → Flat t (now (first .entry)) (now (count .entry)) (now (boxes .entry)) → TreesPut scale t (now (trees .entry)) (now (trees .exit)) r) ⌝ }
+{
+    let n = first.len();
+    let mut i = 0;
+    let mut k = 0;
+    while i < n {
+        let size = tree_size(first, count, i);
+        if 127 < size {
+            i += 1;
+        } else {
+            put_range(trees, 16 * k, boxes, i, i + size, scale);
+            k += 1;
+            i += size;
+        }
+    }
+    k
 }
