@@ -7,7 +7,7 @@ use mathlib.Core.Bool.{Bool, true, false, cond}
 use mathlib.Core.List.{List, [], _∷_, _++_, append-assoc, append-nil, List·Memᴰ, List·Memᴰ·head, Memᴰ·append-right}
 use mathlib.Core.Path.{_≡_, refl, sym, ap, ap₂, _∙_}
 use lib.Dec.{leb, eqb}
-use lib.ListN.{length, getD, take, drop, length-append, length-drop, take-append-drop, drop-of-length-le, List·getD-map}
+use lib.ListN.{length, getD, take, drop, length-append, length-drop, take-append-drop, drop-of-length-le, List·getD-map, length-map}
 use lib.Seq.{take-at, drop-at, drop-cons, drop-drop, take-add, take-all, length-take-le}
 use borrow.Author.Tests.{eq-eqb, ne-eqb, le-leb, lt-leb, leb-true, leb-false, eqb-true}
 use Rattle.records.specs.declared.scale.Scale.{Scale}
@@ -19,9 +19,9 @@ use Rattle.bvh.specs.Tree.{Node, leaf, inner, leafOrder, size}
 use Rattle.bvh.specs.Rows.{Row, rows, heads, counts}
 use Rattle.bvh.specs.Ranges.{Range, ranges, pickRanges}
 use Rattle.bvh.specs.Output.{treeRecord, treesBytes, over}
-use Rattle.bvh.specs.Flat.{Full, Filled, treeSize, Flat, TreesPut}
+use Rattle.bvh.specs.Flat.{Full, Filled, treeSize, Flat, Scannable, TreesPut}
 use Rattle.bvh.proofs.RangeLaws.{length-rows, subtree-within, range-is-subtree}
-use Rattle.bvh.proofs.RowBoxes.{box-in-slice}
+use Rattle.bvh.proofs.RowBoxes.{box-in-slice, slice-room}
 
 -- ---- the scan, on rows
 
@@ -222,4 +222,65 @@ module _ (s : Scale) (t : Node) (first count boxes before trees : List ℕ) (i k
           counted = omega (arith, found-counted);
           within = found-ends;
           bytes = one-written s (take k (ranges 0 t)) found before trees k (length-take-le k (ranges 0 t) (g .counted)) (g .bytes) ∙ ap (λ (rs : List Range). over (treesBytes s rs) before) (sym taken);
+        }
+
+-- ---- for every tree whose rows the slices hold
+
+pub record Going (s : Scale) (first count boxes before trees : List ℕ) (i k : ℕ) : Type 0 where
+  pub same-length : length trees ≡ length before
+  pub each : (t : Node) → Flat t first count boxes → Scanning s t before trees i k
+
+pub start : (s : Scale) (first count boxes trees : List ℕ) → Going s first count boxes trees trees 0 0
+start s first count boxes trees = record { same-length = refl; each = λ t f. begun s t trees (f .filled) }
+
+rows-number : (t : Node) (first count boxes : List ℕ) → Flat t first count boxes → length first ≡ size t
+rows-number t first count boxes f = ap length (f .heads-are) ∙ length-map (rows 0 t) (λ (r : Row). r .head) ∙ length-rows 0 t
+
+pub finish : (s : Scale) (first count boxes before trees : List ℕ) (i k : ℕ) → Going s first count boxes before trees i k → length first ≤ i
+    → (t : Node) → Flat t first count boxes → TreesPut s t before trees k
+finish s first count boxes before trees i k g h t f =
+    ended s t before trees i k (g .each t f) (omega (arith, rows-number t first count boxes f))
+
+pub counts-number : (first count boxes trees : List ℕ) → Scannable first count boxes trees → length count ≡ length first
+counts-number first count boxes trees p =
+    let t : Node = p .tree in
+    ap length (p .flat .counts-are) ∙ length-map (rows 0 t) (λ (r : Row). r .count) ∙ length-rows 0 t ∙ sym (rows-number t first count boxes (p .flat))
+
+module _ (s : Scale) (first count boxes before trees : List ℕ) (i k n : ℕ) (p : Scannable first count boxes before) (g : Going s first count boxes before trees i k) (h : i < length first) (e : n ≡ treeSize (getD first i 0) (getD count i 0)) where
+  inside : (t : Node) → Flat t first count boxes → i < size t
+  inside t f = omega (arith, rows-number t first count boxes f)
+
+  pub pass : 127 < n → Going s first count boxes before trees (i + 1) k
+  pass big =
+      record { same-length = g .same-length; each = λ t f. passed s t first count boxes before trees i k n f (g .each t f) (inside t f) e big }
+
+  pub nodes-some : 0 < n
+  nodes-some = some-nodes s (p .tree) first count boxes before trees i k n (p .flat) (g .each (p .tree) (p .flat)) (inside (p .tree) (p .flat)) e
+
+  pub box-room : 6 * i + 6 ≤ length boxes
+  box-room =
+      let t : Node = p .tree in
+      let f : Flat t first count boxes = p .flat in
+      omega (arith, slice-room boxes (rows 0 t) (size t) (length-rows 0 t) (f .words-are), inside t f)
+
+  module _ (small : n ≤ 127) where
+    abbrev t₀ : Node
+    t₀ = p .tree
+
+    f₀ : Flat t₀ first count boxes
+    f₀ = p .flat
+
+    pub ends : i + n < 32768
+    ends = omega (arith, f₀ .few, found-ends s t₀ first count boxes before trees i k n f₀ (g .each t₀ f₀) (inside t₀ f₀) e small)
+
+    pub record-room : 16 * k + 16 ≤ length trees
+    record-room = omega (arith, p .room, g .same-length, found-counted s t₀ first count boxes before trees i k n f₀ (g .each t₀ f₀) (inside t₀ f₀) e small)
+
+    pub write : (trees′ : List ℕ) → length trees′ ≡ length trees
+        → trees′ ≡ take (16 * k) trees ++ (treeBytes (treeRecord s (record { box = boxAt boxes i; first = i; last = i + n })) ++ drop (16 * k + 16) trees)
+        → Going s first count boxes before trees′ (i + n) (k + 1)
+    write trees′ l w =
+        record {
+          same-length = l ∙ g .same-length;
+          each = λ t f. rw w (put s t first count boxes before trees i k n f (g .each t f) (inside t f) e small);
         }

@@ -67,10 +67,9 @@ pub fn put_trees(trees: &mut [u8], first: &[u32], count: &[u32], boxes: &[u32], 
     requires { ⌜ Scannable (now first) (now count) (now boxes) (now trees) ⌝ }
     ensures { λ r. ⌜ ((t : Node) → Flat t (now (first .entry)) (now (count .entry)) (now (boxes .entry)) → TreesPut scale t (now (trees .entry)) (now (trees .exit)) r) ⌝ }
 {
-    let n = first.len();
     let mut i = 0;
     let mut k = 0;
-    while i < n {
+    while i < first.len() {
         let size = tree_size(first, count, i);
         if 127 < size {
             i += 1;
