@@ -246,6 +246,13 @@ counts-number first count boxes trees p =
     let t : Node = p .tree in
     ap length (p .flat .counts-are) ∙ length-map (rows 0 t) (λ (r : Row). r .count) ∙ length-rows 0 t ∙ sym (rows-number t first count boxes (p .flat))
 
+-- what a turn that writes asks of its numbers
+pub record Turn (boxes trees : List ℕ) (i k n : ℕ) : Type 0 where
+  pub some : 0 < n
+  pub ends : i + n < 32768
+  pub box-room : 6 * i + 6 ≤ length boxes
+  pub record-room : 16 * k + 16 ≤ length trees
+
 module _ (s : Scale) (first count boxes before trees : List ℕ) (i k n : ℕ) (p : Scannable first count boxes before) (g : Going s first count boxes before trees i k) (h : i < length first) (e : n ≡ treeSize (getD first i 0) (getD count i 0)) where
   inside : (t : Node) → Flat t first count boxes → i < size t
   inside t f = omega (arith, rows-number t first count boxes f)
@@ -254,15 +261,6 @@ module _ (s : Scale) (first count boxes before trees : List ℕ) (i k n : ℕ) (
   pass big =
       record { same-length = g .same-length; each = λ t f. passed s t first count boxes before trees i k n f (g .each t f) (inside t f) e big }
 
-  pub nodes-some : 0 < n
-  nodes-some = some-nodes s (p .tree) first count boxes before trees i k n (p .flat) (g .each (p .tree) (p .flat)) (inside (p .tree) (p .flat)) e
-
-  pub box-room : 6 * i + 6 ≤ length boxes
-  box-room =
-      let t : Node = p .tree in
-      let f : Flat t first count boxes = p .flat in
-      omega (arith, slice-room boxes (rows 0 t) (size t) (length-rows 0 t) (f .words-are), inside t f)
-
   module _ (small : n ≤ 127) where
     abbrev t₀ : Node
     t₀ = p .tree
@@ -270,11 +268,17 @@ module _ (s : Scale) (first count boxes before trees : List ℕ) (i k n : ℕ) (
     f₀ : Flat t₀ first count boxes
     f₀ = p .flat
 
-    pub ends : i + n < 32768
-    ends = omega (arith, f₀ .few, found-ends s t₀ first count boxes before trees i k n f₀ (g .each t₀ f₀) (inside t₀ f₀) e small)
-
-    pub record-room : 16 * k + 16 ≤ length trees
-    record-room = omega (arith, p .room, g .same-length, found-counted s t₀ first count boxes before trees i k n f₀ (g .each t₀ f₀) (inside t₀ f₀) e small)
+    pub turn : Turn boxes trees i k n
+    turn =
+        let h₀ : i < size t₀ = inside t₀ f₀ in
+        let g₀ : Scanning s t₀ before trees i k = g .each t₀ f₀ in
+        let l = found-counted s t₀ first count boxes before trees i k n f₀ g₀ h₀ e small in
+        record {
+          some = some-nodes s t₀ first count boxes before trees i k n f₀ g₀ h₀ e;
+          ends = omega (arith, f₀ .few, found-ends s t₀ first count boxes before trees i k n f₀ g₀ h₀ e small);
+          box-room = omega (arith, slice-room boxes (rows 0 t₀) (size t₀) (length-rows 0 t₀) (f₀ .words-are));
+          record-room = omega (arith, p .room, g .same-length);
+        }
 
     pub write : (trees′ : List ℕ) → length trees′ ≡ length trees
         → trees′ ≡ take (16 * k) trees ++ (treeBytes (treeRecord s (record { box = boxAt boxes i; first = i; last = i + n })) ++ drop (16 * k + 16) trees)
