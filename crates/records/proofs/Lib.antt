@@ -1,4 +1,7 @@
+pub mod Examples
 mod Fields
+pub mod Fitting
 pub mod LittleEndian
+pub mod ReadBack
 pub mod Sizes
 pub mod Stores

@@ -1,9 +1,9 @@
--- Whole numbers as bytes: what a byte more does to a run of stores. Assumes nothing.
-use mathlib.Core.Path.{_≡_, sym, ap, _∙_}
-use mathlib.Core.List.{List}
-use Prim.Native.Nat.{ℕ, suc, _+_, _-_, _/_, _%_, _<_}
+-- Whole numbers as bytes: one byte more of a run of stores, and the bytes of 0. Assumes nothing.
+use mathlib.Core.Path.{_≡_, refl, sym, ap, _∙_}
+use mathlib.Core.List.{List, _∷_}
+use Prim.Native.Nat.{ℕ, zero, suc, _+_, _-_, _/_, _%_, _<_}
 use native.Mathlib.Omega.{arith}
-use lib.ListN.{set}
+use lib.ListN.{set, replicate}
 use lib.Seq.{sets}
 use Rattle.records.specs.LittleEndian.{littleEndian}
 
@@ -15,3 +15,12 @@ store-lowest out at size i n h =
     let next : at + (i + 1) ≡ suc (at + i) = omega arith in
     ap (λ (k : ℕ). sets (set out (at + i) (n % 256)) k (littleEndian (size - (i + 1)) (n / 256))) next
     ∙ sym (ap (λ (k : ℕ). sets out (at + i) (littleEndian k n)) less)
+
+-- The bytes of 0 are zeros.
+pub zeros : (size : ℕ) → littleEndian size 0 ≡ replicate size 0
+unfolding littleEndian
+zeros zero = refl
+zeros (suc size) = ap {B = List ℕ} (λ r. 0 ∷ r) (zeros size)
+
+pub zeros-stored : (a : List ℕ) (at size : ℕ) {b : List ℕ} → b ≡ sets a at (littleEndian size 0) → b ≡ sets a at (replicate size 0)
+zeros-stored a at size e = e ∙ ap (sets a at) (zeros size)

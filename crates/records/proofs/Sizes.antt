@@ -1,34 +1,100 @@
--- How many bytes each record has. Assumes nothing.
-use mathlib.Core.Path.{_≡_, refl}
-use mathlib.Core.List.{_++_}
-use Prim.Native.Nat.{ℕ}
+-- How many bytes each record has, each below 256, part by part. Assumes nothing.
+use mathlib.Core.Path.{_≡_, refl, sym, ap, ap₂, _∙_}
+use mathlib.Core.Bool.{true, _&&_, and-assoc}
+use mathlib.Core.List.{List, [], _∷_, _++_}
+use Prim.Native.Nat.{ℕ, zero, suc, _+_, _/_, _%_, _<_}
+use native.Mathlib.Omega.{arith}
+use lib.Dec.{ltb}
 use lib.IntN.{ℤ}
-use lib.ListN.{length}
+use lib.ListN.{length, replicate, length-append}
+use lib.Pow.{areBytes}
+use borrow.Author.Tests.{lt-ltb}
+use Rattle.float32.specs.Casts.{low16bits}
+use Rattle.math.specs.Stored.{bitsOf}
+use Rattle.math.specs.declared.words3.Words3.{Words3}
 use Rattle.records.specs.LittleEndian.{littleEndian}
 use Rattle.records.specs.Shorts.{shortBytes}
-use Rattle.records.specs.Records.{vertexBytes, boxedBytes}
+use Rattle.records.specs.Records.{vertexBytes, boxedBytes, nodeBytes, treeBytes}
+use Rattle.records.specs.Header.{nodeListBytes, pointBytes, pointsBytes, treeListBytes, headerBytes}
 use Rattle.records.specs.declared.BoundVertex.{BoundVertex}
+use Rattle.records.specs.declared.BvhNode.{BvhNode}
+use Rattle.records.specs.declared.BvhTree.{BvhTree}
+use Rattle.records.specs.declared.header.Bvh.{Bvh}
 
-pub short-size : (v : ℤ) → length (shortBytes v) ≡ 2
-unfolding shortBytes littleEndian
-short-size v = refl
+-- l is `n` bytes.
+pub record Bytes (n : ℕ) (l : List ℕ) : Type 0 where
+  pub size : length l ≡ n
+  pub each : areBytes l ≡ true
 
-pub two-shorts-size : (v w : ℤ) → length (shortBytes v ++ shortBytes w) ≡ 4
-unfolding shortBytes littleEndian
-two-shorts-size v w = refl
+each-joined : (a b : List ℕ) → areBytes (a ++ b) ≡ areBytes a && areBytes b
+each-joined [] b = refl
+each-joined (d ∷ ds) b = ap (_&&_ (ltb d 256)) (each-joined ds b) ∙ sym (and-assoc (ltb d 256) (areBytes ds) (areBytes b))
 
-pub vertex-size : (v : BoundVertex) → length (vertexBytes v) ≡ 6
-unfolding shortBytes littleEndian
-vertex-size v = refl
+pub joined : {m n : ℕ} {a b : List ℕ} → Bytes m a → Bytes n b → Bytes (m + n) (a ++ b)
+joined {m} {n} {a} {b} p q =
+    record {
+      size = length-append a b ∙ ap₂ _+_ (p .size) (q .size);
+      each = each-joined a b ∙ ap₂ _&&_ (p .each) (q .each);
+    }
 
-pub box-size : (v w : BoundVertex) → length (vertexBytes v ++ vertexBytes w) ≡ 12
-unfolding shortBytes littleEndian
-box-size v w = refl
+pub number-bytes : (n x : ℕ) → Bytes n (littleEndian n x)
+unfolding littleEndian
+number-bytes zero x = record { size = refl; each = refl }
+number-bytes (suc n) x =
+    let low : x % 256 < 256 = omega arith in
+    let rest = number-bytes n (x / 256) in
+    record { size = ap suc (rest .size); each = ap₂ _&&_ (lt-ltb (x % 256) 256 low) (rest .each) }
 
-pub boxed-size : (v w : BoundVertex) (a b : ℤ) → length (boxedBytes v w a b) ≡ 16
-unfolding shortBytes littleEndian
-boxed-size v w a b = refl
+pub zero-bytes : (n : ℕ) → Bytes n (replicate n 0)
+zero-bytes zero = record { size = refl; each = refl }
+zero-bytes (suc n) = record { size = ap suc (zero-bytes n .size); each = zero-bytes n .each }
 
-pub box-short-size : (v w : BoundVertex) (a : ℤ) → length (vertexBytes v ++ vertexBytes w ++ shortBytes a) ≡ 14
-unfolding shortBytes littleEndian
-box-short-size v w a = refl
+pub short-bytes : (v : ℤ) → Bytes 2 (shortBytes v)
+unfolding shortBytes
+short-bytes v = number-bytes 2 (low16bits v)
+
+pub vertex-bytes : (v : BoundVertex) → Bytes 6 (vertexBytes v)
+unfolding vertexBytes
+vertex-bytes v = joined (joined (short-bytes (v .0)) (short-bytes (v .1))) (short-bytes (v .2))
+
+pub boxed-bytes : (min max : BoundVertex) (first second : ℤ) → Bytes 16 (boxedBytes min max first second)
+unfolding boxedBytes
+boxed-bytes min max first second =
+    joined (joined (joined (vertex-bytes min) (vertex-bytes max)) (short-bytes first)) (short-bytes second)
+
+-- A node record is 16 bytes, and so is a tree record.
+pub node-bytes : (n : BvhNode) → Bytes 16 (nodeBytes n)
+unfolding nodeBytes
+node-bytes n = boxed-bytes (n .min) (n .max) (n .«item_id») (n .«item_count»)
+
+pub tree-bytes : (t : BvhTree) → Bytes 16 (treeBytes t)
+unfolding treeBytes
+tree-bytes t = boxed-bytes (t .min) (t .max) (t .«node_index1») (t .«node_index2»)
+
+pub node-list-bytes : (h : Bvh) → Bytes 32 (nodeListBytes h)
+unfolding nodeListBytes
+node-list-bytes h =
+    joined (joined (joined (number-bytes 8 (h .«nodes_address»)) (number-bytes 4 (h .«nodes_count»))) (number-bytes 4 (h .«nodes_capacity»))) (zero-bytes 16)
+
+pub point-bytes : (p : Words3) → Bytes 16 (pointBytes p)
+unfolding pointBytes
+point-bytes p = joined (joined (joined (number-bytes 4 (p .x)) (number-bytes 4 (p .y))) (number-bytes 4 (p .z))) (number-bytes 4 0xffc0_0000)
+
+pub points-bytes : (h : Bvh) → Bytes 80 (pointsBytes h)
+unfolding pointsBytes
+points-bytes h =
+    joined
+    (joined
+    (joined (joined (point-bytes (h .«bb_min»)) (point-bytes (h .«bb_max»))) (point-bytes (bitsOf (h .scale .cen))))
+    (point-bytes (bitsOf (h .scale .inverse))))
+    (point-bytes (bitsOf (h .scale .quantum)))
+
+pub tree-list-bytes : (h : Bvh) → Bytes 16 (treeListBytes h)
+unfolding treeListBytes
+tree-list-bytes h =
+    joined (joined (joined (number-bytes 8 (h .«trees_address»)) (number-bytes 2 (h .«trees_count»))) (number-bytes 2 (h .«trees_count»))) (zero-bytes 4)
+
+-- A header is 128 bytes.
+pub header-bytes : (h : Bvh) → Bytes 128 (headerBytes h)
+unfolding headerBytes
+header-bytes h = joined (joined (node-list-bytes h) (points-bytes h)) (tree-list-bytes h)

@@ -1,3 +1,4 @@
+pub mod Header
 pub mod LittleEndian
 pub mod Quantise
 pub mod Records

@@ -8,7 +8,6 @@ use Rattle.records.specs.LittleEndian.{littleEndian}
 
 -- Rule R2 (bvh.rs, Writer::i16): two bytes, in two's complement.
 unfoldable pub shortBytes : ℤ → List ℕ
-unfolding littleEndian
 shortBytes v = littleEndian 2 (low16bits v)
 
 -- Rule R2 (bvh.rs, i16::read): the number that the two bytes from k on stand for.

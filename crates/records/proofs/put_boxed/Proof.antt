@@ -1,11 +1,11 @@
 -- `put_boxed` meets its contract: four runs of stores, each from where the last one ended, are one run of 16.
 use mathlib.Core.Path.{_∙_}
-use mathlib.Core.List.{_++_}
+use Prim.Native.Nat.{_+_}
 use Rattle.records.specs.Shorts.{shortBytes}
 use Rattle.records.specs.Records.{vertexBytes, boxedBytes}
 use Rattle.records.proofs.Fields.{same-stored}
-use Rattle.records.proofs.Sizes.{vertex-size, box-size, box-short-size, boxed-size}
-use Rattle.records.proofs.Stores.{store-next, stores-leave}
+use Rattle.records.proofs.Sizes.{joined, short-bytes, vertex-bytes, boxed-bytes}
+use Rattle.records.proofs.Stores.{four-stores, stores-leave}
 use borrow.Author.Needs.{needs}
 use Rattle.records.proofs.put_boxed.Statement.{statement}
 use Rattle.records.proofs.put_boxed.Tie as tie
@@ -35,6 +35,7 @@ same-length : tie.Need-same-length
 same-length c = search needs
 
 returns : tie.Need-returns
+unfolding boxedBytes
 returns c =
     let fourth = c .before .before in
     let third = fourth .before .before .before .before in
@@ -42,15 +43,13 @@ returns c =
     let first = second .before .before .before .before in
     let start = first .before .before .before in
     let a = start .args in
-    let out = a .out .now in
-    let min = vertexBytes (a .min) in
-    let max = vertexBytes (a .max) in
-    let one = shortBytes (a .first) in
-    let two = shortBytes (a .second) in
-    let box = store-next out min max (a .at) 6 (vertex-size (a .min)) (first .put-vertex .ensures) (second .put-vertex2 .ensures) in
-    let more = store-next out (min ++ max) one (a .at) 12 (box-size (a .min) (a .max)) box (same-stored _ _ (a .first) (start .fits .first .sfits) (third .put-short .ensures)) in
-    let all = store-next out (min ++ max ++ one) two (a .at) 14 (box-short-size (a .min) (a .max) (a .first)) more (same-stored _ _ (a .second) (start .fits .second .sfits) (fourth .put-short2 .ensures)) in
-    all ∙ stores-leave out (boxedBytes (a .min) (a .max) (a .first) (a .second)) (a .at) 16 (boxed-size (a .min) (a .max) (a .first) (a .second)) (start .pre)
+    let box = joined (vertex-bytes (a .min)) (vertex-bytes (a .max)) in
+    let one = same-stored _ (a .at + 12) (a .first) (start .fits .first .sfits) (third .put-short .ensures) in
+    let two = same-stored _ (a .at + 14) (a .second) (start .fits .second .sfits) (fourth .put-short2 .ensures) in
+    four-stores (a .out .now) (vertexBytes (a .min)) (vertexBytes (a .max)) (shortBytes (a .first)) (shortBytes (a .second)) (a .at) 6 12 14
+    (vertex-bytes (a .min) .size) (box .size) (joined box (short-bytes (a .first)) .size)
+    (first .put-vertex .ensures) (second .put-vertex2 .ensures) one two
+    ∙ stores-leave (a .out .now) (boxedBytes (a .min) (a .max) (a .first) (a .second)) (a .at) 16 (boxed-bytes (a .min) (a .max) (a .first) (a .second) .size) (start .pre)
 
 pub put-boxed-spec : {M : Type 1} → statement M
 put-boxed-spec =

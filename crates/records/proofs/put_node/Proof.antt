@@ -1,4 +1,5 @@
 -- `put_node` meets its contract: what `put_boxed` ensures of the node's fields.
+use Rattle.records.specs.Records.{nodeBytes}
 use Rattle.records.proofs.Fields.{same-short}
 use borrow.Author.Needs.{needs}
 use Rattle.records.proofs.put_node.Statement.{statement}
@@ -11,6 +12,7 @@ same-length : tie.Need-same-length
 same-length c = search needs
 
 returns : tie.Need-returns
+unfolding nodeBytes
 returns c =
     let p = c .before .before in
     let n = p .before .before .before .before .before .args .n in

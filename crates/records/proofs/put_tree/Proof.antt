@@ -1,4 +1,5 @@
 -- `put_tree` meets its contract: what `put_boxed` ensures of the tree's fields.
+use Rattle.records.specs.Records.{treeBytes}
 use Rattle.records.proofs.Fields.{same-short}
 use borrow.Author.Needs.{needs}
 use Rattle.records.proofs.put_tree.Statement.{statement}
@@ -11,6 +12,7 @@ same-length : tie.Need-same-length
 same-length c = search needs
 
 returns : tie.Need-returns
+unfolding treeBytes
 returns c =
     let p = c .before .before in
     let t = p .before .before .before .before .before .args .t in

@@ -2,8 +2,9 @@
 use mathlib.Core.List.{_++_}
 use Prim.Native.Nat.{_+_}
 use Rattle.records.specs.Shorts.{shortBytes}
+use Rattle.records.specs.Records.{vertexBytes}
 use Rattle.records.proofs.Fields.{same-stored}
-use Rattle.records.proofs.Sizes.{short-size, two-shorts-size}
+use Rattle.records.proofs.Sizes.{joined, short-bytes}
 use Rattle.records.proofs.Stores.{store-next}
 use borrow.Author.Needs.{needs}
 use Rattle.records.proofs.put_vertex.Statement.{statement}
@@ -28,18 +29,18 @@ same-length : tie.Need-same-length
 same-length c = search needs
 
 returns : tie.Need-returns
+unfolding vertexBytes
 returns c =
     let third = c .before .before in
     let second = third .before .before .before .before .before in
     let first = second .before .before .before .before .before in
     let a = first .before .before .before .before .args in
-    let out = a .out .now in
     let v = a .v in
-    let x = same-stored out (a .at) (v .0) (first .before .struct-told .given .0 .1) (first .put-short .ensures) in
+    let x = same-stored _ (a .at) (v .0) (first .before .struct-told .given .0 .1) (first .put-short .ensures) in
     let y = same-stored _ (a .at + 2) (v .1) (second .before .struct-told2 .given .1 .0 .1) (second .put-short2 .ensures) in
     let z = same-stored _ (a .at + 4) (v .2) (third .before .struct-told3 .given .1 .1 .0 .1) (third .put-short3 .ensures) in
-    let xy = store-next out (shortBytes (v .0)) (shortBytes (v .1)) (a .at) 2 (short-size (v .0)) x y in
-    store-next out (shortBytes (v .0) ++ shortBytes (v .1)) (shortBytes (v .2)) (a .at) 4 (two-shorts-size (v .0) (v .1)) xy z
+    let xy = store-next (a .out .now) (shortBytes (v .0)) (shortBytes (v .1)) (a .at) 2 (short-bytes (v .0) .size) x y in
+    store-next (a .out .now) (shortBytes (v .0) ++ shortBytes (v .1)) (shortBytes (v .2)) (a .at) 4 (joined (short-bytes (v .0)) (short-bytes (v .1)) .size) xy z
 
 pub put-vertex-spec : {M : Type 1} → statement M
 put-vertex-spec =

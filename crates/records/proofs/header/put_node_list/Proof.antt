@@ -1,0 +1,62 @@
+-- `header::put_node_list` meets its contract: four runs of stores, each from where the last one ended, are one run, and the bytes of 0 are zeros.
+use mathlib.Core.Path.{_∙_, ap}
+use mathlib.Core.List.{List}
+use Prim.Native.Nat.{ℕ}
+use lib.ListN.{replicate}
+use lib.Seq.{sets}
+use Rattle.records.specs.LittleEndian.{littleEndian}
+use Rattle.records.specs.Header.{nodeListBytes}
+use Rattle.records.proofs.LittleEndian.{zeros-stored}
+use Rattle.records.proofs.Sizes.{joined, number-bytes}
+use Rattle.records.proofs.Stores.{four-stores}
+use borrow.Author.Needs.{needs}
+use Rattle.records.proofs.header.put_node_list.Statement.{statement}
+use Rattle.records.proofs.header.put_node_list.Tie as tie
+
+put-le-requires : tie.Need-put-le-requires
+put-le-requires c κs = search needs
+
+cast-put-le : tie.Need-cast-put-le
+cast-put-le c = search needs
+
+put-le-requires-2 : tie.Need-put-le-requires-2
+put-le-requires-2 c κs = search needs
+
+cast-put-le-2 : tie.Need-cast-put-le-2
+cast-put-le-2 c = search needs
+
+put-le-requires-3 : tie.Need-put-le-requires-3
+put-le-requires-3 c κs = search needs
+
+put-le-requires-4 : tie.Need-put-le-requires-4
+put-le-requires-4 c κs = search needs
+
+same-length : tie.Need-same-length
+same-length c = search needs
+
+returns : tie.Need-returns
+unfolding nodeListBytes
+returns c =
+    let fourth = c .before .before in
+    let third = fourth .before .before .before .before in
+    let second = third .before .before .before .before .before in
+    let first = second .before .before .before .before .before in
+    let a = first .before .before .before .args in
+    let h = a .h in
+    let two = joined (number-bytes 8 (h .«nodes_address»)) (number-bytes 4 (h .«nodes_count»)) in
+    four-stores (a .out .now) (littleEndian 8 (h .«nodes_address»)) (littleEndian 4 (h .«nodes_count»)) (littleEndian 4 (h .«nodes_capacity»)) (replicate 16 0) 0 8 12 16
+    (number-bytes 8 (h .«nodes_address») .size) (two .size) (joined two (number-bytes 4 (h .«nodes_capacity»)) .size)
+    (first .put-le .ensures) (second .put-le2 .ensures) (third .put-le3 .ensures) (zeros-stored _ 16 16 (fourth .put-le4 .ensures))
+
+pub put-node-list-spec : {M : Type 1} → statement M
+put-node-list-spec =
+    tie.close
+    (tie.spec
+    put-le-requires
+    cast-put-le
+    put-le-requires-2
+    cast-put-le-2
+    put-le-requires-3
+    put-le-requires-4
+    same-length
+    returns)
