@@ -1,3 +1,2 @@
 pub mod RangeLaws
-pub mod RowBoxes
-pub mod Scanning
+pub mod FlatLaws

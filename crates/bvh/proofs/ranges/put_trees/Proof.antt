@@ -7,7 +7,7 @@ use Rattle.bvh.proofs.ranges.put_range.Reads as put-range-reads
 use Rattle.bvh.proofs.ranges.tree_size.Reads as tree-size-reads
 use Prim.Native.Nat.{_+_, _-_, _*_, _≤_, _<_}
 use lib.ListN.{length}
-use Rattle.bvh.proofs.Scanning.{Going, Turn, start, finish, counts-number, pass, turn, write}
+use Rattle.bvh.proofs.ranges.Scanning.{Going, Turn, start, finish, counts-number, pass, turn, write}
 use native.Mathlib.Omega.{arith}
 
 abbrev Inv-loop : tie.InvT-loop

@@ -12,7 +12,7 @@ use lib.Seq.{take-at, drop-at, drop-cons, drop-drop, take-add, take-all, length-
 use borrow.Author.Tests.{eq-eqb, ne-eqb, le-leb, lt-leb, leb-true, leb-false, eqb-true}
 use Rattle.records.specs.declared.scale.Scale.{Scale}
 use Rattle.records.specs.Records.{treeBytes}
-use Rattle.records.proofs.Sizes.{boxed-size}
+use Rattle.records.proofs.Sizes.{tree-bytes}
 use Rattle.split.specs.declared.boxes.BoxWords.{BoxWords}
 use Rattle.split.specs.Boxes.{boxAt}
 use Rattle.bvh.specs.Tree.{Node, leaf, inner, leafOrder, size}
@@ -20,8 +20,9 @@ use Rattle.bvh.specs.Rows.{Row, rows, heads, counts}
 use Rattle.bvh.specs.Ranges.{Range, ranges, pickRanges}
 use Rattle.bvh.specs.Output.{treeRecord, treesBytes, over}
 use Rattle.bvh.specs.Flat.{Full, Filled, treeSize, Flat, Scannable, TreesPut}
+use Rattle.bvh.proofs.FlatLaws.{length-trees, trees-append}
 use Rattle.bvh.proofs.RangeLaws.{length-rows, subtree-within, range-is-subtree}
-use Rattle.bvh.proofs.RowBoxes.{box-in-slice, slice-room}
+use Rattle.bvh.proofs.ranges.RowBoxes.{box-in-slice, slice-room}
 
 -- ---- the scan, on rows
 
@@ -102,17 +103,6 @@ scan-whole (inner b l r) h =
 
 -- ---- what is written
 
-pub length-trees : (s : Scale) (rs : List Range) → length (treesBytes s rs) ≡ 16 * length rs
-length-trees s [] = refl
-length-trees s (r ∷ rs) =
-    let t = treeRecord s r in
-    omega (arith, length-append (treeBytes t) (treesBytes s rs), boxed-size (t .min) (t .max) (t .«node_index1») (t .«node_index2»), length-trees s rs)
-
-trees-append : (s : Scale) (xs ys : List Range) → treesBytes s (xs ++ ys) ≡ treesBytes s xs ++ treesBytes s ys
-trees-append s [] ys = refl
-trees-append s (x ∷ xs) ys =
-    ap (λ (l : List ℕ). treeBytes (treeRecord s x) ++ l) (trees-append s xs ys) ∙ sym (append-assoc (treeBytes (treeRecord s x)) (treesBytes s xs) (treesBytes s ys))
-
 -- one record more, behind those written
 one-written : (s : Scale) (xs : List Range) (x : Range) (before trees : List ℕ) (k : ℕ) → length xs ≡ k → trees ≡ over (treesBytes s xs) before
     → take (16 * k) trees ++ (treeBytes (treeRecord s x) ++ drop (16 * k + 16) trees) ≡ over (treesBytes s (xs ++ (x ∷ []))) before
@@ -124,8 +114,7 @@ one-written s xs x before trees k e p =
     let d : drop (16 * k + 16) trees ≡ drop (16 * k + 16) before =
     rw (p, ← drop-drop 16 (16 * k) (w ++ drop (length w) before), drop-at w (drop (length w) before) (16 * k) lw, lw) (drop-drop 16 (16 * k) before) in
     let v : treesBytes s (xs ++ (x ∷ [])) ≡ w ++ b = trees-append s xs (x ∷ []) ∙ ap (λ (l : List ℕ). w ++ l) (append-nil b) in
-    let r = treeRecord s x in
-    let lv : length (w ++ b) ≡ 16 * k + 16 = omega (arith, length-append w b, lw, boxed-size (r .min) (r .max) (r .«node_index1») (r .«node_index2»)) in
+    let lv : length (w ++ b) ≡ 16 * k + 16 = omega (arith, length-append w b, lw, tree-bytes (treeRecord s x) .size) in
     rw (v, lv, t, d) (sym (append-assoc w b (drop (16 * k + 16) before)))
 
 -- ---- the loop
