@@ -1,5 +1,6 @@
 pub mod EmitLaws
 mod EntryWords
+pub mod FlatLaws
 mod ItemWords
 pub mod Lawful
 pub mod MarkedLaws

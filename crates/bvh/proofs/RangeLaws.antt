@@ -14,7 +14,7 @@ use Rattle.split.specs.declared.boxes.BoxWords.{BoxWords}
 use Rattle.bvh.specs.Tree.{Node, leaf, inner, leafOrder, size}
 use Rattle.bvh.specs.Ranges.{Range, ranges, pickRanges}
 use Rattle.bvh.specs.Rows.{Row, rows}
-use Rattle.bvh.specs.Numbers.{Subtree, subtrees, leafNumbers, upFrom, rangeOf, holds, nodesIn, holders, Rising, Part, RowsFrom, Cut}
+use Rattle.bvh.specs.Numbers.{Subtree, subtrees, leafNumbers, upFrom, rangeOf, holds, nodesIn, rangesHolding, RisingRanges, Part, RowsFrom, Cut}
 
 pub size-some : (t : Node) → 0 < size t
 size-some (leaf b ps) = omega arith
@@ -50,18 +50,18 @@ ranges-few =
 
 -- ---- order
 
-rising-from : (lo lo′ hi : ℕ) (rs : List Range) → lo ≤ lo′ → Rising lo′ rs hi → Rising lo rs hi
+rising-from : (lo lo′ hi : ℕ) (rs : List Range) → lo ≤ lo′ → RisingRanges lo′ rs hi → RisingRanges lo rs hi
 rising-from lo lo′ hi [] h p = omega arith
 rising-from lo lo′ hi (r ∷ rs) h p = (omega arith, p .1, p .2)
 
-rising-append : (lo mid hi : ℕ) (xs ys : List Range) → Rising lo xs mid → Rising mid ys hi → Rising lo (xs ++ ys) hi
+rising-append : (lo mid hi : ℕ) (xs ys : List Range) → RisingRanges lo xs mid → RisingRanges mid ys hi → RisingRanges lo (xs ++ ys) hi
 rising-append lo mid hi [] ys p q = rising-from lo mid hi ys p q
 rising-append lo mid hi (x ∷ xs) ys p q = (p .0, p .1, rising-append (x .last) mid hi xs ys (p .2) q)
 
 -- The ranges rise, do not overlap, and lie within the tree's nodes.
-pub ranges-rise : (at : ℕ) (t : Node) → Rising at (ranges at t) (at + size t)
+pub ranges-rise : (at : ℕ) (t : Node) → RisingRanges at (ranges at t) (at + size t)
 ranges-rise =
-    ranges-induction (λ at t rs. Rising at rs (at + size t))
+    ranges-induction (λ at t rs. RisingRanges at rs (at + size t))
     (λ at t h. (omega arith, omega (arith, size-some t), omega arith))
     (λ at b l r h pl pr.
     let e : at + (1 + size l + size r) ≡ at + 1 + size l + size r = omega arith in
@@ -101,9 +101,9 @@ range-size at t x m =
 
 -- ---- which range a node lies in
 
-holders-append : (k : ℕ) (xs ys : List Range) → holders k (xs ++ ys) ≡ holders k xs + holders k ys
-holders-append k [] ys = omega arith
-holders-append k (x ∷ xs) ys = omega (arith, holders-append k xs ys)
+holding-append : (k : ℕ) (xs ys : List Range) → rangesHolding k (xs ++ ys) ≡ rangesHolding k xs + rangesHolding k ys
+holding-append k [] ys = omega arith
+holding-append k (x ∷ xs) ys = omega (arith, holding-append k xs ys)
 
 not-before : (k : ℕ) (x : Range) → k < x .first → holds k x ≡ false
 not-before k x h = rw (lt-leb (x .first) k h)
@@ -114,15 +114,15 @@ not-after k x h = rw (le-ltb k (x .last) h) (and-false (leb (x .first) k))
 between : (k : ℕ) (x : Range) → x .first ≤ k → k < x .last → holds k x ≡ true
 between k x h h′ = rw (le-leb (x .first) k h, lt-ltb k (x .last) h′)
 
-none-below : (k lo hi : ℕ) (rs : List Range) → Rising lo rs hi → k < lo → holders k rs ≡ 0
+none-below : (k lo hi : ℕ) (rs : List Range) → RisingRanges lo rs hi → k < lo → rangesHolding k rs ≡ 0
 none-below k lo hi [] p h = refl
 none-below k lo hi (r ∷ rs) p h = rw (not-before k r (omega arith)) (omega (arith, none-below k (r .last) hi rs (p .2) (omega arith)))
 
-rising-ends : (lo hi : ℕ) (rs : List Range) → Rising lo rs hi → lo ≤ hi
+rising-ends : (lo hi : ℕ) (rs : List Range) → RisingRanges lo rs hi → lo ≤ hi
 rising-ends lo hi [] p = p
 rising-ends lo hi (r ∷ rs) p = omega (arith, rising-ends (r .last) hi rs (p .2))
 
-none-above : (k lo hi : ℕ) (rs : List Range) → Rising lo rs hi → hi ≤ k → holders k rs ≡ 0
+none-above : (k lo hi : ℕ) (rs : List Range) → RisingRanges lo rs hi → hi ≤ k → rangesHolding k rs ≡ 0
 none-above k lo hi [] p h = refl
 none-above k lo hi (r ∷ rs) p h =
     rw (not-after k r (omega (arith, rising-ends (r .last) hi rs (p .2)))) (omega (arith, none-above k (r .last) hi rs (p .2) h))
@@ -139,7 +139,7 @@ subtree-within at (inner b l r) s m =
 
 -- in a part of its own every node of the tree lies once
 once-whole : (at : ℕ) (t : Node) → size t ≤ 127 → (s : Subtree) → List·Memᴰ s (subtrees at t)
-    → holders (s .number) (rangeOf (record { number = at; root = t }) ∷ []) ≡ cond (leb (size (s .root)) 127) 1 0
+    → rangesHolding (s .number) (rangeOf (record { number = at; root = t }) ∷ []) ≡ cond (leb (size (s .root)) 127) 1 0
 once-whole at t h s m =
     let w = subtree-within at t s m in
     let z = size-some (s .root) in
@@ -147,38 +147,38 @@ once-whole at t h s m =
 
 module _ (at : ℕ) (b : BoxWords) (l r : Node) (big : 127 < size (inner b l r)) where
   -- the children's ranges, and what holds a number in them
-  both : (k x y : ℕ) → holders k (ranges (at + 1) l) ≡ x → holders k (ranges (at + 1 + size l) r) ≡ y → holders k (ranges (at + 1) l ++ ranges (at + 1 + size l) r) ≡ x + y
-  both k x y ex ey = holders-append k (ranges (at + 1) l) (ranges (at + 1 + size l) r) ∙ ap₂ _+_ ex ey
+  both : (k x y : ℕ) → rangesHolding k (ranges (at + 1) l) ≡ x → rangesHolding k (ranges (at + 1 + size l) r) ≡ y → rangesHolding k (ranges (at + 1) l ++ ranges (at + 1 + size l) r) ≡ x + y
+  both k x y ex ey = holding-append k (ranges (at + 1) l) (ranges (at + 1 + size l) r) ∙ ap₂ _+_ ex ey
 
-  before-first : (k : ℕ) → k < at + 1 → holders k (ranges (at + 1) l) ≡ 0
+  before-first : (k : ℕ) → k < at + 1 → rangesHolding k (ranges (at + 1) l) ≡ 0
   before-first k h = none-below k (at + 1) (at + 1 + size l) (ranges (at + 1) l) (ranges-rise (at + 1) l) h
 
-  before-second : (k : ℕ) → k < at + 1 + size l → holders k (ranges (at + 1 + size l) r) ≡ 0
+  before-second : (k : ℕ) → k < at + 1 + size l → rangesHolding k (ranges (at + 1 + size l) r) ≡ 0
   before-second k h = none-below k (at + 1 + size l) (at + 1 + size l + size r) (ranges (at + 1 + size l) r) (ranges-rise (at + 1 + size l) r) h
 
-  after-first : (k : ℕ) → at + 1 + size l ≤ k → holders k (ranges (at + 1) l) ≡ 0
+  after-first : (k : ℕ) → at + 1 + size l ≤ k → rangesHolding k (ranges (at + 1) l) ≡ 0
   after-first k h = none-above k (at + 1) (at + 1 + size l) (ranges (at + 1) l) (ranges-rise (at + 1) l) h
 
-  once-root : (s : Subtree) → s ≡ record { number = at; root = inner b l r } → holders (s .number) (ranges (at + 1) l ++ ranges (at + 1 + size l) r) ≡ cond (leb (size (s .root)) 127) 1 0
+  once-root : (s : Subtree) → s ≡ record { number = at; root = inner b l r } → rangesHolding (s .number) (ranges (at + 1) l ++ ranges (at + 1 + size l) r) ≡ cond (leb (size (s .root)) 127) 1 0
   once-root s e = rw (e, lt-leb (size (inner b l r)) 127 big) (both at 0 0 (before-first at (omega arith)) (before-second at (omega arith)))
 
-  once-first : (s : Subtree) → List·Memᴰ s (subtrees (at + 1) l) → holders (s .number) (ranges (at + 1) l) ≡ cond (leb (size (s .root)) 127) 1 0
-      → holders (s .number) (ranges (at + 1) l ++ ranges (at + 1 + size l) r) ≡ cond (leb (size (s .root)) 127) 1 0
+  once-first : (s : Subtree) → List·Memᴰ s (subtrees (at + 1) l) → rangesHolding (s .number) (ranges (at + 1) l) ≡ cond (leb (size (s .root)) 127) 1 0
+      → rangesHolding (s .number) (ranges (at + 1) l ++ ranges (at + 1 + size l) r) ≡ cond (leb (size (s .root)) 127) 1 0
   once-first s m e =
       let w = subtree-within (at + 1) l s m in
       let z = size-some (s .root) in
       both (s .number) _ 0 e (before-second (s .number) (omega arith)) ∙ omega arith
 
-  once-second : (s : Subtree) → List·Memᴰ s (subtrees (at + 1 + size l) r) → holders (s .number) (ranges (at + 1 + size l) r) ≡ cond (leb (size (s .root)) 127) 1 0
-      → holders (s .number) (ranges (at + 1) l ++ ranges (at + 1 + size l) r) ≡ cond (leb (size (s .root)) 127) 1 0
+  once-second : (s : Subtree) → List·Memᴰ s (subtrees (at + 1 + size l) r) → rangesHolding (s .number) (ranges (at + 1 + size l) r) ≡ cond (leb (size (s .root)) 127) 1 0
+      → rangesHolding (s .number) (ranges (at + 1) l ++ ranges (at + 1 + size l) r) ≡ cond (leb (size (s .root)) 127) 1 0
   once-second s m e =
       let w = subtree-within (at + 1 + size l) r s m in
       both (s .number) 0 _ (after-first (s .number) (omega arith)) e ∙ omega arith
 
 -- how many ranges hold a node: one if its subtree has at most 127 nodes, else none
-once : (at : ℕ) (t : Node) (s : Subtree) → List·Memᴰ s (subtrees at t) → holders (s .number) (ranges at t) ≡ cond (leb (size (s .root)) 127) 1 0
+once : (at : ℕ) (t : Node) (s : Subtree) → List·Memᴰ s (subtrees at t) → rangesHolding (s .number) (ranges at t) ≡ cond (leb (size (s .root)) 127) 1 0
 once =
-    ranges-induction (λ at t rs. (s : Subtree) → List·Memᴰ s (subtrees at t) → holders (s .number) rs ≡ cond (leb (size (s .root)) 127) 1 0)
+    ranges-induction (λ at t rs. (s : Subtree) → List·Memᴰ s (subtrees at t) → rangesHolding (s .number) rs ≡ cond (leb (size (s .root)) 127) 1 0)
     once-whole
     (λ at b l r h pl pr s m.
     ⊎-elim (once-root at b l r h s)
@@ -188,31 +188,31 @@ once =
     (List·Memᴰ·cases-cons m))
 
 -- A node of at most 127 nodes lies in exactly one range.
-pub small-held-once : (at : ℕ) (t : Node) (s : Subtree) → List·Memᴰ s (subtrees at t) → size (s .root) ≤ 127 → holders (s .number) (ranges at t) ≡ 1
+pub small-held-once : (at : ℕ) (t : Node) (s : Subtree) → List·Memᴰ s (subtrees at t) → size (s .root) ≤ 127 → rangesHolding (s .number) (ranges at t) ≡ 1
 small-held-once at t s m h = once at t s m ∙ rw (le-leb (size (s .root)) 127 h)
 
 -- A larger one lies in none.
-pub large-held-never : (at : ℕ) (t : Node) (s : Subtree) → List·Memᴰ s (subtrees at t) → 127 < size (s .root) → holders (s .number) (ranges at t) ≡ 0
+pub large-held-never : (at : ℕ) (t : Node) (s : Subtree) → List·Memᴰ s (subtrees at t) → 127 < size (s .root) → rangesHolding (s .number) (ranges at t) ≡ 0
 large-held-never at t s m h = once at t s m ∙ rw (lt-leb (size (s .root)) 127 h)
 
 -- The root of more than 127 nodes lies in no range.
-pub large-root-free : (at : ℕ) (t : Node) → 127 < size t → holders at (ranges at t) ≡ 0
+pub large-root-free : (at : ℕ) (t : Node) → 127 < size t → rangesHolding at (ranges at t) ≡ 0
 large-root-free at t h = large-held-never at t (record { number = at; root = t }) (root-in at t) h
 
 one-at-most : (q : Bool) → cond {A = ℕ} q 1 0 ≤ 1
 one-at-most true = omega arith
 one-at-most false = omega arith
 
-at-most-once-by : (k hi : ℕ) (r : Range) (rs : List Range) (q : Bool) → ltb k (r .last) ≡ q → Rising (r .last) rs hi → holders k rs ≤ 1 → holders k (r ∷ rs) ≤ 1
+at-most-once-by : (k hi : ℕ) (r : Range) (rs : List Range) (q : Bool) → ltb k (r .last) ≡ q → RisingRanges (r .last) rs hi → rangesHolding k rs ≤ 1 → rangesHolding k (r ∷ rs) ≤ 1
 at-most-once-by k hi r rs true e p h = omega (arith, none-below k (r .last) hi rs p (ltb-true _ _ e), one-at-most (holds k r))
 at-most-once-by k hi r rs false e p h = rw (not-after k r (ltb-false _ _ e)) (omega arith)
 
-at-most-once : (k lo hi : ℕ) (rs : List Range) → Rising lo rs hi → holders k rs ≤ 1
+at-most-once : (k lo hi : ℕ) (rs : List Range) → RisingRanges lo rs hi → rangesHolding k rs ≤ 1
 at-most-once k lo hi [] p = omega arith
 at-most-once k lo hi (r ∷ rs) p = at-most-once-by k hi r rs _ refl (p .2) (at-most-once k (r .last) hi rs (p .2))
 
 -- No number lies in two ranges.
-pub held-at-most-once : (at : ℕ) (t : Node) (k : ℕ) → holders k (ranges at t) ≤ 1
+pub held-at-most-once : (at : ℕ) (t : Node) (k : ℕ) → rangesHolding k (ranges at t) ≤ 1
 held-at-most-once at t k = at-most-once k at (at + size t) (ranges at t) (ranges-rise at t)
 
 -- ---- leaves
@@ -227,7 +227,7 @@ leaf-is-subtree at (inner b l r) k m =
     (List·Memᴰ·append-cases (leafNumbers (at + 1) l) m)
 
 -- Each leaf lies in exactly one range.
-pub leaf-held-once : (at : ℕ) (t : Node) (k : ℕ) → List·Memᴰ k (leafNumbers at t) → holders k (ranges at t) ≡ 1
+pub leaf-held-once : (at : ℕ) (t : Node) (k : ℕ) → List·Memᴰ k (leafNumbers at t) → rangesHolding k (ranges at t) ≡ 1
 leaf-held-once at t k m =
     let p = leaf-is-subtree at t k m in
     rw (← p .2) (small-held-once at t (p .0) (p .1) (omega (arith, p .3)))
@@ -244,7 +244,7 @@ pub whole-at-127 : (t : Node) → size t ≡ 127 → length (ranges 0 t) ≡ 1
 whole-at-127 t e = ap length (small-one-range 0 t (omega arith))
 
 -- Of 129 nodes node 0 lies in no range.
-pub root-free-at-129 : (t : Node) → size t ≡ 129 → holders 0 (ranges 0 t) ≡ 0
+pub root-free-at-129 : (t : Node) → size t ≡ 129 → rangesHolding 0 (ranges 0 t) ≡ 0
 root-free-at-129 t e = large-root-free 0 t (omega arith)
 
 -- ---- numbers and rows

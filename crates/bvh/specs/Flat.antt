@@ -1,7 +1,9 @@
 -- A tree as it lies in slices, and what the scan for its ranges writes. Definitions only.
-use Prim.Native.Nat.{ℕ, _+_, _*_, _≤_, _<_}
+use Prim.Native.Nat.{ℕ, _+_, _*_, _≤_, _<_, max}
+use mathlib.Core.Bool.{cond}
 use mathlib.Core.List.{List, [], _∷_, _++_}
 use mathlib.Core.Path.{_≡_}
+use lib.Dec.{eqb}
 use lib.ListN.{length, take, drop}
 use Rattle.records.specs.declared.scale.Scale.{Scale}
 use Rattle.bvh.specs.Tree.{Node, leaf, inner, size}
@@ -18,6 +20,10 @@ Full (inner b l r) = Full l × Full r
 abbrev pub Filled : Node → Type 0
 Filled (leaf b ps) = Unit {0}
 Filled (inner b l r) = Full l × Full r
+
+-- How many nodes the tree at a row has, by its head and count: an inner row's head, and 1 for a leaf. An empty leaf has the head 0.
+abbrev pub treeSize : ℕ → ℕ → ℕ
+treeSize head count = cond (eqb count 0) (max 1 head) 1
 
 -- The slices hold the rows of the tree t. An inner row is told from a leaf's by its count of 0, and the numbers of nodes fit a record.
 pub record Flat (t : Node) (first count boxes : List ℕ) : Type 0 where

@@ -42,14 +42,14 @@ abbrev pub nodesIn : Range → ℕ
 nodesIn r = r .last - r .first
 
 -- how many of the ranges hold node k
-abbrev pub holders : ℕ → List Range → ℕ
-holders k [] = 0
-holders k (r ∷ rs) = cond (holds k r) 1 0 + holders k rs
+abbrev pub rangesHolding : ℕ → List Range → ℕ
+rangesHolding k [] = 0
+rangesHolding k (r ∷ rs) = cond (holds k r) 1 0 + rangesHolding k rs
 
 -- The ranges lie between lo and hi, each has a node, and each begins where the one before it has ended, or later.
-abbrev pub Rising : ℕ → List Range → ℕ → Type 0
-Rising lo [] hi = lo ≤ hi
-Rising lo (r ∷ rs) hi = (lo ≤ r .first) × (r .first < r .last) × Rising (r .last) rs hi
+abbrev pub RisingRanges : ℕ → List Range → ℕ → Type 0
+RisingRanges lo [] hi = lo ≤ hi
+RisingRanges lo (r ∷ rs) hi = (lo ≤ r .first) × (r .first < r .last) × RisingRanges (r .last) rs hi
 
 -- A range is that of one subtree of at most 127 nodes.
 pub record Part (at : ℕ) (t : Node) (r : Range) : Type 0 where
@@ -67,6 +67,6 @@ pub record RowsFrom (k : ℕ) (t : Node) (rs : List Row) : Type 0 where
 -- What the request's point 3 asks of the ranges rs of a tree t.
 pub record Cut (t : Node) (rs : List Range) : Type 0 where
   pub sizes : (r : Range) → List·Memᴰ r rs → (0 < nodesIn r) × (nodesIn r ≤ 127)
-  pub rising : Rising 0 rs (size t)
+  pub rising : RisingRanges 0 rs (size t)
   pub parts : (r : Range) → List·Memᴰ r rs → Part 0 t r
-  pub leaves : (k : ℕ) → List·Memᴰ k (leafNumbers 0 t) → holders k rs ≡ 1
+  pub leaves : (k : ℕ) → List·Memᴰ k (leafNumbers 0 t) → rangesHolding k rs ≡ 1

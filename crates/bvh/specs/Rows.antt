@@ -4,7 +4,7 @@ use mathlib.Core.List.{List, [], _∷_, _++_, map}
 use mathlib.Core.Path.{_≡_}
 use lib.ListN.{length, take}
 use Rattle.split.specs.declared.boxes.BoxWords.{BoxWords}
-use Rattle.split.specs.Boxes.{boxWords}
+use Rattle.split.specs.Boxes.{boxFrom, boxWords}
 use Rattle.split.specs.Lists.{Within}
 use Rattle.bvh.specs.Tree.{Node, leaf, inner, Builder, grow, leafOrder, size}
 
@@ -29,6 +29,10 @@ counts rs = map (λ r. r .count) rs
 abbrev pub words : List Row → List ℕ
 words [] = []
 words (r ∷ rs) = boxWords (r .box) ++ words rs
+
+-- the box of row i, read back from such words
+abbrev pub rowBox : List ℕ → ℕ → BoxWords
+rowBox ws i = boxFrom ws (6 * i)
 
 -- What the builder asks of the slices that it is lent.
 pub record Room (th : ℕ) (order temp boxes stack first count nodes : List ℕ) : Type 0 where

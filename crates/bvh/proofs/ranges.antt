@@ -1,0 +1,2 @@
+mod RowBoxes
+mod Scanning
