@@ -4,6 +4,7 @@ use records::BoundVertex;
 use records::BvhNode;
 use records::scale::Scale;
 use split::boxes::BoxWords;
+use split::boxes::Place;
 ghost use mathlib.Core.Path.{_≡_};
 ghost use mathlib.Core.List.{_++_};
 ghost use Prim.Native.Nat.{_+_, _-_, _*_, _≤_, _<_};
@@ -43,7 +44,19 @@ fn box_from(boxes: &[u32], at: usize) -> BoxWords
     }
 }
 
-// A row's id. A leaf's position in the leaf order and the list place of its item are two numbers: at threshold 1 the id is the place.
+// A position in the leaf order. A place in the list of entries is another number.
+pub struct Position(pub u32);
+
+// The place of the item at a position.
+fn place_at(order: &[u32], position: Position) -> Place
+    requires { ⌜ position .0 < length (now order) ⌝ }
+    ensures { λ r. ⌜ r .0 ≡ getD (now (order .entry)) (position .0) 0 ⌝ }
+{
+    let at = position.0 as usize;
+    Place(order[at])
+}
+
+// A row's id. A leaf's is its first position, but at threshold 1 the place of the item there.
 fn item_id(order: &[u32], threshold: usize, head: u32, count: u32) -> u32
     requires { ⌜ (0 < count → head < length (now order)) ⌝ }
     ensures { λ r. ⌜ ((b : BoxWords) → r ≡ idOf threshold (now (order .entry)) (record { box = b; head = head; count = count })) ⌝ }
@@ -51,12 +64,8 @@ fn item_id(order: &[u32], threshold: usize, head: u32, count: u32) -> u32
     if count == 0 {
         return head;
     }
-    if threshold == 1 {
-        let position = head as usize;
-        order[position]
-    } else {
-        head
-    }
+    let place = place_at(order, Position(head));
+    if threshold == 1 { place.0 } else { head }
 }
 
 // The record of row i.

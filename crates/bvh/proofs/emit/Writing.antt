@@ -79,11 +79,11 @@ abbrev pub paddedTo : List ℕ → ℕ → ℕ → List ℕ
 paddedTo before from i = take (16 * from) before ++ padBytes (i - from)
 
 module _ (before : List ℕ) (from : ℕ) where
-  pub length-padded : (i : ℕ) → from ≤ i → 16 * i ≤ length before → length (paddedTo before from i) ≡ 16 * i
+  length-padded : (i : ℕ) → from ≤ i → 16 * i ≤ length before → length (paddedTo before from i) ≡ 16 * i
   length-padded i h room =
       omega (arith, length-append (take (16 * from) before) (padBytes (i - from)), length-take-le (16 * from) before (omega arith), length-pad (i - from))
 
-  pub padding-next : (i : ℕ) → from ≤ i → paddedTo before from i ++ nodeBytes padNode ≡ paddedTo before from (i + 1)
+  padding-next : (i : ℕ) → from ≤ i → paddedTo before from i ++ nodeBytes padNode ≡ paddedTo before from (i + 1)
   padding-next i h =
       let one : i + 1 - from ≡ i - from + 1 = omega arith in
       append-assoc (take (16 * from) before) (padBytes (i - from)) (nodeBytes padNode)
@@ -101,3 +101,13 @@ module _ (before : List ℕ) (from : ℕ) where
       (padding-done from (omega arith) room
       ∙ ap (λ (k : ℕ). take (16 * from) before ++ (padBytes k ++ drop (16 * from) before)) none
       ∙ take-append-drop (16 * from) before)
+
+  -- one record of padding more
+  pub pad-next : (buffer after : List ℕ) (n : BvhNode) (i upto : ℕ) → from ≤ i → Writing before buffer (paddedTo before from i) i upto → i < upto → 16 * upto ≤ length before
+      → n ≡ padNode → length after ≡ length buffer → after ≡ take (16 * i) buffer ++ (nodeBytes n ++ drop (16 * i + 16) buffer)
+      → Writing before after (paddedTo before from (i + 1)) (i + 1) upto
+  pad-next buffer after n i upto h w more room node kept e =
+      let bytes : paddedTo before from i ++ nodeBytes n ≡ paddedTo before from (i + 1) =
+      ap (λ (m : BvhNode). paddedTo before from i ++ nodeBytes m) node ∙ padding-next i h in
+      subst (λ (l : List ℕ). Writing before after l (i + 1) upto) bytes
+      (record-next before buffer (paddedTo before from i) after n i upto w more (length-padded i h (omega arith)) kept e)

@@ -2,81 +2,61 @@
 use borrow.Author.Needs.{needs}
 use Rattle.bvh.proofs.emit.box_from.Statement.{statement}
 use Rattle.bvh.proofs.emit.box_from.Tie as tie
-use Rattle.bvh.proofs.emit.box_from.Reads as reads
-use Rattle.bvh.proofs.emit.box_from.Lts as lts
 use Prim.Native.Nat.{_+_}
 use mathlib.Core.Path.{_≡_}
 use native.Mathlib.Omega.{arith}
 
--- src/emit.rt:35:16
 mul-t3 : tie.Need-mul-t3
 mul-t3 c = search needs
 
--- src/emit.rt:35:16
 shared-slice-read-t5 : tie.Need-shared-slice-read-t5
 shared-slice-read-t5 c = search needs
 
--- src/emit.rt:36:22
 add-t6 : tie.Need-add-t6
 add-t6 c = search needs
 
--- src/emit.rt:36:16
 mul-t7 : tie.Need-mul-t7
 mul-t7 c = search needs
 
--- src/emit.rt:36:16
 shared-slice-read-t9 : tie.Need-shared-slice-read-t9
 shared-slice-read-t9 c = search needs
 
--- src/emit.rt:37:22
 add-t10 : tie.Need-add-t10
 add-t10 c = search needs
 
--- src/emit.rt:37:16
 mul-t11 : tie.Need-mul-t11
 mul-t11 c = search needs
 
--- src/emit.rt:37:16
 shared-slice-read-t13 : tie.Need-shared-slice-read-t13
 shared-slice-read-t13 c = search needs
 
--- src/emit.rt:40:22
 add-t15 : tie.Need-add-t15
 add-t15 c = search needs
 
--- src/emit.rt:40:16
 mul-t16 : tie.Need-mul-t16
 mul-t16 c = search needs
 
--- src/emit.rt:40:16
 shared-slice-read-t18 : tie.Need-shared-slice-read-t18
 shared-slice-read-t18 c = search needs
 
--- src/emit.rt:41:22
 add-t19 : tie.Need-add-t19
 add-t19 c = search needs
 
--- src/emit.rt:41:16
 mul-t20 : tie.Need-mul-t20
 mul-t20 c = search needs
 
--- src/emit.rt:41:16
 shared-slice-read-t22 : tie.Need-shared-slice-read-t22
 shared-slice-read-t22 c = search needs
 
--- src/emit.rt:42:22
 add-t23 : tie.Need-add-t23
 add-t23 c = search needs
 
--- src/emit.rt:42:16
 mul-t24 : tie.Need-mul-t24
 mul-t24 c = search needs
 
--- src/emit.rt:42:16
 shared-slice-read-t26 : tie.Need-shared-slice-read-t26
 shared-slice-read-t26 c = search needs
 
--- src/emit.rt:29:1
 returns : tie.Need-returns
 returns c =
     let at = c .before .before .before .before .before .before .args .at in

@@ -1,8 +1,6 @@
 -- `emit::put_order` meets its contract. The loop's invariant: the first i places are written.
 use Rattle.bvh.proofs.emit.put_order.Statement.{statement}
 use Rattle.bvh.proofs.emit.put_order.Tie as tie
-use Rattle.bvh.proofs.emit.put_order.Reads as reads
-use Rattle.bvh.proofs.emit.put_order.Lts as lts
 use Prim.Native.Nat.{ℕ, _-_}
 use mathlib.Core.Path.{refl, _∙_, ap}
 use mathlib.Core.List.{List}
@@ -19,49 +17,38 @@ Inv-loop order₀ places i₀ order i = Writing order₀ order (take i places) i
 abbrev μ-loop : tie.MeasureT-loop
 μ-loop order₀ places i₀ order i = length places - i
 
--- src/emit.rt:22:5
 loop-holds : tie.Need-loop-holds Inv-loop μ-loop
 loop-holds c = record { upto = omega arith; same = refl; held = refl }
 
--- src/emit.rt:23:20
 mul-order : tie.Need-mul-order Inv-loop μ-loop
 mul-order c = omega arith
 
--- src/emit.rt:23:20
 shared-slice-read-order : tie.Need-shared-slice-read-order Inv-loop μ-loop
 shared-slice-read-order c = omega arith
 
--- src/emit.rt:23:20
 cast-order : tie.Need-cast-order Inv-loop μ-loop
 cast-order c = omega (arith, below-at 65536 (c .before .before .before .args .places .now) (c .before .before .loop .i) (c .before .before .before .pre .1) (omega arith))
 
--- src/emit.rt:23:9
 mul-order-2 : tie.Need-mul-order-2 Inv-loop μ-loop
 mul-order-2 c = omega arith
 
--- src/emit.rt:23:9
 slice-write-order : tie.Need-slice-write-order Inv-loop μ-loop
 slice-write-order c = omega arith
 
--- src/emit.rt:24:9
 add-i : tie.Need-add-i Inv-loop μ-loop
 add-i c = omega arith
 
--- src/emit.rt:22:5
 loop-less : tie.Need-loop-less Inv-loop μ-loop
 loop-less c = omega arith
 
--- src/emit.rt:22:5
 loop-again : tie.Need-loop-again Inv-loop μ-loop
 loop-again c =
     let l = c .before .before .loop in
     number-next (c .before .before .before .args .order .now) (l .order) (c .before .before .before .args .places .now) (l .i) (l .inv) (omega arith) (omega arith)
 
--- src/emit.rt:17:1
 same-length : tie.Need-same-length Inv-loop μ-loop
 same-length c = c .before .loop .inv .same
 
--- src/emit.rt:17:1
 returns : tie.Need-returns Inv-loop μ-loop
 returns c =
     let l = c .before .loop in
