@@ -15,7 +15,8 @@ use Rattle.bvh.specs.declared.core.Build.{Build}
 use Rattle.bvh.specs.declared.core.Build.the-variants.{TooManyEntries, ThresholdOutside, BufferTooShort}
 use Rattle.bvh.specs.declared.items.BvhItem.{BvhItem}
 use Rattle.bvh.specs.Build.{Entries, Lengths, short, pickBuild, answerOf, kept, nodesWritten, treesWritten, orderWritten}
-use Rattle.bvh.specs.Decode.{isMarked, marked, boxFrom}
+use Rattle.bvh.specs.Decode.{isMarked, marked}
+use Rattle.split.specs.Boxes.{boxFrom}
 use Rattle.bvh.specs.Entry.{entriesOf, entriesIn, takenOf, lengthsOf, Answered}
 use Rattle.bvh.specs.Items.{itemWords, wordsOf, boxIn, present}
 use Rattle.bvh.proofs.ItemWords.{length-words, apart, apart-all, length-apart}

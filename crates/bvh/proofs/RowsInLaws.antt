@@ -12,7 +12,8 @@ use Rattle.split.specs.declared.boxes.BoxWords.{BoxWords}
 use Rattle.bvh.specs.Tree.{Node, leaf, inner, leafOrder, size}
 use Rattle.bvh.specs.Rows.{Row, rows, heads, counts, words}
 use Rattle.bvh.specs.Output.{idOf}
-use Rattle.bvh.specs.Decode.{Below, boxFrom, rowAt, rowsIn, Small, SmallRows}
+use Rattle.bvh.specs.Decode.{Below, rowAt, rowsIn, Small, SmallRows}
+use Rattle.split.specs.Boxes.{boxFrom}
 use Rattle.bvh.proofs.WordLaws.{box-drop, below-at}
 
 -- What is laid out is read back, whatever stands after it.

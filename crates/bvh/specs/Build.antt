@@ -5,11 +5,12 @@ use mathlib.Core.List.{List, [], _∷_, _++_}
 use lib.Dec.{ltb}
 use lib.ListN.{length}
 use Rattle.split.specs.declared.boxes.BoxWords.{BoxWords}
-use Rattle.records.specs.declared.Scale.{Scale}
-use Rattle.records.specs.Quantise.{scaleOf}
+use Rattle.records.specs.declared.scale.Scale.{Scale}
+use Rattle.records.specs.Scale.{scaleOfBox}
 use Rattle.bvh.specs.declared.core.Build.{Build}
 use Rattle.bvh.specs.declared.core.Build.the-variants.{Built, TooManyEntries, ThresholdOutside, BufferTooShort, TooManyNodes}
 use Rattle.bvh.specs.declared.core.BuiltTree.{BuiltTree}
+use Rattle.bvh.specs.declared.core.Lengths.{Lengths}
 use Rattle.bvh.specs.Tree.{Node, grow, builder, boxOf, leafOrder, size}
 use Rattle.bvh.specs.Rows.{rows}
 use Rattle.bvh.specs.Ranges.{ranges}
@@ -26,20 +27,7 @@ treeOf e th = grow (builder (e .at)) th (e .places)
 
 -- Rule T2 (01, Tree build): cen, quantum and inverse of the box of all.
 abbrev pub scaleIn : Node → Scale
-scaleIn t = scaleOf (boxOf t .min) (boxOf t .max)
-
--- The lengths of the lent buffers: nodes, trees, order, and each part of the work buffer.
-pub record Lengths : Type 0 where
-  pub nodes : ℕ
-  pub trees : ℕ
-  pub order : ℕ
-  pub words : ℕ
-  pub places : ℕ
-  pub temp : ℕ
-  pub stack : ℕ
-  pub first : ℕ
-  pub count : ℕ
-  pub boxes : ℕ
+scaleIn t = scaleOfBox (boxOf t .min) (boxOf t .max)
 
 -- 01, Build, 2: a buffer is too short.
 abbrev pub short : ℕ → Lengths → Bool

@@ -6,9 +6,9 @@ use mathlib.Core.Path.{_≡_}
 use lib.Dec.{eqb}
 use lib.ListN.{length, getD, take, drop}
 use Rattle.split.specs.declared.boxes.BoxWords.{BoxWords}
-use Rattle.split.specs.Boxes.{pointAt}
+use Rattle.split.specs.Boxes.{boxFrom}
 use Rattle.split.specs.Lists.{pick}
-use Rattle.bvh.specs.Rows.{Row}
+use Rattle.bvh.specs.Rows.{Row, rowBox}
 use Rattle.bvh.specs.Output.{idOf}
 
 -- an entry's first word: 0 where it is absent
@@ -35,13 +35,9 @@ abbrev pub Rising : ℕ → List ℕ → Type 0
 Rising lo [] = Unit {0}
 Rising lo (x ∷ xs) = (lo ≤ x) × Rising (x + 1) xs
 
--- the box whose six words stand from `at` on
-abbrev pub boxFrom : List ℕ → ℕ → BoxWords
-boxFrom ws at = record { min = pointAt ws at; max = pointAt ws (at + 3) }
-
 -- row i of the work buffer: its head, its count and its box, six words a node
 abbrev pub rowAt : List ℕ → List ℕ → List ℕ → ℕ → Row
-rowAt fs cs ws i = record { box = boxFrom ws (6 * i); head = getD fs i 0; count = getD cs i 0 }
+rowAt fs cs ws i = record { box = rowBox ws i; head = getD fs i 0; count = getD cs i 0 }
 
 -- the rows whose heads, counts and boxes stand in three lists
 abbrev pub rowsIn : List ℕ → List ℕ → List ℕ → List Row

@@ -7,8 +7,10 @@ use lib.Dec.{leb}
 use lib.ListN.{length}
 use Rattle.bvh.specs.declared.core.Build.{Build}
 use Rattle.bvh.specs.declared.items.BvhItem.{BvhItem}
-use Rattle.bvh.specs.Build.{Entries, Lengths, answerOf, kept, nodesWritten, treesWritten, orderWritten}
-use Rattle.bvh.specs.Decode.{marked, boxFrom}
+use Rattle.bvh.specs.declared.core.Lengths.{Lengths}
+use Rattle.bvh.specs.Build.{Entries, answerOf, kept, nodesWritten, treesWritten, orderWritten}
+use Rattle.bvh.specs.Decode.{marked}
+use Rattle.split.specs.Boxes.{boxFrom}
 use Rattle.bvh.specs.Items.{boxIn, present}
 
 -- the entries of a list of items

@@ -6,9 +6,9 @@ ghost use mathlib.Core.Path.{_≡_};
 ghost use Prim.Native.Nat.{_+_, _*_, _≤_, _<_};
 ghost use lib.ListN.{length, take};
 ghost use Rattle.bvh.specs.Build.{short};
-ghost use Rattle.bvh.specs.Core.{NodesWritten, Roomy, Finished};
+ghost use Rattle.bvh.specs.Core.{NodesWritten};
 ghost use Rattle.bvh.specs.Decode.{RowsFit, Below, marked};
-ghost use Rattle.bvh.specs.Entry.{entriesIn, lengthsOf, Answered};
+
 ghost use Rattle.bvh.specs.Output.{over, orderOf};
 
 pub struct BuiltTree {

@@ -10,7 +10,8 @@ ghost use mathlib.Core.List.{_++_};
 ghost use Prim.Native.Nat.{_+_, _-_, _*_, _≤_, _<_};
 ghost use lib.ListN.{length, take, drop, getD};
 ghost use Rattle.split.specs.declared.boxes.BoxWords.{BoxWords};
-ghost use Rattle.bvh.specs.Decode.{boxFrom, rowAt, rowsIn, Below, Small, RowsFit};
+ghost use Rattle.bvh.specs.Decode.{rowAt, rowsIn, Below, Small, RowsFit};
+ghost use Rattle.split.specs.Boxes.{boxFrom};
 ghost use Rattle.bvh.specs.Output.{over, idOf, nodeOf, nodesBytes, padNode, padBytes};
 
 // The places, from the start of the order list on.

@@ -1,4 +1,5 @@
 // From boxes to tree records.
+pub mod core;
 pub mod emit;
 pub mod entry;
 pub mod grow;
