@@ -1,5 +1,10 @@
 -- `put_node` meets its contract: what `put_boxed` ensures of the node's fields.
-use Rattle.records.specs.Records.{nodeBytes}
+use mathlib.Core.Path.{ap₂, _∙_}
+use mathlib.Core.List.{_++_}
+use Prim.Native.Nat.{_+_}
+use lib.IntN.{ℤ}
+use lib.ListN.{take, drop}
+use Rattle.records.specs.Records.{boxedBytes, nodeBytes}
 use Rattle.records.proofs.Fields.{same-short}
 use borrow.Author.Needs.{needs}
 use Rattle.records.proofs.put_node.Statement.{statement}
@@ -15,10 +20,12 @@ returns : tie.Need-returns
 unfolding nodeBytes
 returns c =
     let p = c .before .before in
-    let n = p .before .before .before .before .before .args .n in
-    let first = same-short (n .«item_id») (p .before .struct-told2 .given .1 .1 .0 .1) in
-    let second = same-short (n .«item_count») (p .before .struct-told2 .given .1 .1 .1 .0 .1) in
-    cc
+    let a = p .before .before .before .before .before .args in
+    let n = a .n in
+    p .put-boxed .ensures
+    ∙ ap₂ (λ (first second : ℤ). take (a .at) (a .out .now) ++ (boxedBytes (n .min) (n .max) first second ++ drop (a .at + 16) (a .out .now)))
+    (same-short (n .«item_id») (p .before .struct-told2 .given .1 .1 .0 .1))
+    (same-short (n .«item_count») (p .before .struct-told2 .given .1 .1 .1 .0 .1))
 
 pub put-node-spec : {M : Type 1} → statement M
 put-node-spec = tie.close (tie.spec put-boxed-requires same-length returns)

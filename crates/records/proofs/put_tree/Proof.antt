@@ -1,5 +1,10 @@
 -- `put_tree` meets its contract: what `put_boxed` ensures of the tree's fields.
-use Rattle.records.specs.Records.{treeBytes}
+use mathlib.Core.Path.{ap₂, _∙_}
+use mathlib.Core.List.{_++_}
+use Prim.Native.Nat.{_+_}
+use lib.IntN.{ℤ}
+use lib.ListN.{take, drop}
+use Rattle.records.specs.Records.{boxedBytes, treeBytes}
 use Rattle.records.proofs.Fields.{same-short}
 use borrow.Author.Needs.{needs}
 use Rattle.records.proofs.put_tree.Statement.{statement}
@@ -15,10 +20,12 @@ returns : tie.Need-returns
 unfolding treeBytes
 returns c =
     let p = c .before .before in
-    let t = p .before .before .before .before .before .args .t in
-    let first = same-short (t .«node_index1») (p .before .struct-told2 .given .1 .1 .0 .1) in
-    let second = same-short (t .«node_index2») (p .before .struct-told2 .given .1 .1 .1 .0 .1) in
-    cc
+    let a = p .before .before .before .before .before .args in
+    let t = a .t in
+    p .put-boxed .ensures
+    ∙ ap₂ (λ (first second : ℤ). take (a .at) (a .out .now) ++ (boxedBytes (t .min) (t .max) first second ++ drop (a .at + 16) (a .out .now)))
+    (same-short (t .«node_index1») (p .before .struct-told2 .given .1 .1 .0 .1))
+    (same-short (t .«node_index2») (p .before .struct-told2 .given .1 .1 .1 .0 .1))
 
 pub put-tree-spec : {M : Type 1} → statement M
 put-tree-spec = tie.close (tie.spec put-boxed-requires same-length returns)

@@ -1,4 +1,5 @@
 -- `tree_at` meets its contract: field by field what the calls ensure.
+use mathlib.Core.Path.{_∙_}
 use Rattle.records.proofs.Fields.{same-short}
 use borrow.Author.Needs.{needs}
 use Rattle.records.proofs.tree_at.Statement.{statement}
@@ -27,9 +28,16 @@ short-at-requires-2 c κs = search needs
 
 returns : tie.Need-returns
 returns c =
-    let first = same-short (c .before .short-at .result) (c .before .short-at .ok) in
-    let second = same-short (c .short-at2 .result) (c .short-at2 .ok) in
-    cc
+    let min = c .before .before .before .vertex-at in
+    let max = c .before .before .vertex-at2 in
+    let first = c .before .short-at in
+    let second = c .short-at2 in
+    λ i. record {
+      min = min .ensures i;
+      max = max .ensures i;
+      «node_index1» = (same-short (first .result) (first .ok) ∙ first .ensures) i;
+      «node_index2» = (same-short (second .result) (second .ok) ∙ second .ensures) i;
+    }
 
 pub tree-at-spec : {M : Type 1} → statement M
 tree-at-spec =

@@ -1,4 +1,5 @@
 -- `vertex_at` meets its contract: axis by axis what `short_at` ensures.
+use mathlib.Core.Path.{_∙_}
 use Rattle.records.proofs.Fields.{same-short}
 use borrow.Author.Needs.{needs}
 use Rattle.records.proofs.vertex_at.Statement.{statement}
@@ -21,10 +22,14 @@ short-at-requires-3 c κs = search needs
 
 returns : tie.Need-returns
 returns c =
-    let x = same-short (c .before .before .short-at .result) (c .before .before .short-at .ok) in
-    let y = same-short (c .before .short-at2 .result) (c .before .short-at2 .ok) in
-    let z = same-short (c .short-at3 .result) (c .short-at3 .ok) in
-    cc
+    let x = c .before .before .short-at in
+    let y = c .before .short-at2 in
+    let z = c .short-at3 in
+    λ i. record {
+      0 = (same-short (x .result) (x .ok) ∙ x .ensures) i;
+      1 = (same-short (y .result) (y .ok) ∙ y .ensures) i;
+      2 = (same-short (z .result) (z .ok) ∙ z .ensures) i;
+    }
 
 pub vertex-at-spec : {M : Type 1} → statement M
 vertex-at-spec =
