@@ -46,8 +46,9 @@ pub fn average(boxes: &[u32], places: &[u32]) -> Vec3
     let mut i = 0;
     while i < places.len() {
         let b = crate::boxes::box_at(boxes, Place(places[i]));
-        sum = sum.add(math::words3::values(b.min))
-            .add(math::words3::values(b.max));
+        let low = math::words3::values(b.min);
+        let high = math::words3::values(b.max);
+        sum = sum.add(low).add(high);
         i += 1;
     }
     sum.scale(0.5 / float32::counts::of_count(places.len() as u16))

@@ -1,11 +1,18 @@
 // A node's items split in two.
 ghost use mathlib.Core.Path.{_≡_};
-ghost use Prim.Native.Nat.{_≤_, _<_};
+ghost use Prim.Native.Nat.{_/_, _≤_, _<_};
 ghost use lib.ListN.{length};
 ghost use Rattle.split.specs.Boxes.{boxAt};
 ghost use Rattle.split.specs.Lists.{Within};
 ghost use Rattle.split.specs.Rule.{Divided};
 ghost use Rattle.split.specs.Groups.{Settled};
+
+// Where n sorted items are cut.
+fn middle(n: usize) -> usize
+    ensures { λ r. ⌜ r ≡ n / 2 ⌝ }
+{
+    n / 2
+}
 
 // Sorts the places where a group is empty, to be cut in the middle; where the second group begins.
 fn settle(a: &mut [u32], t: &mut [u32], boxes: &[u32], k: usize) -> usize
@@ -15,7 +22,7 @@ fn settle(a: &mut [u32], t: &mut [u32], boxes: &[u32], k: usize) -> usize
     let n = a.len();
     if k == 0 || k == n {
         crate::merging::sort(a, t, boxes);
-        return n / 2;
+        return middle(n);
     }
     k
 }

@@ -25,11 +25,11 @@ abbrev μ-loop : tie.MeasureT-loop
 loop-holds : tie.Need-loop-holds Inv-loop μ-loop
 loop-holds c = begin (sumFrom (boxAt (c .before .before .args .boxes .now))) _ (c .before .before .args .places .now) origin (c .before .before .pre .0)
 
-mul-t6 : tie.Need-mul-t6 Inv-loop μ-loop
-mul-t6 c = search needs
+mul-t8 : tie.Need-mul-t8 Inv-loop μ-loop
+mul-t8 c = search needs
 
-shared-slice-read-t9 : tie.Need-shared-slice-read-t9 Inv-loop μ-loop
-shared-slice-read-t9 c = search needs
+shared-slice-read-t11 : tie.Need-shared-slice-read-t11 Inv-loop μ-loop
+shared-slice-read-t11 c = search needs
 
 box-at-requires : tie.Need-box-at-requires Inv-loop μ-loop
 box-at-requires c κs =
@@ -39,11 +39,11 @@ box-at-requires c κs =
 values-requires : tie.Need-values-requires Inv-loop μ-loop
 values-requires c κs = search needs
 
-add-requires : tie.Need-add-requires Inv-loop μ-loop
-add-requires c κs = search needs
-
 values-requires-2 : tie.Need-values-requires-2 Inv-loop μ-loop
 values-requires-2 c κs = search needs
+
+add-requires : tie.Need-add-requires Inv-loop μ-loop
+add-requires c κs = search needs
 
 add-requires-2 : tie.Need-add-requires-2 Inv-loop μ-loop
 add-requires-2 c κs = search needs
@@ -61,8 +61,8 @@ loop-again c =
     let ps = c .before .before .before .before .before .before .before .before .before .before .args .places .now in
     let box = c .before .before .before .before .box-at .ensures in
     let low = c .before .before .before .values .ensures ∙ ap (λ (b : BoxWords). valuesOf (b .min)) box in
-    let high = c .before .values2 .ensures ∙ ap (λ (b : BoxWords). valuesOf (b .max)) box in
-    let step = c .add2 .ensures ∙ ap₂ addOf (c .before .before .add .ensures ∙ ap (addOf (l .sum)) low) high in
+    let high = c .before .before .values2 .ensures ∙ ap (λ (b : BoxWords). valuesOf (b .max)) box in
+    let step = c .add2 .ensures ∙ ap₂ addOf (c .before .add .ensures ∙ ap (addOf (l .sum)) low) high in
     taken (sumFrom at) _ ps origin (l .sum) _ (l .i) (l .inv) (omega arith) (ap (λ (v : Vec3). sumFrom at v (drop (l .i + 1) ps)) step)
 
 cast-of-count : tie.Need-cast-of-count Inv-loop μ-loop
@@ -89,12 +89,12 @@ average-spec =
     Inv-loop
     μ-loop
     loop-holds
-    mul-t6
-    shared-slice-read-t9
+    mul-t8
+    shared-slice-read-t11
     box-at-requires
     values-requires
-    add-requires
     values-requires-2
+    add-requires
     add-requires-2
     add-i
     loop-less

@@ -2,12 +2,12 @@
 use borrow.Author.Needs.{needs}
 use Rattle.split.proofs.divide.divide.Statement.{statement}
 use Rattle.split.proofs.divide.divide.Tie as tie
-use Prim.Native.Nat.{ℕ, _≤_}
-use mathlib.Core.Path.{_≡_, subst, ap, _∙_}
+use Prim.Native.Nat.{ℕ}
+use mathlib.Core.Path.{_≡_, subst, ap}
 use mathlib.Core.Bool.{Bool}
 use mathlib.Core.List.{List}
-use lib.ListN.{length}
 use Rattle.split.specs.declared.average.Axis.the-variants.{X, Y, Z}
+use Rattle.split.specs.declared.boxes.BoxWords.{BoxWords}
 use Rattle.split.specs.declared.groups.Counts.{Counts}
 use Rattle.split.specs.Boxes.{boxAt}
 use Rattle.split.specs.Rule.{chosen, groupOne, groupTwo}
@@ -16,19 +16,36 @@ use Rattle.split.proofs.Counting.{count-le}
 use Rattle.split.proofs.Steps.{Met, chosen-by, parted-met, met-divided, met-inside, parted-within}
 use native.Mathlib.Omega.{arith}
 
+-- the function's entry, from after the partition; and the partition, from after it is settled
+abbrev entry : tie.After-partition → tie.Start
+entry c = c .before .before .before .before .before .before .before .before .before .before .before
+
+abbrev partition : tie.After-settle → tie.After-partition
+partition c = c .before .before .before .before .before .before .before
+
+-- the boxes and the places at entry
+abbrev boxes-of : tie.Start → ℕ → BoxWords
+boxes-of g = boxAt (g .args .boxes .now)
+
+abbrev places-of : tie.Start → List ℕ
+places-of g = g .args .a .now
+
 -- the partition is by the rule's own test
-parts : (c : tie.After-partition) → Parted (chosen (boxAt (c .before .before .before .before .before .before .before .before .before .before .before .args .boxes .now)) (c .before .before .before .before .before .before .before .before .before .before .before .args .a .now)) (c .before .before .before .before .before .before .before .before .before .before .before .args .a .now) (c .partition .last .0) (c .partition .result)
+parts : (c : tie.After-partition) → Parted (chosen (boxes-of (entry c)) (places-of (entry c))) (places-of (entry c)) (c .partition .last .0) (c .partition .result)
 parts c =
-    let g = c .before .before .before .before .before .before .before .before .before .before .before .args in
-    subst (λ (t : ℕ → Bool). Parted t (g .a .now) (c .partition .last .0) (c .partition .result))
-    (chosen-by (boxAt (g .boxes .now)) (g .a .now) (c .before .before .before .before .before .before .average .result) (c .before .before .before .before .count-below .result) (c .before .before .before .choose-axis .result) (c .before .before .before .before .before .before .average .ensures) (c .before .before .before .before .count-below .ensures) (c .before .before .before .choose-axis .ensures))
+    let axis = c .before .before .before in
+    let counts = c .before .before .before .before in
+    let avg = c .before .before .before .before .before .before in
+    subst (λ (test : ℕ → Bool). Parted test (places-of (entry c)) (c .partition .last .0) (c .partition .result))
+    (chosen-by (boxes-of (entry c)) (places-of (entry c)) (avg .average .result) (counts .count-below .result) (axis .choose-axis .result) (avg .average .ensures) (counts .count-below .ensures) (axis .choose-axis .ensures))
     (c .partition .ensures)
 
 -- where the two groups meet
-meets : (c : tie.After-settle) → Met (groupOne (boxAt (c .before .before .before .before .before .before .before .before .before .before .before .before .before .before .before .before .before .before .args .boxes .now)) (c .before .before .before .before .before .before .before .before .before .before .before .before .before .before .before .before .before .before .args .a .now)) (groupTwo (boxAt (c .before .before .before .before .before .before .before .before .before .before .before .before .before .before .before .before .before .before .args .boxes .now)) (c .before .before .before .before .before .before .before .before .before .before .before .before .before .before .before .before .before .before .args .a .now)) (c .settle .last .0) (c .settle .result)
+meets : (c : tie.After-settle)
+    → Met (groupOne (boxes-of (entry (partition c))) (places-of (entry (partition c)))) (groupTwo (boxes-of (entry (partition c))) (places-of (entry (partition c)))) (c .settle .last .0) (c .settle .result)
 meets c =
-    let g = c .before .before .before .before .before .before .before .before .before .before .before .before .before .before .before .before .before .before .args in
-    parted-met (boxAt (g .boxes .now)) (g .a .now) (c .before .before .before .before .before .before .before .partition .last .0) (c .settle .last .0) (c .before .before .before .before .before .before .before .partition .result) (c .settle .result) (parts (c .before .before .before .before .before .before .before)) (c .settle .ensures)
+    let p = partition c .partition in
+    parted-met (boxes-of (entry (partition c))) (places-of (entry (partition c))) (p .last .0) (c .settle .last .0) (p .result) (c .settle .result) (parts (partition c)) (c .settle .ensures)
 
 average-requires : tie.Need-average-requires
 average-requires c κs = search needs
@@ -41,14 +58,13 @@ cast-choose-axis c = search needs
 
 choose-axis-requires : tie.Need-choose-axis-requires
 choose-axis-requires c κs =
-    let g = c .before .before .before .before .before .before .before .args in
-    let at = boxAt (g .boxes .now) in
+    let g = c .before .before .before .before .before .before .before in
     let avg = c .before .before .average .result in
     let e = c .count-below .ensures in (
       omega arith,
-      omega (arith, ap (λ (n : Counts). n .x) e, count-le at avg X (g .a .now)),
-      omega (arith, ap (λ (n : Counts). n .y) e, count-le at avg Y (g .a .now)),
-      omega (arith, ap (λ (n : Counts). n .z) e, count-le at avg Z (g .a .now)),
+      omega (arith, ap (λ (n : Counts). n .x) e, count-le (boxes-of g) avg X (places-of g)),
+      omega (arith, ap (λ (n : Counts). n .y) e, count-le (boxes-of g) avg Y (places-of g)),
+      omega (arith, ap (λ (n : Counts). n .z) e, count-le (boxes-of g) avg Z (places-of g)),
     )
 
 partition-requires : tie.Need-partition-requires
@@ -56,17 +72,17 @@ partition-requires c κs = search needs
 
 settle-requires : tie.Need-settle-requires
 settle-requires c κs =
-    let g = c .before .before .before .before .before .before .before .before .before .before .before .before .before .before .before .before .before in (
-      omega (arith, c .before .before .before .before .before .before .partition .kept .0, c .before .before .before .before .before .before .partition .kept .1 .0, g .pre .2),
-      parted-within _ _ (g .args .a .now) (c .before .before .before .before .before .before .partition .last .0) (c .before .before .before .before .before .before .partition .result) (c .before .before .before .before .before .before .partition .ensures) (g .pre .3),
+    let p = c .before .before .before .before .before .before in
+    let g = entry p in (
+      omega (arith, p .partition .kept .0, p .partition .kept .1 .0, g .pre .2),
+      parted-within _ _ (places-of g) (p .partition .last .0) (p .partition .result) (p .partition .ensures) (g .pre .3),
     )
 
 larger-first-requires : tie.Need-larger-first-requires
 larger-first-requires c κs =
-    let g = c .before .before .before .before .before .before .before .before .before .before .before .before .before .before .before .before .before .before .before .before .before .before .before .before in (
-      omega (arith, c .before .before .before .before .before .before .settle .kept .0, c .before .before .before .before .before .before .settle .kept .1 .0, c .before .before .before .before .before .before .before .before .before .before .before .before .before .partition .kept .0, c .before .before .before .before .before .before .before .before .before .before .before .before .before .partition .kept .1 .0, g .pre .2),
-      met-inside (meets (c .before .before .before .before .before .before)),
-    )
+    let s = c .before .before .before .before .before .before in
+    let p = partition s in
+    (omega (arith, s .settle .kept .0, s .settle .kept .1 .0, p .partition .kept .0, p .partition .kept .1 .0, entry p .pre .2), met-inside (meets s))
 
 same-length : tie.Need-same-length
 same-length c = search needs
@@ -76,9 +92,10 @@ same-length-2 c = search needs
 
 returns : tie.Need-returns
 returns c =
-    let g = c .before .before .before .before .before .before .before .before .before .before .before .before .before .before .before .before .before .before .before .before .before .before .before .before .before .before .before .before .before in
-    met-divided (boxAt (g .args .boxes .now)) (g .args .a .now) (c .before .before .before .before .before .before .before .before .before .before .before .settle .last .0) (c .before .before .before .before .larger-first .last .0) (c .before .before .before .before .before .before .before .before .before .before .before .settle .result) (c .before .before .before .before .larger-first .result)
-    (g .pre .0) (meets (c .before .before .before .before .before .before .before .before .before .before .before)) (c .before .before .before .before .larger-first .ensures)
+    let f = c .before .before .before .before .larger-first in
+    let s = c .before .before .before .before .before .before .before .before .before .before .before in
+    let g = entry (partition s) in
+    met-divided (boxes-of g) (places-of g) (s .settle .last .0) (f .last .0) (s .settle .result) (f .result) (g .pre .0) (meets s) (f .ensures)
 
 pub divide-spec : {M : Type 1} → statement M
 divide-spec =

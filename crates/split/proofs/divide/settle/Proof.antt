@@ -2,8 +2,8 @@
 use borrow.Author.Needs.{needs}
 use Rattle.split.proofs.divide.settle.Statement.{statement}
 use Rattle.split.proofs.divide.settle.Tie as tie
-use mathlib.Core.Path.{_≡_}
-use mathlib.Core.Bool.{true, false, or-true}
+use mathlib.Core.Path.{_≡_, _∙_}
+use mathlib.Core.Bool.{true, or-true}
 use mathlib.Core.Logic.{⊎-elim}
 use lib.ListN.{length}
 use borrow.Author.Tests.{eq-eqb, ne-eqb}
@@ -15,6 +15,9 @@ either-test c = ⊎-elim (λ w. rw (eq-eqb _ _ (w .taken))) (λ w. rw (w .1 .tak
 sort-requires : tie.Need-sort-requires
 sort-requires c κs = search needs
 
+middle-requires : tie.Need-middle-requires
+middle-requires c κs = search needs
+
 same-length : tie.Need-same-length
 same-length c = search needs
 
@@ -23,8 +26,8 @@ same-length-2 c = search needs
 
 returns : tie.Need-returns
 returns c =
-    let e = either-test (c .before .before .before .before .before .before .before) in
-    record { list = rw e (c .before .before .before .before .sort .ensures); begin = rw e }
+    let e = either-test (c .before .before .before .before .before .before .before .before) in
+    record { list = rw e (c .before .before .before .before .before .sort .ensures); begin = rw e (c .middle .ensures) }
 
 returns-2 : tie.Need-returns-2
 returns-2 c =
@@ -32,4 +35,5 @@ returns-2 c =
     record { list = rw (e, c .if2 .left); begin = rw (e, c .if2 .left) }
 
 pub settle-spec : {M : Type 1} → statement M
-settle-spec = tie.close (tie.spec sort-requires same-length same-length-2 returns returns-2)
+settle-spec =
+    tie.close (tie.spec sort-requires middle-requires same-length same-length-2 returns returns-2)

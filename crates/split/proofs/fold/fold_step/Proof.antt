@@ -2,6 +2,7 @@
 use borrow.Author.Needs.{needs}
 use Rattle.split.proofs.fold.fold_step.Statement.{statement}
 use Rattle.split.proofs.fold.fold_step.Tie as tie
+use mathlib.Core.Path.{_≡_}
 
 vmin-words-requires : tie.Need-vmin-words-requires
 vmin-words-requires c κs = search needs
@@ -10,7 +11,7 @@ vmax-words-requires : tie.Need-vmax-words-requires
 vmax-words-requires c κs = search needs
 
 returns : tie.Need-returns
-returns c = cc
+returns c = λ i. record { min = c .before .vmin-words .ensures i; max = c .vmax-words .ensures i }
 
 pub fold-step-spec : {M : Type 1} → statement M
 fold-step-spec = tie.close (tie.spec vmin-words-requires vmax-words-requires returns)
