@@ -1,5 +1,5 @@
 -- Laws of the tree that a lawful builder grows: how `grow` unfolds whatever the fuel, what its leaves hold, and how its rows lie.
-use Prim.Native.Nat.{ℕ, zero, suc, _+_, _-_, _*_, _≤_, _<_}
+use Prim.Native.Nat.{ℕ, zero, suc, _+_, _*_, _≤_, _<_}
 use native.Mathlib.Omega.{arith}
 use mathlib.Core.Bool.{Bool, true, false, _&&_}
 use mathlib.Core.List.{List, [], _∷_, _++_, append-assoc, map-append}
@@ -178,10 +178,11 @@ rows-running lo (leaf b ps) = (λ h. refl, refl)
 rows-running lo (inner b l r) =
     let mid : ℕ = lo + length (leafOrder l) in
     let hi : ℕ = lo + length (leafOrder l ++ leafOrder r) in
-    let e : mid + length (leafOrder r) ≡ hi = omega (arith, length-append (leafOrder l) (leafOrder r)) in
-    (λ h. absurd (omega arith),
-    subst (λ (at : ℕ). Running at hi (rows lo l ++ rows mid r)) (omega arith)
-    (running-append lo mid hi (rows lo l) (rows mid r) (rows-running lo l) (subst (λ (at : ℕ). Running mid at (rows mid r)) e (rows-running mid r))))
+    let e : mid + length (leafOrder r) ≡ hi = omega (arith, length-append (leafOrder l) (leafOrder r)) in (
+      λ h. absurd (omega arith),
+      subst (λ (at : ℕ). Running at hi (rows lo l ++ rows mid r)) (omega arith)
+          (running-append lo mid hi (rows lo l) (rows mid r) (rows-running lo l) (subst (λ (at : ℕ). Running mid at (rows mid r)) e (rows-running mid r))),
+    )
 
 -- n positions from lo on have i among them
 abbrev pub holds : ℕ → ℕ → ℕ → Bool

@@ -24,9 +24,10 @@ pub record Builder : Type 0 where
 unfoldable pub growF : Builder → ℕ → ℕ → List ℕ → Node
 growF b th zero ps = leaf (b .box ps) ps
 growF b th (suc k) ps =
-    elim (leb (length ps) th)
-    [ true ↦ leaf (b .box ps) ps
-    | false ↦ inner (b .box ps) (growF b th k (b .first ps)) (growF b th k (b .second ps)) ]
+    elim (leb (length ps) th) [
+      | true ↦ leaf (b .box ps) ps
+      | false ↦ inner (b .box ps) (growF b th k (b .first ps)) (growF b th k (b .second ps))
+    ]
 
 -- Rule T8 (01, Tree build; bvh.rs, Node::build).
 unfoldable pub grow : Builder → ℕ → List ℕ → Node
