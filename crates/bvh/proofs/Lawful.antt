@@ -4,9 +4,9 @@ use mathlib.Core.List.{List, _++_}
 use mathlib.Core.Path.{_≡_}
 use lib.ListN.{length}
 use Rattle.split.specs.declared.boxes.BoxWords.{BoxWords}
-use Rattle.split.specs.Lists.{Within}
-use Rattle.split.proofs.DivideLaws.{divide-total, divide-some-first, divide-some-second, divide-within-first, divide-within-second, divide-count}
-use Rattle.bvh.specs.Tree.{Builder, builder, occurrences}
+use Rattle.split.specs.Lists.{Within, Permutes}
+use Rattle.split.proofs.DivideLaws.{divide-total, divide-some-first, divide-some-second, divide-within-first, divide-within-second, divide-permutes}
+use Rattle.bvh.specs.Tree.{Builder, builder}
 
 pub record Lawful (b : Builder) : Type 0 where
   pub total : (ps : List ℕ) → length (b .first ps) + length (b .second ps) ≡ length ps
@@ -14,7 +14,7 @@ pub record Lawful (b : Builder) : Type 0 where
   pub some-second : (ps : List ℕ) → 2 ≤ length ps → 0 < length (b .second ps)
   pub within-first : (size : ℕ) (ps : List ℕ) → Within size ps → Within size (b .first ps)
   pub within-second : (size : ℕ) (ps : List ℕ) → Within size ps → Within size (b .second ps)
-  pub same-count : (p : ℕ) (ps : List ℕ) → occurrences p (b .first ps ++ b .second ps) ≡ occurrences p ps
+  pub permutes : (ps : List ℕ) → Permutes (b .first ps ++ b .second ps) ps
 
 pub lawful : (at : ℕ → BoxWords) → Lawful (builder at)
 lawful at =
@@ -24,5 +24,5 @@ lawful at =
       some-second = divide-some-second at;
       within-first = divide-within-first at;
       within-second = divide-within-second at;
-      same-count = divide-count at;
+      permutes = divide-permutes at;
     }

@@ -6,8 +6,7 @@ use mathlib.Core.List.{List, [], _∷_, _++_}
 use mathlib.Core.Path.{_≡_}
 use lib.Dec.{eqb}
 use lib.ListN.{length, take, drop, take-append-drop}
-use Rattle.split.specs.Lists.{Within, pick, sift}
-use Rattle.bvh.specs.Tree.{occurrences}
+use Rattle.split.specs.Lists.{Within, occurrences, pick, sift}
 
 pub within-append : (size : ℕ) (xs ys : List ℕ) → Within size xs → Within size ys → Within size (xs ++ ys)
 within-append size [] ys p q = q

@@ -1,5 +1,5 @@
 -- Laws of the tree that a lawful builder grows: how `grow` unfolds whatever the fuel, what its leaves hold, and how its rows lie.
-use Prim.Native.Nat.{ℕ, zero, suc, _+_, _-_, _*_, _≤_, _<_}
+use Prim.Native.Nat.{ℕ, zero, suc, _+_, _*_, _≤_, _<_}
 use native.Mathlib.Omega.{arith}
 use mathlib.Core.Bool.{Bool, true, false, _&&_}
 use mathlib.Core.List.{List, [], _∷_, _++_, append-assoc, map-append}
@@ -11,9 +11,9 @@ use native.Mathlib.Decide.{decLe}
 use borrow.Author.Tests.{leb-true, leb-false, le-leb, lt-leb, lt-ltb, le-ltb}
 use Rattle.split.specs.declared.boxes.BoxWords.{BoxWords}
 use Rattle.split.specs.Boxes.{boxWords}
-use Rattle.split.specs.Lists.{Within}
+use Rattle.split.specs.Lists.{Within, Permutes}
 use Rattle.bvh.specs.Rows.{Row, rows, heads, counts, words}
-use Rattle.bvh.specs.Tree.{Node, leaf, inner, Builder, growF, grow, leafOrder, size, occurrences}
+use Rattle.bvh.specs.Tree.{Node, leaf, inner, Builder, growF, grow, leafOrder, size}
 use Rattle.bvh.proofs.Places.{within-append, occurrences-append}
 use Rattle.bvh.proofs.Lawful.{Lawful}
 
@@ -107,10 +107,10 @@ full-most (inner b l r) f = omega (arith, length-append (leafOrder l) (leafOrder
 
 module _ (b : Builder) (law : Lawful b) (th : ℕ) (pos : 0 < th) where
   -- the leaf order is the items in another order
-  pub leaf-order-count : (p : ℕ) (ps : List ℕ) → occurrences p (leafOrder (grow b th ps)) ≡ occurrences p ps
-  leaf-order-count p = grow-induction b law th pos (λ ps t. occurrences p (leafOrder t) ≡ occurrences p ps)
-      (λ ps h. refl)
-      (λ ps l r h el er. occurrences-append p (leafOrder l) (leafOrder r) ∙ ap₂ _+_ el er ∙ sym (occurrences-append p (b .first ps) (b .second ps)) ∙ law .same-count p ps)
+  pub leaf-order-permutes : (ps : List ℕ) → Permutes (leafOrder (grow b th ps)) ps
+  leaf-order-permutes = grow-induction b law th pos (λ ps t. Permutes (leafOrder t) ps)
+      (λ ps h p. refl)
+      (λ ps l r h el er p. occurrences-append p (leafOrder l) (leafOrder r) ∙ ap₂ _+_ (el p) (er p) ∙ sym (occurrences-append p (b .first ps) (b .second ps)) ∙ law .permutes ps p)
 
   pub leaf-order-length : (ps : List ℕ) → length (leafOrder (grow b th ps)) ≡ length ps
   leaf-order-length = grow-induction b law th pos (λ ps t. length (leafOrder t) ≡ length ps)
@@ -178,10 +178,11 @@ rows-running lo (leaf b ps) = (λ h. refl, refl)
 rows-running lo (inner b l r) =
     let mid : ℕ = lo + length (leafOrder l) in
     let hi : ℕ = lo + length (leafOrder l ++ leafOrder r) in
-    let e : mid + length (leafOrder r) ≡ hi = omega (arith, length-append (leafOrder l) (leafOrder r)) in
-    (λ h. absurd (omega arith),
-    subst (λ (at : ℕ). Running at hi (rows lo l ++ rows mid r)) (omega arith)
-    (running-append lo mid hi (rows lo l) (rows mid r) (rows-running lo l) (subst (λ (at : ℕ). Running mid at (rows mid r)) e (rows-running mid r))))
+    let e : mid + length (leafOrder r) ≡ hi = omega (arith, length-append (leafOrder l) (leafOrder r)) in (
+      λ h. absurd (omega arith),
+      subst (λ (at : ℕ). Running at hi (rows lo l ++ rows mid r)) (omega arith)
+          (running-append lo mid hi (rows lo l) (rows mid r) (rows-running lo l) (subst (λ (at : ℕ). Running mid at (rows mid r)) e (rows-running mid r))),
+    )
 
 -- n positions from lo on have i among them
 abbrev pub holds : ℕ → ℕ → ℕ → Bool

@@ -1,6 +1,6 @@
 -- What each step of the builder leaves in the slices that it is lent. Definitions only.
 use Prim.Native.Nat.{ℕ, _+_, _*_, _<_}
-use mathlib.Core.List.{List, [], _∷_, _++_}
+use mathlib.Core.List.{List, _++_}
 use mathlib.Core.Path.{_≡_}
 use lib.ListN.{length, set, take, drop}
 use Rattle.split.specs.Boxes.{boxWords}

@@ -1,14 +1,11 @@
 -- How the rows' numbers of nodes come about: the rows without them, and the pass that puts them in from the last row to the first. Definitions only.
-use Prim.Native.Nat.{ℕ, zero, suc, _+_, _*_, _≤_, _<_}
+use Prim.Native.Nat.{ℕ, zero, suc, _+_}
 use mathlib.Core.Bool.{cond}
 use mathlib.Core.List.{List, [], _∷_, _++_}
-use mathlib.Core.Path.{_≡_}
 use lib.Dec.{eqb}
-use lib.ListN.{length, set, take, drop}
-use Rattle.split.specs.declared.boxes.BoxWords.{BoxWords}
-use Rattle.split.specs.Boxes.{boxWords}
-use Rattle.bvh.specs.Rows.{Row, heads, counts, words}
-use Rattle.bvh.specs.Tree.{Node, leaf, inner, Builder, grow, leafOrder}
+use lib.ListN.{length}
+use Rattle.bvh.specs.Rows.{Row}
+use Rattle.bvh.specs.Tree.{Node, leaf, inner, leafOrder}
 
 -- the rows with 0 for an inner node's number of nodes
 abbrev pub bareRows : ℕ → Node → List Row

@@ -2,11 +2,10 @@
 use Prim.Native.Nat.{ℕ, zero, suc, _+_}
 use mathlib.Core.Bool.{Bool, true, false}
 use mathlib.Core.List.{List, [], _∷_, _++_}
-use lib.Dec.{leb, eqb}
+use lib.Dec.{leb}
 use lib.ListN.{length}
 use Rattle.split.specs.declared.boxes.BoxWords.{BoxWords}
 use Rattle.split.specs.Folding.{foldBox}
-use Rattle.split.specs.Lists.{sift}
 use Rattle.split.specs.Rule.{firstOf, secondOf}
 
 -- A node has its box, and its items or its two children.
@@ -25,9 +24,10 @@ pub record Builder : Type 0 where
 unfoldable pub growF : Builder → ℕ → ℕ → List ℕ → Node
 growF b th zero ps = leaf (b .box ps) ps
 growF b th (suc k) ps =
-    elim (leb (length ps) th)
-    [ true ↦ leaf (b .box ps) ps
-    | false ↦ inner (b .box ps) (growF b th k (b .first ps)) (growF b th k (b .second ps)) ]
+    elim (leb (length ps) th) [
+      | true ↦ leaf (b .box ps) ps
+      | false ↦ inner (b .box ps) (growF b th k (b .first ps)) (growF b th k (b .second ps))
+    ]
 
 -- Rule T8 (01, Tree build; bvh.rs, Node::build).
 unfoldable pub grow : Builder → ℕ → List ℕ → Node
@@ -51,7 +51,3 @@ leafOrder (inner b l r) = leafOrder l ++ leafOrder r
 abbrev pub size : Node → ℕ
 size (leaf b ps) = 1
 size (inner b l r) = 1 + size l + size r
-
--- how often a place stands in a list
-abbrev pub occurrences : ℕ → List ℕ → ℕ
-occurrences p ps = length (sift (λ q. eqb q p) ps)

@@ -1,13 +1,12 @@
 // The tree of a list of places, laid out as rows in preorder. Segment after segment is taken from a stack, since hostile boxes make trees too deep to recurse.
 ghost use mathlib.Core.Path.{_≡_};
-ghost use mathlib.Core.List.{_∷_};
 ghost use Prim.Native.Nat.{_+_, _-_, _*_, _≤_, _<_};
-ghost use lib.ListN.{length, set, take, drop};
+ghost use lib.ListN.{length, set};
 ghost use Rattle.split.specs.Boxes.{boxAt};
 ghost use Rattle.split.specs.Folding.{foldBox};
 ghost use Rattle.split.specs.Lists.{Within};
 ghost use Rattle.bvh.specs.Laid.{RowPut, InnerPut, Laid};
-ghost use Rattle.bvh.specs.Rows.{Row, Room, Grown};
+ghost use Rattle.bvh.specs.Rows.{Room, Grown};
 ghost use Rattle.bvh.specs.Tree.{builder};
 
 // Row m: the box of some places, a head and a count.

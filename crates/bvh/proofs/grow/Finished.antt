@@ -1,14 +1,14 @@
 -- The two ends of `grow_tree`: the empty leaf, and the laid rows with their sizes put in.
-use Prim.Native.Nat.{ℕ, _+_, _*_, _≤_, _<_}
+use Prim.Native.Nat.{ℕ, _≤_, _<_}
 use native.Mathlib.Omega.{arith}
 use mathlib.Core.List.{List, [], _∷_, _++_}
-use mathlib.Core.Path.{_≡_, refl, sym, ap, ap₂, _∙_}
+use mathlib.Core.Path.{_≡_, sym, ap, ap₂, _∙_}
 use lib.ListN.{length, take, drop}
 use lib.Seq.{take-at}
 use Rattle.bvh.specs.Laid.{RowPut, Laid}
-use Rattle.bvh.specs.Rows.{Row, rows, heads, counts, words, Grown}
-use Rattle.bvh.specs.Sizes.{bareRows, sized}
-use Rattle.bvh.specs.Tree.{Node, leaf, Builder, grow, size}
+use Rattle.bvh.specs.Rows.{Row, rows, counts, Grown}
+use Rattle.bvh.specs.Sizes.{sized}
+use Rattle.bvh.specs.Tree.{Node, leaf, Builder, grow}
 use Rattle.bvh.proofs.Lawful.{Lawful}
 use Rattle.bvh.proofs.TreeLaws.{grow-leaf, grow-full}
 use Rattle.bvh.proofs.grow.Written.{Written, none, one-more}

@@ -3,7 +3,7 @@ use Prim.Native.Nat.{ℕ, suc, _+_, _-_, _*_, _≤_, _<_}
 use native.Mathlib.Omega.{arith}
 use native.Mathlib.Numerals.{add-one}
 use mathlib.Core.List.{List, [], _∷_, _++_, append-nil}
-use mathlib.Core.Path.{_≡_, refl, sym, ap, ap₂, _∙_}
+use mathlib.Core.Path.{_≡_, refl, ap, ap₂, _∙_}
 use lib.ListN.{length, getD, set, take, drop, length-drop, length-set, drop-of-length-le}
 use lib.Seq.{getD-set-same, drop-set-lt, length-take-le, drop-at, drop-cons, take-add, take-all, drop-drop}
 use borrow.Rule.Slice.PartMut.{putMid, same-len-mid, take-put}
@@ -11,7 +11,7 @@ use Rattle.split.specs.Lists.{Within}
 use Rattle.bvh.specs.Laid.{RowPut, InnerPut, Laid}
 use Rattle.bvh.specs.Rows.{Row, Room, heads, counts, words}
 use Rattle.bvh.specs.Sizes.{bareRows}
-use Rattle.bvh.specs.Tree.{Builder, grow, leafOrder}
+use Rattle.bvh.specs.Tree.{Builder, grow}
 use Rattle.bvh.proofs.Lawful.{Lawful}
 use Rattle.bvh.proofs.Places.{within-append, within-take, within-drop}
 use Rattle.bvh.proofs.grow.Pending.{Pending, Some, sum, some-most, begin, leaf-step, inner-step}

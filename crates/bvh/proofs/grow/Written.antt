@@ -3,7 +3,7 @@ use Prim.Native.Nat.{ℕ, suc, _+_, _*_, _≤_, _<_}
 use native.Mathlib.Omega.{arith}
 use mathlib.Core.List.{List, [], _∷_, _++_, append-assoc, append-nil}
 use mathlib.Core.Path.{_≡_, refl, sym, ap, _∙_}
-use lib.ListN.{length, set, take, drop, length-append, length-set, length-drop}
+use lib.ListN.{length, take, drop, length-append, length-set}
 use lib.Seq.{length-take-le, take-at, take-suc-set}
 use Rattle.split.specs.Boxes.{boxWords}
 use Rattle.bvh.specs.Laid.{RowPut}
@@ -40,4 +40,3 @@ module _ (m : ℕ) (row : Row) (first count nodes first′ count′ nodes′ : L
 
   pub count-length : length count′ ≡ length count
   count-length = rw (put .count-put) (length-set count m (row .count))
-

@@ -6,10 +6,10 @@ use mathlib.Core.Bool.{Bool, true, false, cond}
 use mathlib.Core.List.{List, [], _∷_, _++_, append-assoc, append-nil}
 use mathlib.Core.Path.{_≡_, refl, sym, ap, ap₂, _∙_}
 use lib.Dec.{eqb}
-use lib.ListN.{length, getD, drop, length-append, length-map}
+use lib.ListN.{length, getD, drop, length-map}
 use borrow.Author.Tests.{ne-eqb}
 use Rattle.bvh.specs.Rows.{Row, rows, heads, counts, words}
-use Rattle.bvh.specs.Sizes.{bareRows, sizeAt, sizedHead, sized}
+use Rattle.bvh.specs.Sizes.{bareRows, sizeAt, sized}
 use Rattle.bvh.specs.Tree.{Node, leaf, inner, leafOrder, size}
 use Rattle.bvh.proofs.TreeLaws.{Full, heads-append, counts-append, words-append, length-rows}
 

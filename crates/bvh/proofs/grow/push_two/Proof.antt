@@ -2,43 +2,32 @@
 use borrow.Author.Needs.{needs}
 use Rattle.bvh.proofs.grow.push_two.Statement.{statement}
 use Rattle.bvh.proofs.grow.push_two.Tie as tie
-use Rattle.bvh.proofs.grow.push_two.Reads as reads
-use Rattle.bvh.proofs.grow.push_two.Lts as lts
 use lib.ListN.{length-set}
 
--- src/grow.rt:54:17
 cast-stack : tie.Need-cast-stack
 cast-stack c = search needs
 
--- src/grow.rt:54:5
 mul-stack : tie.Need-mul-stack
 mul-stack c = search needs
 
--- src/grow.rt:54:5
 slice-write-stack : tie.Need-slice-write-stack
 slice-write-stack c = search needs
 
--- src/grow.rt:55:21
 cast-stack-2 : tie.Need-cast-stack-2
 cast-stack-2 c = search needs
 
--- src/grow.rt:55:11
 sub-stack : tie.Need-sub-stack
 sub-stack c = search needs
 
--- src/grow.rt:55:5
 mul-stack-2 : tie.Need-mul-stack-2
 mul-stack-2 c = search needs
 
--- src/grow.rt:55:5
 slice-write-stack-2 : tie.Need-slice-write-stack-2
 slice-write-stack-2 c = simp length-set (search needs)
 
--- src/grow.rt:50:1
 same-length : tie.Need-same-length
 same-length c = search needs
 
--- src/grow.rt:50:1
 returns : tie.Need-returns
 returns c = search needs
 

@@ -2,46 +2,36 @@
 use borrow.Author.Needs.{needs}
 use Rattle.bvh.proofs.sizes.node_size.Statement.{statement}
 use Rattle.bvh.proofs.sizes.node_size.Tie as tie
-use Rattle.bvh.proofs.sizes.node_size.Reads as reads
-use Rattle.bvh.proofs.sizes.node_size.Lts as lts
 use native.Mathlib.Omega.{arith}
 use mathlib.Core.Path.{sym}
 use borrow.Author.Tests.{eq-eqb, ne-eqb}
 use Rattle.bvh.proofs.sizes.Sizing.{size-in, size-out}
 
--- src/sizes.rt:13:12
 mul-if2 : tie.Need-mul-if2
 mul-if2 c = search needs
 
--- src/sizes.rt:13:12
 shared-slice-read-if2 : tie.Need-shared-slice-read-if2
 shared-slice-read-if2 c = search needs
 
--- src/sizes.rt:13:28
 mul-result : tie.Need-mul-result
 mul-result c = search needs
 
--- src/sizes.rt:13:28
 shared-slice-read-result : tie.Need-shared-slice-read-result
 shared-slice-read-result c = search needs
 
--- src/sizes.rt:13:28
 cast-result : tie.Need-cast-result
 cast-result c = omega (arith, c .shared-slice-known2 .given (c .before .before .before .before .args .j))
 
--- src/sizes.rt:8:1
 returns : tie.Need-returns
 returns c =
     let a = c .before .before .before .before .args in
     rw (size-in (a .count .now) (a .first .now) (a .j) (c .before .before .before .before .pre) (c .before .before .before .if1 .taken), eq-eqb _ _ (c .before .if2 .taken))
 
--- src/sizes.rt:8:1
 returns-2 : tie.Need-returns-2
 returns-2 c =
     let a = c .before .before .before .args in
     rw (size-in (a .count .now) (a .first .now) (a .j) (c .before .before .before .pre) (c .before .before .if1 .taken), ne-eqb _ _ (c .if2 .left))
 
--- src/sizes.rt:8:1
 returns-3 : tie.Need-returns-3
 returns-3 c =
     let a = c .before .args in
