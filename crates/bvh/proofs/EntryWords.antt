@@ -13,8 +13,9 @@ use borrow.Author.Tests.{lt-ltb, leb-true, leb-false}
 use Rattle.split.specs.declared.boxes.BoxWords.{BoxWords}
 use Rattle.bvh.specs.declared.core.Build.{Build}
 use Rattle.bvh.specs.declared.core.Build.the-variants.{TooManyEntries, ThresholdOutside, BufferTooShort}
+use Rattle.bvh.specs.declared.core.Lengths.{Lengths}
 use Rattle.bvh.specs.declared.items.BvhItem.{BvhItem}
-use Rattle.bvh.specs.Build.{Entries, Lengths, short, pickBuild, answerOf, kept, nodesWritten, treesWritten, orderWritten}
+use Rattle.bvh.specs.Build.{Entries, short, pickBuild, answerOf, kept, nodesWritten, treesWritten, orderWritten}
 use Rattle.bvh.specs.Decode.{isMarked, marked}
 use Rattle.split.specs.Boxes.{boxFrom}
 use Rattle.bvh.specs.Entry.{entriesOf, entriesIn, takenOf, lengthsOf, Answered}
@@ -91,7 +92,7 @@ unread-same e e′ th l r nodes trees order nodes′ trees′ order′ same unre
       answer = a .answer ∙ unread-answer e e′ th l same unread;
       nodes-are = a .nodes-are ∙ keeps (nodesWritten e th) (nodesWritten e′ th) nodes;
       trees-are = a .trees-are ∙ keeps (treesWritten e th) (treesWritten e′ th) trees;
-      order-is = a .order-is ∙ keeps (orderWritten e th) (orderWritten e′ th) order
+      order-is = a .order-is ∙ keeps (orderWritten e th) (orderWritten e′ th) order;
     }
   where
     keeps : (w w′ before : List ℕ) → kept r w before ≡ kept r w′ before

@@ -22,9 +22,9 @@ size-some (inner b l r) = omega arith
 
 -- What holds of a tree of at most 127 nodes as one range, and of a larger one if it holds of its children's, holds of the ranges of every tree.
 module _ (P : ℕ → Node → List Range → Type 0)
-  (whole : (at : ℕ) (t : Node) → size t ≤ 127 → P at t (rangeOf (record { number = at; root = t }) ∷ []))
-  (parted : (at : ℕ) (b : BoxWords) (l r : Node) → 127 < size (inner b l r) → P (at + 1) l (ranges (at + 1) l) → P (at + 1 + size l) r (ranges (at + 1 + size l) r)
-      → P at (inner b l r) (ranges (at + 1) l ++ ranges (at + 1 + size l) r)) where
+    (whole : (at : ℕ) (t : Node) → size t ≤ 127 → P at t (rangeOf (record { number = at; root = t }) ∷ []))
+    (parted : (at : ℕ) (b : BoxWords) (l r : Node) → 127 < size (inner b l r) → P (at + 1) l (ranges (at + 1) l) → P (at + 1 + size l) r (ranges (at + 1 + size l) r)
+    → P at (inner b l r) (ranges (at + 1) l ++ ranges (at + 1 + size l) r)) where
   inner-case : (at : ℕ) (b : BoxWords) (l r : Node) (q : Bool) → leb (size (inner b l r)) 127 ≡ q → P (at + 1) l (ranges (at + 1) l) → P (at + 1 + size l) r (ranges (at + 1 + size l) r)
       → P at (inner b l r) (pickRanges q (rangeOf (record { number = at; root = inner b l r }) ∷ []) (ranges (at + 1) l ++ ranges (at + 1 + size l) r))
   inner-case at b l r true e pl pr = whole at (inner b l r) (leb-true _ _ e)

@@ -50,7 +50,7 @@ builtOf e th t =
       present = length (e .places);
       min = boxOf t .min;
       max = boxOf t .max;
-      scale = scaleIn t
+      scale = scaleIn t;
     }
 
 -- Rule B1 (01, Build): the checks in the order written.

@@ -38,7 +38,7 @@ lengthsOf nodes trees order words places temp stack first count boxes =
       stack = length stack;
       first = length first;
       count = length count;
-      boxes = length boxes
+      boxes = length boxes;
     }
 
 -- Rule B2 (01, Build): the answer, and the three outputs whole. Nothing is said of the work buffers.

@@ -1,5 +1,4 @@
 pub mod Build
-pub mod Core
 pub mod Decode
 pub mod Entry
 pub mod Flat

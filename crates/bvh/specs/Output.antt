@@ -30,7 +30,7 @@ nodeOf s th order r =
       min = quantiseOf (r .box .min) (s .cen) (s .inverse);
       max = quantiseOf (r .box .max) (s .cen) (s .inverse);
       «item_id» = pos (idOf th order r);
-      «item_count» = pos (r .count)
+      «item_count» = pos (r .count);
     }
 
 abbrev pub nodesBytes : Scale → ℕ → List ℕ → List Row → List ℕ
@@ -44,7 +44,7 @@ padNode =
       min = record { 0 = pos 0; 1 = pos 0; 2 = pos 0 };
       max = record { 0 = pos 0; 1 = pos 0; 2 = pos 0 };
       «item_id» = pos 1;
-      «item_count» = pos 0
+      «item_count» = pos 0;
     }
 
 abbrev pub padBytes : ℕ → List ℕ
@@ -62,7 +62,7 @@ treeRecord s r =
       min = quantiseOf (r .box .min) (s .cen) (s .inverse);
       max = quantiseOf (r .box .max) (s .cen) (s .inverse);
       «node_index1» = pos (r .first);
-      «node_index2» = pos (r .last)
+      «node_index2» = pos (r .last);
     }
 
 abbrev pub treesBytes : Scale → List Range → List ℕ

@@ -3,7 +3,6 @@ use math::words3::Words3;
 use records::BvhTree;
 use records::scale::Scale;
 use split::boxes::BoxWords;
-
 ghost use mathlib.Core.Path.{_≡_};
 ghost use mathlib.Core.List.{_++_};
 ghost use Prim.Native.Nat.{_+_, _*_, _≤_, _<_};
@@ -63,7 +62,13 @@ fn tree_size(first: &[u32], count: &[u32], i: usize) -> usize
 }
 
 // The records of the ranges of the tree whose rows the slices hold, and how many they are. From the first row on: a tree over 127 nodes is left for its children, any other is a range, and its rows are passed.
-pub fn put_trees(trees: &mut [u8], first: &[u32], count: &[u32], boxes: &[u32], scale: Scale) -> usize
+pub fn put_trees(
+    trees: &mut [u8],
+    first: &[u32],
+    count: &[u32],
+    boxes: &[u32],
+    scale: Scale,
+) -> usize
     requires { ⌜ Scannable (now first) (now count) (now boxes) (now trees) ⌝ }
     ensures { λ r. ⌜ ((t : Node) → Flat t (now (first .entry)) (now (count .entry)) (now (boxes .entry)) → TreesPut scale t (now (trees .entry)) (now (trees .exit)) r) ⌝ }
 {
