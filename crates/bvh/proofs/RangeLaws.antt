@@ -15,6 +15,7 @@ use Rattle.bvh.specs.Tree.{Node, leaf, inner, leafOrder, size}
 use Rattle.bvh.specs.Ranges.{Range, ranges, pickRanges}
 use Rattle.bvh.specs.Rows.{Row, rows}
 use Rattle.bvh.specs.Numbers.{Subtree, subtrees, leafNumbers, upFrom, rangeOf, holds, nodesIn, rangesHolding, RisingRanges, Part, RowsFrom, Cut}
+use Rattle.bvh.proofs.TreeLaws.{length-rows}
 
 pub size-some : (t : Node) → 0 < size t
 size-some (leaf b ps) = omega arith
@@ -262,12 +263,6 @@ numbers-are at (inner b l r) =
     let e : 1 + size l + size r ≡ suc (size l + size r) = omega arith in
     rw (e, map-append (λ (s : Subtree). s .number) (subtrees (at + 1) l) (subtrees (at + 1 + size l) r), numbers-are (at + 1) l, numbers-are (at + 1 + size l) r)
     (ap (λ (ns : List ℕ). at ∷ ns) (upFrom-append (at + 1) (size l) (size r)))
-
-pub length-rows : (lo : ℕ) (t : Node) → length (rows lo t) ≡ size t
-length-rows lo (leaf b ps) = refl
-length-rows lo (inner b l r) =
-    let m : ℕ = lo + length (leafOrder l) in
-    omega (arith, length-append (rows lo l) (rows m r), length-rows lo l, length-rows m r)
 
 -- in a list that goes on, and behind one that went before
 more-rows : (k : ℕ) (t : Node) (xs ys : List Row) → k ≤ length xs → RowsFrom k t xs → RowsFrom k t (xs ++ ys)

@@ -20,7 +20,8 @@ use Rattle.bvh.specs.Ranges.{Range, ranges, pickRanges}
 use Rattle.bvh.specs.Output.{treeRecord, treesBytes, over}
 use Rattle.bvh.specs.Flat.{Full, Filled, treeSize, Flat, Scannable, TreesPut}
 use Rattle.bvh.proofs.FlatLaws.{length-trees, trees-append}
-use Rattle.bvh.proofs.RangeLaws.{length-rows, subtree-within, range-is-subtree}
+use Rattle.bvh.proofs.RangeLaws.{subtree-within, range-is-subtree}
+use Rattle.bvh.proofs.TreeLaws.{length-rows}
 use Rattle.bvh.proofs.ranges.RowBoxes.{box-in-slice, slice-room}
 
 -- ---- the scan, on rows
