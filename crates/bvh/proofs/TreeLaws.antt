@@ -14,7 +14,8 @@ use Rattle.split.specs.Boxes.{boxWords}
 use Rattle.split.specs.Lists.{Within, Permutes}
 use Rattle.bvh.specs.Rows.{Row, rows, heads, counts, words}
 use Rattle.bvh.specs.Tree.{Node, leaf, inner, Builder, growF, grow, leafOrder, size}
-use Rattle.bvh.proofs.Places.{within-append, occurrences-append}
+use Rattle.split.proofs.WithinLaws.{within-append}
+use Rattle.bvh.proofs.Places.{occurrences-append}
 use Rattle.bvh.proofs.Lawful.{Lawful}
 
 module _ (b : Builder) where

@@ -5,5 +5,6 @@ mod Parting
 mod Places
 mod Rotated
 mod Sifting
-mod Steps
 pub mod SortLaws
+mod Steps
+pub mod WithinLaws

@@ -7,11 +7,7 @@ use mathlib.Core.List.{List, [], _∷_}
 use lib.ListN.{length, getD, drop, drop-of-length-le}
 use lib.Seq.{drop-cons}
 use Rattle.split.specs.Lists.{Within}
-
-pub within-at : (n : ℕ) (ps : List ℕ) (i : ℕ) → Within n ps → i < length ps → 7 * getD ps i 0 + 7 ≤ n
-within-at n [] i w h = absurd (omega arith)
-within-at n (p ∷ ps) zero w h = w .0
-within-at n (p ∷ ps) (suc i) w h = within-at n ps i (w .1) (omega arith)
+use Rattle.split.proofs.WithinLaws.{within-at}
 
 -- the next place and what is left after it
 pub rest-one : (ps : List ℕ) (i : ℕ) → i < length ps → drop i ps ≡ getD ps i 0 ∷ drop (i + 1) ps

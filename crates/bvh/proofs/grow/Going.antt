@@ -13,7 +13,7 @@ use Rattle.bvh.specs.Rows.{Row, Room, heads, counts, words}
 use Rattle.bvh.specs.Sizes.{bareRows}
 use Rattle.bvh.specs.Tree.{Builder, grow}
 use Rattle.bvh.proofs.Lawful.{Lawful}
-use Rattle.bvh.proofs.Places.{within-append, within-take, within-drop}
+use Rattle.split.proofs.WithinLaws.{within-append, within-take, within-drop}
 use Rattle.bvh.proofs.grow.Pending.{Pending, Some, sum, some-most, begin, leaf-step, inner-step}
 use Rattle.bvh.proofs.grow.Written.{Written, none, one-more, first-length, count-length}
 

@@ -11,7 +11,7 @@ use Rattle.split.specs.Lists.{Within}
 use Rattle.bvh.specs.Rows.{Room}
 use Rattle.bvh.specs.Tree.{builder}
 use Rattle.bvh.proofs.Lawful.{lawful}
-use Rattle.bvh.proofs.Places.{within-take, within-drop}
+use Rattle.split.proofs.WithinLaws.{within-take, within-drop}
 use Rattle.bvh.proofs.grow.Going.{Slices, Going, Top, top, start, ended, leaf-turn, inner-turn, segment-length, room-set}
 
 abbrev Inv-loop : tie.InvT-loop

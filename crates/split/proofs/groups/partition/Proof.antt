@@ -10,7 +10,7 @@ use Rattle.split.specs.Boxes.{boxAt}
 use Rattle.split.specs.Lists.{oneIf}
 use Rattle.split.specs.Rule.{above}
 use Rattle.split.specs.Groups.{stepOf, passes, Parted}
-use Rattle.split.proofs.Places.{within-at}
+use Rattle.split.proofs.WithinLaws.{within-at}
 use Rattle.split.proofs.Sifting.{one-or-none}
 use Rattle.split.proofs.Parting.{Parting, begin, next-same, turn, parted, passes-above}
 use native.Mathlib.Omega.{arith}
@@ -23,7 +23,7 @@ use Rattle.split.specs.Boxes.{boxAt}
 use Rattle.split.specs.Lists.{oneIf}
 use Rattle.split.specs.Rule.{above}
 use Rattle.split.specs.Groups.{stepOf, passes, Parted}
-use Rattle.split.proofs.Places.{within-at}
+use Rattle.split.proofs.WithinLaws.{within-at}
 use Rattle.split.proofs.Sifting.{one-or-none}
 use Rattle.split.proofs.Parting.{Parting, begin, next-same, turn, parted, passes-above, step-small}
 
