@@ -1,0 +1,5 @@
+mod FieldLaws
+mod LineLaws
+pub mod Numbering
+mod SignedWords
+mod Spelling

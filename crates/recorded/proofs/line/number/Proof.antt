@@ -1,0 +1,88 @@
+-- `line::number` meets its contract: the bytes before i are digits and spell n. A byte that is no digit stands in no spelling.
+use Rattle.recorded.proofs.line.number.Statement.{statement}
+use Rattle.recorded.proofs.line.number.Tie as tie
+use Rattle.recorded.proofs.line.number.Reads as reads
+use Rattle.recorded.proofs.line.number.Lts as lts
+use Rattle.recorded.proofs.line.digit.Reads as digit-reads
+use mathlib.Core.Path.{_≡_, sym, ap, _∙_, subst}
+use Prim.Native.Nat.{ℕ, _+_, _-_, _*_, _<_, _≤_}
+use native.Mathlib.Omega.{arith}
+use lib.ListN.{length, getD}
+use Rattle.recorded.specs.Lines.{digitOf}
+use Rattle.recorded.proofs.Spelling.{Spelling, none, more, fits, whole, none-at, digit-most}
+
+abbrev Inv-loop : tie.InvT-loop
+Inv-loop text n₀ i₀ n i = (i ≤ length text) × Spelling text i n
+
+abbrev μ-loop : tie.MeasureT-loop
+μ-loop text n₀ i₀ n i = length text - i
+
+-- A digit that is not 16 is below it.
+below : (d x : ℕ) → d ≡ digitOf x → (d ≡ 16 → ⊥) → digitOf x < 16
+below d x e h =
+    let m : digitOf x ≤ 16 = digit-most x in
+    let g : digitOf x ≡ 16 → ⊥ = λ k. h (e ∙ k) in
+    omega arith
+
+-- src/line.rt:39:5
+loop-holds : tie.Need-loop-holds Inv-loop μ-loop
+loop-holds c = (omega arith, none _)
+
+-- src/line.rt:40:23
+shared-slice-read-digit : tie.Need-shared-slice-read-digit Inv-loop μ-loop
+shared-slice-read-digit c = omega arith
+
+-- src/line.rt:40:13
+digit-requires : tie.Need-digit-requires Inv-loop μ-loop
+digit-requires c κs = tt
+
+-- src/line.rt:42:13
+returns : tie.Need-returns Inv-loop μ-loop
+returns c = λ n s. none-at _ (c .before .before .before .before .loop .i) n (c .before .before .before .loop-test .taken) (sym (c .before .digit .ensures) ∙ c .if1 .taken) s
+
+-- src/line.rt:44:13
+mul-n : tie.Need-mul-n Inv-loop μ-loop
+mul-n c = record { fits = omega (arith, fits (c .before .before .before .before .loop .inv .1) (omega arith) 0 (omega arith)) }
+
+-- src/line.rt:44:13
+add-n : tie.Need-add-n Inv-loop μ-loop
+add-n c =
+    let l = c .before .before .before .before .loop in
+    let b = below (c .before .digit .result) (getD (c .before .before .before .before .before .before .args .text .now) (l .i) 0) (c .before .digit .ensures) (c .if1 .left) in
+    record { fits = fits (l .inv .1) (omega arith) (c .before .digit .result) (omega (arith, c .before .digit .ensures)) }
+
+-- src/line.rt:45:9
+add-i : tie.Need-add-i Inv-loop μ-loop
+add-i c = omega arith
+
+-- src/line.rt:39:5
+loop-less : tie.Need-loop-less Inv-loop μ-loop
+loop-less c = omega arith
+
+-- src/line.rt:39:5
+loop-again : tie.Need-loop-again Inv-loop μ-loop
+loop-again c =
+    let l = c .before .before .before .before .loop in
+    let b = below (c .before .digit .result) (getD (c .before .before .before .before .before .before .args .text .now) (l .i) 0) (c .before .digit .ensures) (c .if1 .left) in
+    (omega arith, subst (λ (d : ℕ). Spelling (c .before .before .before .before .before .before .args .text .now) (l .i + 1) (l .n * 16 + d)) (sym (c .before .digit .ensures)) (more (l .inv .1) (c .before .before .before .loop-test .taken) b))
+
+-- src/line.rt:33:1
+returns-2 : tie.Need-returns-2 Inv-loop μ-loop
+returns-2 c = whole (c .before .loop .inv .1) (omega arith)
+
+pub number-spec : {M : Type 1} → statement M
+number-spec =
+    tie.close
+    (tie.spec
+    Inv-loop
+    μ-loop
+    loop-holds
+    shared-slice-read-digit
+    digit-requires
+    returns
+    mul-n
+    add-n
+    add-i
+    loop-less
+    loop-again
+    returns-2)
