@@ -1,0 +1,2 @@
+mod Planting
+mod Writing
