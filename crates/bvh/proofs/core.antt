@@ -1,2 +1,3 @@
+mod Answering
 mod Planting
 mod Writing

@@ -110,7 +110,14 @@ fn write_nodes(
 }
 
 // The order list: at threshold 1 the present places again, rising, else the leaf order.
-fn write_order(order: &mut [u16], words: &[u32], n: usize, threshold: usize, leaves: &[u32], temp: &mut [u32])
+fn write_order(
+    order: &mut [u16],
+    words: &[u32],
+    n: usize,
+    threshold: usize,
+    leaves: &[u32],
+    temp: &mut [u32],
+)
     requires { ⌜ (7 * n ≤ length (now words)) × (n ≤ length (now temp)) × (n ≤ 32767) × (n ≤ length (now order)) × (length (now leaves) ≤ n) × (Below 65536 (now leaves)) ⌝ }
     ensures { λ _. ⌜ now (order .exit) ≡ over (orderOf threshold (marked 0 n (now (words .entry))) (now (leaves .entry))) (now (order .entry)) ⌝ }
 {
@@ -243,7 +250,17 @@ pub fn build_core(
         return Build::BufferTooShort;
     }
     let most = threshold as usize;
-    let planted = plant(&words[..7 * n], n, most, places, temp, stack, first, count, boxes);
+    let planted = plant(
+        &words[..7 * n],
+        n,
+        most,
+        places,
+        temp,
+        stack,
+        first,
+        count,
+        boxes,
+    );
     if 32767 < planted.nodes {
         return Build::TooManyNodes;
     }

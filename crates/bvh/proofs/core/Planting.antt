@@ -49,8 +49,8 @@ module _ (n th k : ℕ) (ws places : List ℕ) (g : Gathered n ws places k) (fit
       let long : length order ≡ k = same ∙ gathered-long in
       record {
         grown =
-        subst (λ (qs : List ℕ). Grown (builder (boxAt ws)) th (marked 0 n ws) qs first count boxes m) (sym (take-at order (drop k places) k long))
-        (subst (λ (ps : List ℕ). Grown (builder (boxAt ws)) th ps order first count boxes m) (g .places-are) grown);
+            subst (λ (qs : List ℕ). Grown (builder (boxAt ws)) th (marked 0 n ws) qs first count boxes m) (sym (take-at order (drop k places) k long))
+            (subst (λ (ps : List ℕ). Grown (builder (boxAt ws)) th ps order first count boxes m) (g .places-are) grown);
         present-is = sym gathered-long ∙ ap length (g .places-are);
         most = g .most;
       }

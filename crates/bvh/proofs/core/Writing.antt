@@ -44,8 +44,8 @@ module _ (s : Scale) (th n : ℕ) (first count boxes order nodes nodes₁ : List
       record {
         capacity-is = rw (eq-eqb th 1 one);
         bytes-are =
-        pad ∙ ap (λ (l : List ℕ). take (16 * length first) l ++ (padBytes (2 * n + 1 - length first) ++ drop (16 * (2 * n + 1)) l)) put
-        ∙ padded bytes nodes (length first) (2 * n + 1) long h;
+            pad ∙ ap (λ (l : List ℕ). take (16 * length first) l ++ (padBytes (2 * n + 1 - length first) ++ drop (16 * (2 * n + 1)) l)) put
+            ∙ padded bytes nodes (length first) (2 * n + 1) long h;
       }
 
   pub nodes-bare : ¬ (th ≡ 1) → NodesWritten s th n first count boxes order nodes nodes₁ (length first)
