@@ -103,7 +103,13 @@ le-abs (fin false m e) p = le-refl (fin false m e) p
 pub neg-abs-le : (x : Float) → T (not (isNan x)) → T (le (neg (absOf x)) x)
 neg-abs-le x p = rw (neg-neg x, abs-neg x) at (neg-le (neg x) (absOf (neg x)) (le-abs (neg x) (neg-no-nan x p)))
 
-abs-number : (x : Float) → T (not (isNan (absOf x))) → T (not (isNan x))
+pub abs-ge-zero : (x : Float) → T (not (isNan x)) → T (le (fin false 0 (pos 0)) (absOf x))
+unfolding absOf
+abs-ge-zero nan p = absurd (unfold isNan in p)
+abs-ge-zero (inf s) p = unfold le in tt
+abs-ge-zero (fin s m e) p = cross→le (fin false 0 (pos 0)) (fin false m e) tt tt (omega arith)
+
+pub abs-number : (x : Float) → T (not (isNan (absOf x))) → T (not (isNan x))
 unfolding absOf isNan
 abs-number nan p = p
 abs-number (inf s) p = p

@@ -6,13 +6,16 @@ use mathlib.Core.Logic.{_⊎_, inl, inr}
 use mathlib.Core.Bool.{Bool, true, false, not}
 use mathlib.Core.List.{List, [], _∷_}
 use lib.Dec.{T, eqb, eqb→eq}
-use lib.Ieee.{Float, binary32, ofBits, neg, le, isNan}
+use lib.IntN.{pos}
+use lib.Ieee.{Float, fin, binary32, ofBits, neg, le, isNan}
 use lib.Ieee.Fits.{eq→eqb}
 use lib.Ieee.Scale.{finite}
 use lib.ListN.{length}
 use Rattle.float32.specs.Extremes.{vminOf, vmaxOf}
 use Rattle.float32.proofs.ExtremeLaws.{vminOf-both, vmaxOf-both, vminOf-le, vmaxOf-ge, vminWord-value, vmaxWord-value}
-use Rattle.float32.proofs.OrderLaws.{le-refl, le-trans, finite-no-nan}
+use Rattle.float32.specs.Signs.{absOf}
+use Rattle.float32.proofs.OrderLaws.{le-refl, le-trans, finite-no-nan, neg-le}
+use Rattle.float32.proofs.SignLaws.{abs-ge-zero, abs-bounds, abs-le}
 use Rattle.math.specs.Axes.{Axis, alongX, alongY, alongZ, wordOn}
 use Rattle.split.specs.declared.boxes.BoxWords.{BoxWords}
 use Rattle.split.specs.Folding.{startBox, foldStep, foldFrom, foldBox}
@@ -124,6 +127,20 @@ start-high alongX = tt
 start-high alongY = tt
 start-high alongZ = tt
 
+-- f32::MIN ≤ 0 ≤ f32::MAX
+start-apart : (a : Axis) → T (le (high a startBox) (neg (fin false 0 (pos 0)))) × T (le (neg (fin false 0 (pos 0))) (low a startBox))
+unfolding ofBits neg le
+start-apart alongX = (tt, tt)
+start-apart alongY = (tt, tt)
+start-apart alongZ = (tt, tt)
+
+start-around : (a : Axis) (m : Float) → T (le (fin false 0 (pos 0)) m) → T (le (neg m) (low a startBox)) × T (le (high a startBox) m)
+start-around a m h =
+    let z = fin false 0 (pos 0) in (
+      le-trans (neg m) (neg z) (low a startBox) (neg-le z m h) (start-apart a .1),
+      le-trans (high a startBox) (neg z) m (start-apart a .0) (le-trans (neg z) z m (unfold le neg in tt) h),
+    )
+
 -- ---- the laws of `foldBox`
 -- what holds of every box of the list
 abbrev pub Each : (ℕ → BoxWords) → (BoxWords → Type 0) → List ℕ → Type 0
@@ -163,10 +180,8 @@ pub record Proper (a : Axis) (b : BoxWords) : Type 0 where
 
 -- No end on the axis exceeds m in size.
 pub record Bounded (m : Float) (a : Axis) (b : BoxWords) : Type 0 where
-  pub low-above : T (le (neg m) (low a b))
-  pub low-below : T (le (low a b) m)
-  pub high-above : T (le (neg m) (high a b))
-  pub high-below : T (le (high a b) m)
+  pub low-size : T (le (absOf (low a b)) m)
+  pub high-size : T (le (absOf (high a b)) m)
 
 pub some-place : (ps : List ℕ) → 0 < length ps → (p : ℕ) × Among p ps
 some-place [] h = absurd (omega arith)
@@ -198,16 +213,23 @@ module _ (at : ℕ → BoxWords) (a : Axis) (ps : List ℕ) (each : Each at (Pro
             (le-trans (low a (at p)) (high a (at p)) (high a (foldBox at ps)) (each p (s .1) .in-order) (fold-above-each p (s .1)));
       }
 
-  -- a bound on every item, such as 2 ^ 100: f32::MAX lies above its negation, f32::MIN below it
-  pub fold-bounded : (m : Float) → T (le (neg m) (low a startBox)) → T (le (high a startBox) m) → Each at (Bounded m a) ps → 0 < length ps → Bounded m a (foldBox at ps)
-  fold-bounded m l h k n =
+  -- a bound on every item bounds the fold
+  pub fold-bounded : (m : Float) → Each at (Bounded m a) ps → 0 < length ps → Bounded m a (foldBox at ps)
+  fold-bounded m k n =
       let s = some-place ps n in
       let p = s .0 in
+      let lo = low a (foldBox at ps) in
+      let hi = high a (foldBox at ps) in
+      let z = start-around a m (le-trans (fin false 0 (pos 0)) (absOf (low a (at p))) m (abs-ge-zero (low a (at p)) (low-numbers p (s .1))) (k p (s .1) .low-size)) in
+      let l = abs-bounds (low a (at p)) m (k p (s .1) .low-size) in
+      let h = abs-bounds (high a (at p)) m (k p (s .1) .high-size) in
       record {
-        low-above = fold-low-keeps at a ps (λ x. T (le (neg m) x)) l (λ q i. k q i .low-above);
-        low-below = le-trans (low a (foldBox at ps)) (low a (at p)) m (fold-below-each p (s .1)) (k p (s .1) .low-below);
-        high-above = le-trans (neg m) (high a (at p)) (high a (foldBox at ps)) (k p (s .1) .high-above) (fold-above-each p (s .1));
-        high-below = fold-high-keeps at a ps (λ x. T (le x m)) h (λ q i. k q i .high-below);
+        low-size =
+            abs-le lo m (fold-low-keeps at a ps (λ x. T (le (neg m) x)) (z .0) (λ q i. abs-bounds (low a (at q)) m (k q i .low-size) .0))
+            (le-trans lo (low a (at p)) m (fold-below-each p (s .1)) (l .1));
+        high-size =
+            abs-le hi m (le-trans (neg m) (high a (at p)) hi (h .0) (fold-above-each p (s .1)))
+            (fold-high-keeps at a ps (λ x. T (le x m)) (z .1) (λ q i. abs-bounds (high a (at q)) m (k q i .high-size) .1));
       }
 
   -- the fold over some of the places lies in the fold over all
