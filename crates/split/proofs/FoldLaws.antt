@@ -7,7 +7,7 @@ use mathlib.Core.Bool.{Bool, true, false, not}
 use mathlib.Core.List.{List, [], _∷_}
 use lib.Dec.{T, eqb, eqb→eq}
 use lib.IntN.{pos}
-use lib.Ieee.{Float, fin, binary32, ofBits, neg, le, isNan}
+use lib.Ieee.{Float, fin, ofBits, neg, le, isNan}
 use lib.Ieee.Fits.{eq→eqb}
 use lib.Ieee.Scale.{finite}
 use lib.ListN.{length}
@@ -16,8 +16,9 @@ use Rattle.float32.proofs.ExtremeLaws.{vminOf-both, vmaxOf-both, vminOf-le, vma
 use Rattle.float32.specs.Signs.{absOf}
 use Rattle.float32.proofs.OrderLaws.{le-refl, le-trans, finite-no-nan, neg-le}
 use Rattle.float32.proofs.SignLaws.{abs-ge-zero, abs-bounds, abs-le}
-use Rattle.math.specs.Axes.{Axis, alongX, alongY, alongZ, wordOn}
+use Rattle.math.specs.Axes.{Axis, alongX, alongY, alongZ}
 use Rattle.split.specs.declared.boxes.BoxWords.{BoxWords}
+use Rattle.split.specs.Ends.{low, high, Proper, Bounded, Each}
 use Rattle.split.specs.Folding.{startBox, foldStep, foldFrom, foldBox}
 use Rattle.split.specs.Lists.{oneIf, occurrences, Among}
 use Rattle.split.proofs.Sifting.{occurs-more}
@@ -40,13 +41,7 @@ among-cases p q ps h = go (eqb q p) refl
     go true e = inl (eqb→eq q p (subst T (sym e) tt))
     go false e = inr (let i = occurs-more p q ps ∙ ap (λ (b : Bool). oneIf b + occurrences p ps) e in omega arith)
 
--- ---- the ends of a box on an axis
-abbrev pub low : Axis → BoxWords → Float
-low a b = ofBits binary32 (wordOn a (b .min))
-
-abbrev pub high : Axis → BoxWords → Float
-high a b = ofBits binary32 (wordOn a (b .max))
-
+-- ---- one step, on an axis
 step-low : (a : Axis) (acc b : BoxWords) → low a (foldStep acc b) ≡ vminOf (low a acc) (low a b)
 step-low alongX acc b = vminWord-value (acc .min .x) (b .min .x)
 step-low alongY acc b = vminWord-value (acc .min .y) (b .min .y)
@@ -142,10 +137,6 @@ start-around a m h =
     )
 
 -- ---- the laws of `foldBox`
--- what holds of every box of the list
-abbrev pub Each : (ℕ → BoxWords) → (BoxWords → Type 0) → List ℕ → Type 0
-Each at P ps = (p : ℕ) → Among p ps → P (at p)
-
 module _ (at : ℕ → BoxWords) (a : Axis) (ps : List ℕ) where
   pub fold-low-below : Each at (λ b. Number (low a b)) ps → (p : ℕ) → Among p ps → T (le (low a (foldBox at ps)) (low a (at p)))
   unfolding foldBox
@@ -171,17 +162,6 @@ module _ (at : ℕ → BoxWords) (a : Axis) (ps : List ℕ) where
   pub fold-high-start : Each at (λ b. Number (high a b)) ps → T (le (high a startBox) (high a (foldBox at ps)))
   unfolding foldBox
   fold-high-start k = past-start at (outward-high a) startBox ps (finite-no-nan (high a startBox) (start-high a)) k
-
--- Finite, with min at most max, on the axis.
-pub record Proper (a : Axis) (b : BoxWords) : Type 0 where
-  pub low-finite : T (finite (low a b))
-  pub high-finite : T (finite (high a b))
-  pub in-order : T (le (low a b) (high a b))
-
--- No end on the axis exceeds m in size.
-pub record Bounded (m : Float) (a : Axis) (b : BoxWords) : Type 0 where
-  pub low-size : T (le (absOf (low a b)) m)
-  pub high-size : T (le (absOf (high a b)) m)
 
 pub some-place : (ps : List ℕ) → 0 < length ps → (p : ℕ) × Among p ps
 some-place [] h = absurd (omega arith)
