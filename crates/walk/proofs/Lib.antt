@@ -1,0 +1,3 @@
+mod Choices
+mod Truth
+mod Shorts
