@@ -1,3 +1,6 @@
 mod Choices
-mod Truth
+mod Given
+pub mod Handing
 mod Shorts
+pub mod StepLaws
+mod Truth

@@ -1,6 +1,7 @@
 -- Tests joined by `&&` and `||`, of which the first is known. Assumes nothing.
-use mathlib.Core.Path.{_≡_, sym, _∙_}
+use mathlib.Core.Path.{_≡_, refl, sym, subst, _∙_}
 use mathlib.Core.Bool.{Bool, true, false, _&&_, _||_}
+use lib.Dec.{T}
 
 pub and-yes : {a : Bool} (b : Bool) → a ≡ true → a && b ≡ b
 and-yes b h = rw h
@@ -13,6 +14,17 @@ or-yes b h = rw h
 
 pub or-no : {a : Bool} (b : Bool) → a ≡ false → a || b ≡ b
 or-no b h = rw h
+
+pub both-first : (a b : Bool) → a && b ≡ true → a ≡ true
+both-first true b h = refl
+both-first false b h = h
+
+pub both-second : (a b : Bool) → a && b ≡ true → b ≡ true
+both-second true b h = h
+both-second false b h = absurd (subst T (sym h) tt)
+
+pub either-second : (a b : Bool) → a || b ≡ true → a ≡ false → b ≡ true
+either-second a b h e = sym (or-no b e) ∙ h
 
 -- Three tests, a, b and c, by what their results p, q and r say.
 pub third : {a b c p q r : Bool} → p ≡ a → q ≡ b → r ≡ c → p ≡ true → q ≡ true → r ≡ a && (b && c)

@@ -14,7 +14,7 @@ pub fn number(v: i16) -> usize
 
 // How far on the node after a missed one is: past all below it.
 pub fn skip(id: i16) -> usize
-    ensures { λ r. ⌜ r ≡ max (whole id) 1 ⌝ }
+    ensures { λ r. ⌜ (r ≡ max (whole id) 1) × (r < 32768) ⌝ }
 {
     let n = number(id);
     if 1 < n { n } else { 1 }

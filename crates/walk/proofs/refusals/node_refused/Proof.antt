@@ -59,7 +59,7 @@ returns-3 c =
     let count = below-zero (n .«item_count») (t .1 .1 .1 .0 .1) (c .before .before .before .before .before .before .before .before .before .before .if1 .left) in
     let id = below-zero (n .«item_id») (t .1 .1 .0 .1) (c .before .before .before .before .before .before .before .if2 .left) in
     let none = sym (c .before .before .before .number2 .ensures .0 ∙ ap whole (same (n .«item_count») (t .1 .1 .1 .0 .1))) ∙ c .before .before .if3 .taken in
-    let on = c .skip .ensures ∙ ap (λ (n : ℕ). max n 1) (ap whole (same (n .«item_id») (t .1 .1 .0 .1))) in
+    let on = c .skip .ensures .0 ∙ ap (λ (n : ℕ). max n 1) (ap whole (same (n .«item_id») (t .1 .1 .0 .1))) in
     ap (λ (n : ℕ). ltb (c .before .before .before .before .before .before .before .before .before .before .before .before .before .args .last) (c .before .before .before .before .before .before .before .before .before .before .before .before .before .args .at + n)) on ∙ sym (or-no _ (or-no _ count ∙ id) ∙ when _ _ _ none)
 
 -- src/refusals.rt:37:1
