@@ -1,7 +1,10 @@
 mod Answers
 mod Choices
+pub mod Examples
 mod Given
 pub mod Handing
+pub mod OutcomeLaws
+pub mod QueryLaws
 mod Running
 mod Shorts
 pub mod StepLaws
