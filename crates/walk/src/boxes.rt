@@ -30,10 +30,10 @@ fn overlap_f32(min: f32, max: f32, other_min: f32, other_max: f32) -> bool
 }
 
 // On one axis, as integers.
-fn overlap_i16(min: i16, max: i16, other_min: i16, other_max: i16) -> bool
-    ensures { λ r. ⌜ r ≡ overlap leZ min max «other_min» «other_max» ⌝ }
+fn overlap_i16(min: i16, max: i16, record_min: i16, record_max: i16) -> bool
+    ensures { λ r. ⌜ r ≡ overlap leZ min max «record_min» «record_max» ⌝ }
 {
-    min <= other_max && other_min <= max
+    min <= record_max && record_min <= max
 }
 
 // Boxes as floats.

@@ -8,7 +8,7 @@ ghost use lib.Dec.{ltb};
 ghost use lib.ListN.{length};
 ghost use lib.Seq.{sets};
 ghost use Rattle.records.specs.Records.{nodeAt, treeAt};
-ghost use Rattle.walk.specs.Step.{lentOf, upFrom, atTree, strideOf, handing, started, atNode, more, stepOf, Steppable, Stepped};
+ghost use Rattle.walk.specs.Step.{lentOf, upFrom, refused, atTree, strideOf, handing, started, atNode, more, stepOf, Steppable, Stepped};
 
 // How many nodes, trees and items there are.
 pub struct Sizes {
@@ -86,6 +86,22 @@ impl WalkState {
         }
     }
 
+    // The walk stops at the record just read, which counts.
+    fn refused(self, status: Status) -> WalkState
+        requires { ⌜ self .reads < 4294967296 ⌝ }
+        ensures { λ r. ⌜ r ≡ refused status self ⌝ }
+    {
+        let read = self.reads + 1;
+        WalkState {
+            tree: self.tree,
+            at: self.at,
+            last: self.last,
+            reads: read,
+            handed: self.handed,
+            status,
+        }
+    }
+
     // The next tree record is read.
     fn at_tree(self, query: Query, nodes: usize, trees: &[u8]) -> WalkState
         requires { ⌜ (16 * self .tree + 16 ≤ length (now trees)) × (self .tree < 65536) × (self .reads < 4294967296) ⌝ }
@@ -93,20 +109,15 @@ impl WalkState {
     {
         let t = records::tree_at(trees, 16 * self.tree);
         if crate::refusals::range_refused(t, nodes) {
-            return WalkState {
-                tree: self.tree,
-                at: self.at,
-                last: self.last,
-                reads: self.reads + 1,
-                handed: self.handed,
-                status: Status::TreeRange,
-            };
+            return self.refused(Status::TreeRange);
         }
         if crate::boxes::meets(query, t.min, t.max) {
+            let first = crate::refusals::number(t.node_index1);
+            let last = crate::refusals::number(t.node_index2);
             WalkState {
                 tree: self.tree + 1,
-                at: crate::refusals::number(t.node_index1),
-                last: crate::refusals::number(t.node_index2),
+                at: first,
+                last,
                 reads: self.reads + 1,
                 handed: self.handed,
                 status: Status::Going,
@@ -160,14 +171,7 @@ impl WalkState {
     {
         let n = records::node_at(nodes, 16 * self.at);
         if crate::refusals::node_refused(n, self.at, self.last, items) {
-            return WalkState {
-                tree: self.tree,
-                at: self.at,
-                last: self.last,
-                reads: self.reads + 1,
-                handed: self.handed,
-                status: Status::NodeRecord,
-            };
+            return self.refused(Status::NodeRecord);
         }
         if crate::boxes::meets(query, n.min, n.max) {
             return self.hand_over(n, items, out);

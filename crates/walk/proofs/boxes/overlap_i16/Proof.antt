@@ -11,13 +11,13 @@ use Rattle.walk.proofs.Shorts.{same-le}
 returns : tie.Need-returns
 returns c =
     let f = c .before .fits in
-    same-le (f .other-min) (f .max) ∙ sym (and-yes _ (sym (same-le (f .min) (f .other-max)) ∙ c .if1 .taken))
+    same-le (f .record-min) (f .max) ∙ sym (and-yes _ (sym (same-le (f .min) (f .record-max)) ∙ c .if1 .taken))
 
 -- src/boxes.rt:33:1
 returns-2 : tie.Need-returns-2
 returns-2 c =
     let f = c .before .fits in
-    c .if1 .left ∙ sym (and-no _ (sym (same-le (f .min) (f .other-max)) ∙ c .if1 .left))
+    c .if1 .left ∙ sym (and-no _ (sym (same-le (f .min) (f .record-max)) ∙ c .if1 .left))
 
 pub overlap-i16-spec : {M : Type 1} → statement M
 overlap-i16-spec = tie.close (tie.spec returns returns-2)
