@@ -1,4 +1,4 @@
--- What `entry::walk_bvh` answers, by the outcome of its checks.
+-- What `core::walk_core` answers, by the outcome of its checks.
 use mathlib.Core.Path.{_≡_, refl, sym, ap, subst, _∙_}
 use mathlib.Core.Bool.{true, false, _||_}
 use mathlib.Core.List.{List, [], _++_}
@@ -13,8 +13,8 @@ use Rattle.walk.specs.Boxes.{queryOf}
 use Rattle.walk.specs.Step.{Lent, lentOf, Turn, started, Steppable, Stepped}
 use Rattle.walk.specs.Walks.{walkFrom, statusNumber, numberOf, countsOf, ended, tooMany, tooShort, walkOf, Outcome, Promise}
 use Rattle.walk.specs.declared.boxes.Query.{Query}
-use Rattle.walk.specs.declared.entry.Walk.{Walk}
-use Rattle.walk.specs.declared.entry.Walk.the-variants.{TooMany, BufferTooShort}
+use Rattle.walk.specs.declared.core.Walk.{Walk}
+use Rattle.walk.specs.declared.core.Walk.the-variants.{TooMany, BufferTooShort}
 use Rattle.walk.specs.declared.state.Sizes.{Sizes}
 use Rattle.walk.specs.declared.state.WalkState.{WalkState}
 use Rattle.walk.proofs.Handing.{sets-over}

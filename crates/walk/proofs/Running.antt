@@ -1,4 +1,4 @@
--- The loop of `entry::run`: the whole walk is what has been handed out so far, followed by the walk from the present state.
+-- The loop of `core::run`: the whole walk is what has been handed out so far, followed by the walk from the present state.
 use mathlib.Core.Path.{_≡_, refl, sym, ap, ap₂, subst, _∙_}
 use mathlib.Core.Bool.{true, false}
 use mathlib.Core.List.{List, [], _++_, append-assoc, append-nil}

@@ -11,9 +11,9 @@ use Rattle.records.specs.Records.{treeAt}
 use Rattle.walk.specs.Boxes.{queryOf}
 use Rattle.walk.specs.Refusals.{whole, badRange}
 use Rattle.walk.specs.Step.{Lent, lentOf, Turn, quiet, going, started, more, stepOf}
-use Rattle.walk.specs.declared.entry.Counts.{Counts}
-use Rattle.walk.specs.declared.entry.Walk.{Walk}
-use Rattle.walk.specs.declared.entry.Walk.the-variants as W
+use Rattle.walk.specs.declared.core.Counts.{Counts}
+use Rattle.walk.specs.declared.core.Walk.{Walk}
+use Rattle.walk.specs.declared.core.Walk.the-variants as W
 use Rattle.walk.specs.declared.state.Sizes.{Sizes}
 use Rattle.walk.specs.declared.state.Status.{Status}
 use Rattle.walk.specs.declared.state.Status.the-variants.{Going, TreeRange, NodeRecord, TooManyHandedOut}

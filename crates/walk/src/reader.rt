@@ -1,5 +1,5 @@
 // The node records as the bytes that were lent: each function takes the struct apart and calls one on the slice and the number.
-use crate::entry::Walk;
+use crate::core::Walk;
 use crate::state::Sizes;
 use math::aabb::Aabb;
 use math::vec3::Vec3;
@@ -48,6 +48,6 @@ impl<'a> NodeReader<'a> {
     ) -> Walk
         ensures { λ r. ⌜ Promise (walkOf query cen inverse sizes (now (self .entry .nodes)) (now (trees .entry)) (length (now (out .entry)))) (now (out .entry)) (now (out .exit)) r ⌝ }
     {
-        crate::entry::walk_bvh(query, cen, inverse, sizes, self.nodes, trees, out)
+        crate::core::walk_core(query, cen, inverse, sizes, self.nodes, trees, out)
     }
 }

@@ -1,4 +1,4 @@
--- `reader::NodeReader::walk` meets its contract: a walk of its MIR, by hand. The struct is taken apart, and its slice is given to `walk_bvh` with all else that was passed; what that promises is what is promised here.
+-- `reader::NodeReader::walk` meets its contract: a walk of its MIR, by hand. The struct is taken apart, and its slice is given to `walk_core` with all else that was passed; what that promises is what is promised here.
 use mathlib.Core.Path.{_≡_, refl}
 use mathlib.Core.List.{List, [], _∷_}
 use Prim.Native.Nat.{ℕ}
@@ -45,20 +45,20 @@ use Rattle.math.proofs.aabb.Aabb.Laws as Bx′
 use Rattle.math.proofs.vec3.Vec3 as Pt
 use Rattle.math.proofs.vec3.Vec3.Laws as Pt′
 use Rattle.walk.specs.Walks as walks
-use Rattle.walk.specs.declared.entry.Walk.{Walk}
+use Rattle.walk.specs.declared.core.Walk.{Walk}
 use Rattle.walk.specs.declared.reader.NodeReader.{NodeReader}
 use Rattle.walk.specs.declared.state.Sizes.{Sizes}
 use Rattle.walk.proofs.HandWalk.{all-passed, all-go}
-use Rattle.walk.proofs.entry.Walk as B
-use Rattle.walk.proofs.entry.Walk.Laws as B′
+use Rattle.walk.proofs.core.Walk as B
+use Rattle.walk.proofs.core.Walk.Laws as B′
 use Rattle.walk.proofs.state.Sizes as Z
 use Rattle.walk.proofs.state.Sizes.Laws as Z′
 use Rattle.walk.proofs.reader.NodeReader as T
 use Rattle.walk.proofs.reader.NodeReader.Laws as T′
-use Rattle.walk.proofs.entry.walk_bvh as g
-use Rattle.walk.proofs.entry.walk_bvh.Symbol as g-def
-use Rattle.walk.proofs.entry.walk_bvh.Symbol.{name as #walk·entry·walk-bvh}
-use Rattle.walk.proofs.entry.walk_bvh.Met as g-thm
+use Rattle.walk.proofs.core.walk_core as g
+use Rattle.walk.proofs.core.walk_core.Symbol as g-def
+use Rattle.walk.proofs.core.walk_core.Symbol.{name as #walk·core·walk-core}
+use Rattle.walk.proofs.core.walk_core.Met as g-thm
 use Rattle.walk.proofs.reader.NodeReader.walk.Key.{name as #walk·reader·NodeReader·walk}
 use Rattle.walk.proofs.reader.NodeReader.walk as f
 use Rattle.walk.proofs.reader.NodeReader.walk.Statement as stated
@@ -148,7 +148,7 @@ module _ {M : Type 1} (𝓤 : URA M) (H : Heap 𝓤) (A : Atoms 𝓤) (W : Given
       qed W (raw (alive 𝓤 H A g.signature κs qs) ∷ ‵ (lasts g.ended κs g-args us) ∷ ‵ (B.the-row .own r (u ∷ [])) ∷ []) ∵
       suffices ! _ (ends-at 𝓤 H A f.ended stayed (f.clauses 𝓤 H A mem run) W bound u r (tt, (tt, (tt, (tt, (tt, (tt, (us .1 .1 .1 .1 .1 .1 .0, tt))))))) (tt, (tt, (tt, (tt, (tt, (tt, (tt, tt)))))))) $ says ! e $ done !
 
-  module _ (C : Calls 𝓤 H) (Λ : Loops 𝓤 H) (fm : FmC 𝓤 H (W .laws) C) (known : Triple 𝓤 (C #walk·entry·walk-bvh) (Walked 𝓤 H A mem run)) where
+  module _ (C : Calls 𝓤 H) (Λ : Loops 𝓤 H) (fm : FmC 𝓤 H (W .laws) C) (known : Triple 𝓤 (C #walk·core·walk-core) (Walked 𝓤 H A mem run)) where
     walk : Holds (hasTy (T′.mir (named 0)) mach) × WT mach → Is Bx.the-row query (box-val query ∷ []) → Is Pt.the-row cen (point-val cen ∷ []) → Is Pt.the-row inverse (point-val inverse ∷ []) → Is Z.the-row sizes (sizes-val sizes ∷ []) → Room u8 (length (trees .now)) → Room u16 (length (out .now))
         → ent 𝓤 (onEntry 𝓤 H A f.signature κs qs args at) (WpFn 𝓤 H C Λ code.function passed Post)
     walk wt q-is c-is i-is z-is tr or =
@@ -171,7 +171,7 @@ module _ {M : Type 1} (𝓤 : URA M) (H : Heap 𝓤) (A : Atoms 𝓤) (W : Given
         returns ! (look ! 23 refl) $ forget ! 3 refl $ forget ! 5 refl $ forget ! 7 refl $ forget ! 9 refl $ forget ! 11 refl $ forget ! 13 refl $ forget ! 15 refl $ forget ! 17 refl $ forget ! 19 refl $ forget ! 21 refl $ forget ! 23 refl $
         move ! (23 ∷ 24 ∷ []) $ free1 ! $ move ! (21 ∷ 22 ∷ []) $ free1 ! $ move ! (19 ∷ 20 ∷ []) $ free1 ! $ move ! (17 ∷ 18 ∷ []) $ free1 ! $ move ! (15 ∷ 16 ∷ []) $ free1 ! $ move ! (13 ∷ 14 ∷ []) $ free1 ! $ move ! (11 ∷ 12 ∷ []) $ free1 ! $ move ! (9 ∷ 10 ∷ []) $ free1 ! $ move ! (7 ∷ 8 ∷ []) $ free1 ! $ move ! (5 ∷ 6 ∷ []) $ free1 ! $ move ! (3 ∷ 4 ∷ []) $ free1 ! $ free0 ! $ move ! (1 ∷ 2 ∷ []) $ by ! (exits r u us e)))))))))))))))))
 
-module _ {M : Type 1} (𝓤 : URA M) (H : Heap 𝓤) (A : Atoms 𝓤) (W : Given 𝓤 H A) (mem : Memory → SProp 𝓤) (run : Routine → Fun 𝓤) (𝓣 : Tables 𝓤 H) (known : Triple 𝓤 (𝓣 .C #walk·entry·walk-bvh) (Walked 𝓤 H A mem run)) where
+module _ {M : Type 1} (𝓤 : URA M) (H : Heap 𝓤) (A : Atoms 𝓤) (W : Given 𝓤 H A) (mem : Memory → SProp 𝓤) (run : Routine → Fun 𝓤) (𝓣 : Tables 𝓤 H) (known : Triple 𝓤 (𝓣 .C #walk·core·walk-core) (Walked 𝓤 H A mem run)) where
   walk-walks : Walks 𝓤 H A f.ended stayed (WpFn 𝓤 H (𝓣 .C) (𝓣 .Λ) code.function) (f.clauses 𝓤 H A mem run)
   walk-walks =
       let point = LL.vals Pt.the-type Pt′.the-laws in
@@ -196,4 +196,4 @@ walk-spec 𝓤 H 𝓜 𝓖 𝓡 =
     entered 𝓤 H (tripleOf 𝓤 H (𝓖 .A) f.signature (f.spec 𝓤 H (𝓖 .A) (𝓜 .mem) (𝓡 .run)))
     (tables 𝓤 H 𝓜 𝓡 code.env .C) (tables 𝓤 H 𝓜 𝓡 code.env .Λ) #walk·reader·NodeReader·walk code.function (code.unfolded 𝓤 H 𝓜 𝓡)
     (walk-meets′ 𝓤 H (𝓖 .A) (givenOf 𝓤 H 𝓜 𝓖) (𝓜 .mem) (𝓡 .run) (tablesOf 𝓤 H 𝓜 (tables 𝓤 H 𝓜 𝓡 code.env))
-    (cited 𝓤 H (Walked 𝓤 H (𝓖 .A) (𝓜 .mem) (𝓡 .run)) 𝓜 𝓡 code.env #walk·entry·walk-bvh g-def.routine code.calls-walk·entry·walk-bvh (g-thm.met 𝓤 H 𝓜 𝓖 𝓡)))
+    (cited 𝓤 H (Walked 𝓤 H (𝓖 .A) (𝓜 .mem) (𝓡 .run)) 𝓜 𝓡 code.env #walk·core·walk-core g-def.routine code.calls-walk·core·walk-core (g-thm.met 𝓤 H 𝓜 𝓖 𝓡)))

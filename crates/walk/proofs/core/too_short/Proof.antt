@@ -1,9 +1,9 @@
--- `entry::too_short` meets its contract: the ways through it are how far its tests go.
+-- `core::too_short` meets its contract: the ways through it are how far its tests go.
 use borrow.Author.Needs.{needs}
-use Rattle.walk.proofs.entry.too_short.Statement.{statement}
-use Rattle.walk.proofs.entry.too_short.Tie as tie
-use Rattle.walk.proofs.entry.too_short.Reads as reads
-use Rattle.walk.proofs.entry.too_short.Lts as lts
+use Rattle.walk.proofs.core.too_short.Statement.{statement}
+use Rattle.walk.proofs.core.too_short.Tie as tie
+use Rattle.walk.proofs.core.too_short.Reads as reads
+use Rattle.walk.proofs.core.too_short.Lts as lts
 use borrow.Author.Needs.{needs}
 use mathlib.Core.Path.{sym, _∙_}
 use Prim.Native.Nat.{_*_}

@@ -1,8 +1,8 @@
--- `entry::too_many` meets its contract: the ways through it are how far its tests go.
-use Rattle.walk.proofs.entry.too_many.Statement.{statement}
-use Rattle.walk.proofs.entry.too_many.Tie as tie
-use Rattle.walk.proofs.entry.too_many.Reads as reads
-use Rattle.walk.proofs.entry.too_many.Lts as lts
+-- `core::too_many` meets its contract: the ways through it are how far its tests go.
+use Rattle.walk.proofs.core.too_many.Statement.{statement}
+use Rattle.walk.proofs.core.too_many.Tie as tie
+use Rattle.walk.proofs.core.too_many.Reads as reads
+use Rattle.walk.proofs.core.too_many.Lts as lts
 use mathlib.Core.Path.{sym, _∙_}
 use borrow.Author.Tests.{lt-ltb, le-ltb}
 use Rattle.walk.proofs.Truth.{or-yes, or-no}

@@ -1,9 +1,9 @@
--- `entry::run` meets its contract. The loop's invariant: the whole walk is what has been handed out so far, followed by the walk from the present state.
+-- `core::run` meets its contract. The loop's invariant: the whole walk is what has been handed out so far, followed by the walk from the present state.
 -- The measure is how many records can be left.
-use Rattle.walk.proofs.entry.run.Statement.{statement}
-use Rattle.walk.proofs.entry.run.Tie as tie
-use Rattle.walk.proofs.entry.run.Reads as reads
-use Rattle.walk.proofs.entry.run.Lts as lts
+use Rattle.walk.proofs.core.run.Statement.{statement}
+use Rattle.walk.proofs.core.run.Tie as tie
+use Rattle.walk.proofs.core.run.Reads as reads
+use Rattle.walk.proofs.core.run.Lts as lts
 use Rattle.walk.proofs.state.WalkState.start.Reads as start-reads
 use Rattle.walk.proofs.state.WalkState.step.Reads as step-reads
 use Rattle.walk.proofs.state.WalkState.unfinished.Reads as unfinished-reads
