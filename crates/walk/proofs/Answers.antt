@@ -1,16 +1,16 @@
 -- What `core::walk_core` answers, by the outcome of its checks.
-use mathlib.Core.Path.{_≡_, refl, sym, ap, subst, _∙_}
+use mathlib.Core.Path.{_≡_, refl, ap, subst, _∙_}
 use mathlib.Core.Bool.{true, false, _||_}
-use mathlib.Core.List.{List, [], _++_}
-use Prim.Native.Nat.{ℕ, _+_, _*_, _≤_}
+use mathlib.Core.List.{List}
+use Prim.Native.Nat.{ℕ, _*_, _≤_}
 use native.Mathlib.Omega.{arith}
 use lib.Dec.{ltb, lit<}
-use lib.ListN.{length, drop}
+use lib.ListN.{length}
 use borrow.Author.Tests.{ltb-false}
 use Rattle.math.specs.declared.aabb.Aabb.{Aabb}
 use Rattle.math.specs.declared.vec3.Vec3.{Vec3}
 use Rattle.walk.specs.Boxes.{queryOf}
-use Rattle.walk.specs.Step.{Lent, lentOf, Turn, started, Steppable, Stepped}
+use Rattle.walk.specs.Step.{Lent, lentOf, started, Steppable, Stepped}
 use Rattle.walk.specs.Walks.{walkFrom, statusNumber, numberOf, countsOf, ended, tooMany, tooShort, walkOf, Outcome, Promise}
 use Rattle.walk.specs.declared.boxes.Query.{Query}
 use Rattle.walk.specs.declared.core.Walk.{Walk}

@@ -1,17 +1,17 @@
 -- What holds of every walk's outcome, whatever the bytes: its reads are within what the trees allow, its count is that of its positions, there are no more of them than items, and a walk that was not refused has read everything that it had to.
-use mathlib.Core.Path.{_≡_, refl, sym, ap, subst, _∙_}
+use mathlib.Core.Path.{_≡_, refl}
 use mathlib.Core.Bool.{Bool, true, false, _||_}
-use mathlib.Core.List.{List, []}
+use mathlib.Core.List.{List}
 use Prim.Native.Nat.{ℕ, _+_, _-_, _≤_}
 use native.Mathlib.Omega.{arith}
-use lib.Dec.{ltb, lit≤}
+use lib.Dec.{ltb}
 use lib.ListN.{length}
 use borrow.Author.Tests.{ltb-false}
 use Rattle.math.specs.declared.aabb.Aabb.{Aabb}
 use Rattle.math.specs.declared.vec3.Vec3.{Vec3}
 use Rattle.walk.specs.Boxes.{queryOf}
-use Rattle.walk.specs.Step.{Lent, lentOf, Turn, started, more}
-use Rattle.walk.specs.Walks.{allowance, left, walkFrom, unread, ended, tooMany, tooShort, pickOutcome, walkOf, Outcome, statusNumber}
+use Rattle.walk.specs.Step.{Lent, lentOf, started, more}
+use Rattle.walk.specs.Walks.{allowance, walkFrom, unread, ended, tooMany, tooShort, pickOutcome, walkOf, Outcome, statusNumber}
 use Rattle.walk.specs.declared.state.Sizes.{Sizes}
 use Rattle.walk.specs.declared.state.Status.{Status}
 use Rattle.walk.specs.declared.state.Status.the-variants.{Going, TreeRange, NodeRecord, TooManyHandedOut}

@@ -1,14 +1,14 @@
 -- A walk as a whole: each reading uses up some of what `left` allows, so a walk ends, and goes on from each state as a reading and the rest.
 use mathlib.Core.Path.{_≡_, refl, sym, ap, subst, _∙_}
-use mathlib.Core.Bool.{Bool, true, false, cond, _&&_, _||_}
-use mathlib.Core.List.{List, [], _++_, append-assoc}
+use mathlib.Core.Bool.{Bool, true, false, cond, _||_}
+use mathlib.Core.List.{_++_}
 use Prim.Native.Nat.{ℕ, zero, suc, _+_, _-_, _*_, _≤_, _<_, min, max}
 use native.Mathlib.Omega.{arith}
 use lib.Dec.{T, ltb, eqb}
 use lib.IntN.{ℤ, pos, negsuc}
 use lib.Signed.{ltZ}
 use lib.ListN.{length, length-append}
-use borrow.Author.Tests.{lt-ltb, le-ltb, ltb-true, ltb-false}
+use borrow.Author.Tests.{ltb-true, ltb-false}
 use Rattle.records.specs.Records.{nodeAt, treeAt}
 use Rattle.records.specs.declared.BvhNode.{BvhNode}
 use Rattle.records.specs.declared.BvhTree.{BvhTree}
@@ -16,7 +16,6 @@ use Rattle.walk.specs.Boxes.{meets}
 use Rattle.walk.specs.Refusals.{whole, badRange, badNode}
 use Rattle.walk.specs.Step.{Lent, Turn, quiet, going, refused, entering, passing, atTree, strideOf, onward, handedOf, handing, atNode, more, stepOf, pickStatus}
 use Rattle.walk.specs.Walks.{joined, readOn, rangeNodes, allowance, left, walkFrom}
-use Rattle.walk.specs.declared.state.Status.{Status}
 use Rattle.walk.specs.declared.state.Status.the-variants.{Going, TreeRange, NodeRecord, TooManyHandedOut}
 use Rattle.walk.specs.declared.state.WalkState.{WalkState}
 use Rattle.walk.proofs.Truth.{either-no-first, either-no-second}

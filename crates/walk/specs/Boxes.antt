@@ -1,6 +1,6 @@
 -- Which boxes meet. Definitions only.
 use mathlib.Core.Bool.{Bool, _&&_}
-use lib.Ieee.{Float, le}
+use lib.Ieee.{le}
 use lib.Signed.{leZ}
 use Rattle.math.specs.declared.aabb.Aabb.{Aabb}
 use Rattle.math.specs.declared.vec3.Vec3.{Vec3}

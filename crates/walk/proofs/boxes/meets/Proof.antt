@@ -2,10 +2,6 @@
 use borrow.Author.Needs.{needs}
 use Rattle.walk.proofs.boxes.meets.Statement.{statement}
 use Rattle.walk.proofs.boxes.meets.Tie as tie
-use Rattle.walk.proofs.boxes.meets.Reads as reads
-use Rattle.walk.proofs.boxes.meets.Lts as lts
-use Rattle.walk.proofs.boxes.overlap_i16.Reads as overlap-i16-reads
-use borrow.Author.Needs.{needs}
 use mathlib.Core.Path.{_≡_}
 use lib.Signed.{leZ}
 use Rattle.walk.specs.Boxes.{overlap, meets}
@@ -31,29 +27,23 @@ z-axis c =
     let a = c .before .before .before .before .before .before .before .before .before .before .before .before .before .before .before .before .before .args in
     same-overlap (a .q .min .2) (a .q .max .2) (a .min .2) (a .max .2) (q .0 .1 .1 .1 .1 .0 .1) (q .1 .0 .1 .1 .1 .1 .0 .1) (c .before .before .struct-told11 .given .1 .1 .0 .1) (c .before .struct-told12 .given .1 .1 .0 .1) (c .overlap-i163 .ensures)
 
--- src/boxes.rt:52:5
 overlap-i16-requires : tie.Need-overlap-i16-requires
 overlap-i16-requires c κs = search needs
 
--- src/boxes.rt:53:13
 overlap-i16-requires-2 : tie.Need-overlap-i16-requires-2
 overlap-i16-requires-2 c κs = search needs
 
--- src/boxes.rt:54:16
 overlap-i16-requires-3 : tie.Need-overlap-i16-requires-3
 overlap-i16-requires-3 c κs = search needs
 
--- src/boxes.rt:49:1
 returns : tie.Need-returns
 unfolding meets
 returns c = third (x-axis (c .before .before .before .before .before .before .before .before .before .before .before .before)) (y-axis (c .before .before .before .before .before .before)) (z-axis c) (c .before .before .before .before .before .before .before .before .before .before .before .if1 .taken) (c .before .before .before .before .before .if2 .taken)
 
--- src/boxes.rt:49:1
 returns-2 : tie.Need-returns-2
 unfolding meets
 returns-2 c = second _ (x-axis (c .before .before .before .before .before .before .before)) (y-axis (c .before)) (c .before .before .before .before .before .before .if1 .taken) (c .if2 .left)
 
--- src/boxes.rt:49:1
 returns-3 : tie.Need-returns-3
 unfolding meets
 returns-3 c = first _ (x-axis (c .before)) (c .if1 .left)

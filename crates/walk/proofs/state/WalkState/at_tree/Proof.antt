@@ -2,74 +2,53 @@
 use borrow.Author.Needs.{needs}
 use Rattle.walk.proofs.state.WalkState.at_tree.Statement.{statement}
 use Rattle.walk.proofs.state.WalkState.at_tree.Tie as tie
-use Rattle.walk.proofs.state.WalkState.at_tree.Reads as reads
-use Rattle.walk.proofs.state.WalkState.at_tree.Lts as lts
-use Rattle.records.proofs.tree_at.Reads as tree-at-reads
-use Rattle.walk.proofs.boxes.meets.Reads as meets-reads
-use Rattle.walk.proofs.refusals.number.Reads as number-reads
-use Rattle.walk.proofs.refusals.range_refused.Reads as range-refused-reads
-use Rattle.walk.proofs.state.WalkState.refused.Reads as refused-reads
-use borrow.Author.Needs.{needs}
 use native.Mathlib.Omega.{arith}
-use mathlib.Core.Path.{_≡_, sym, ap, _∙_}
+use mathlib.Core.Path.{sym, ap, _∙_}
 use Rattle.records.specs.declared.BvhTree.{BvhTree}
 use Rattle.walk.specs.Refusals.{whole}
 use Rattle.walk.specs.Step.{atTree}
 use Rattle.walk.proofs.Shorts.{same}
 use Rattle.walk.proofs.StepLaws.{tree-refused, tree-entered, tree-passed, entering-by}
 
--- src/state.rt:110:41
 mul-tree-at : tie.Need-mul-tree-at
 mul-tree-at c = search needs
 
--- src/state.rt:110:13
 tree-at-requires : tie.Need-tree-at-requires
 tree-at-requires c κs = search needs
 
--- src/state.rt:111:12
 range-refused-requires : tie.Need-range-refused-requires
 range-refused-requires c κs = search needs
 
--- src/state.rt:112:13
 refused-requires : tie.Need-refused-requires
 refused-requires c κs = search needs
 
--- src/state.rt:112:13
 returns : tie.Need-returns
 returns c =
     let a = c .before .before .before .before .before .before .args in
     let t = c .before .before .before .tree-at .result in
     c .refused .ensures ∙ sym (ap (λ (u : BvhTree). atTree (a .query) (a .nodes) u (a .self)) (sym (c .before .before .before .tree-at .ensures)) ∙ tree-refused (a .query) (a .nodes) t (a .self) (sym (c .before .before .range-refused .ensures) ∙ c .before .if1 .taken))
 
--- src/state.rt:114:12
 meets-requires : tie.Need-meets-requires
 meets-requires c κs = search needs
 
--- src/state.rt:115:17
 number-requires : tie.Need-number-requires
 number-requires c κs = search needs
 
--- src/state.rt:116:17
 number-requires-2 : tie.Need-number-requires-2
 number-requires-2 c κs = search needs
 
--- src/state.rt:118:23
 add-t13 : tie.Need-add-t13
 add-t13 c = search needs
 
--- src/state.rt:121:24
 add-t14 : tie.Need-add-t14
 add-t14 c = omega (arith, c .before .before .before .before .before .before .before .before .before .before .before .before .before .pre)
 
--- src/state.rt:127:23
 add-t16 : tie.Need-add-t16
 add-t16 c = search needs
 
--- src/state.rt:130:24
 add-t17 : tie.Need-add-t17
 add-t17 c = search needs
 
--- src/state.rt:106:5
 returns-2 : tie.Need-returns-2
 returns-2 c =
     let a = c .before .before .before .before .before .before .before .before .before .before .before .before .before .args in
@@ -78,7 +57,6 @@ returns-2 c =
     let last = c .before .before .number2 .ensures .0 ∙ ap whole (same (t .«node_index2») (c .before .before .before .struct-told2 .given .1 .1 .1 .0 .1)) in
     entering-by t (a .self) _ _ first last ∙ sym (ap (λ (u : BvhTree). atTree (a .query) (a .nodes) u (a .self)) (sym (c .before .before .before .before .before .before .before .before .before .before .tree-at .ensures)) ∙ tree-entered (a .query) (a .nodes) t (a .self) (sym (c .before .before .before .before .before .before .before .before .before .range-refused .ensures) ∙ c .before .before .before .before .before .before .before .before .if1 .left) (sym (c .before .before .before .before .before .before .before .meets .ensures) ∙ c .before .before .before .before .before .before .if2 .taken))
 
--- src/state.rt:106:5
 returns-3 : tie.Need-returns-3
 returns-3 c =
     let a = c .before .before .before .before .before .before .before .before .before .args in
