@@ -1,0 +1,13 @@
+mod Answers
+mod Choices
+pub mod Examples
+mod Given
+mod HandWalk
+pub mod Handing
+pub mod OutcomeLaws
+pub mod QueryLaws
+mod Running
+mod Shorts
+pub mod StepLaws
+mod Truth
+pub mod WalkLaws

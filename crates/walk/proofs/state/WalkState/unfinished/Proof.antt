@@ -1,0 +1,57 @@
+-- `state::WalkState::unfinished` meets its contract: the ways through it are the cases of the status, and of one that goes on those of the first test.
+use borrow.Author.Needs.{needs}
+use Rattle.walk.proofs.state.WalkState.unfinished.Statement.{statement}
+use Rattle.walk.proofs.state.WalkState.unfinished.Tie as tie
+use mathlib.Core.Path.{_≡_, sym, ap, _∙_}
+use mathlib.Core.Bool.{true}
+use Rattle.walk.specs.Step.{going}
+use Rattle.walk.proofs.Truth.{and-yes, or-yes, or-no}
+use borrow.Author.Tests.{lt-ltb, le-ltb}
+
+enum-told : tie.Need-enum-told
+enum-told c = search needs
+
+enum-told-2 : tie.Need-enum-told-2
+enum-told-2 c = search needs
+
+enum-told-3 : tie.Need-enum-told-3
+enum-told-3 c = search needs
+
+enum-told-4 : tie.Need-enum-told-4
+enum-told-4 c = search needs
+
+returns : tie.Need-returns
+returns c =
+    let s = c .before .before .before .before .args .self in
+    let g : going (s .status) ≡ true = ap going (c .before .before .enum-told .given .1) in
+    let e = lt-ltb (s .at) (s .last) (c .if1 .taken) in
+    e ∙ sym (and-yes _ g ∙ or-yes _ e)
+
+returns-2 : tie.Need-returns-2
+returns-2 c =
+    let s = c .before .before .before .before .before .args .self in
+    let g : going (s .status) ≡ true = ap going (c .before .before .before .enum-told .given .1) in
+    sym (and-yes _ g ∙ or-no _ (le-ltb (s .at) (s .last) (c .before .if1 .left)))
+
+returns-3 : tie.Need-returns-3
+returns-3 c = search needs
+
+returns-4 : tie.Need-returns-4
+returns-4 c = search needs
+
+returns-5 : tie.Need-returns-5
+returns-5 c = search needs
+
+pub unfinished-spec : {M : Type 1} → statement M
+unfinished-spec =
+    tie.close
+    (tie.spec
+    enum-told
+    enum-told-2
+    enum-told-3
+    enum-told-4
+    returns
+    returns-2
+    returns-3
+    returns-4
+    returns-5)

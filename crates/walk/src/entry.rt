@@ -1,0 +1,23 @@
+// The entry point of a walk.
+use crate::core::Walk;
+use crate::reader::NodeReader;
+use crate::state::Sizes;
+use math::aabb::Aabb;
+use math::vec3::Vec3;
+ghost use lib.ListN.{length};
+ghost use Rattle.walk.specs.Walks.{walkOf, Promise};
+
+// Which positions the query may meet, into the first places of `out`.
+pub fn walk_bvh(
+    query: Aabb,
+    cen: Vec3,
+    inverse: Vec3,
+    sizes: Sizes,
+    nodes: &[u8],
+    trees: &[u8],
+    out: &mut [u16],
+) -> Walk
+    ensures { λ r. ⌜ Promise (walkOf query cen inverse sizes (now (nodes .entry)) (now (trees .entry)) (length (now (out .entry)))) (now (out .entry)) (now (out .exit)) r ⌝ }
+{
+    NodeReader::new(nodes).walk(query, cen, inverse, sizes, trees, out)
+}
