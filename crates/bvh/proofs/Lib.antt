@@ -1,7 +1,7 @@
 pub mod EmitLaws
 mod EntryWords
 pub mod FlatLaws
-mod ItemWords
+pub mod ItemWords
 pub mod Lawful
 pub mod MarkedLaws
 pub mod Places

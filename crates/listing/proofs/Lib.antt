@@ -1,0 +1,4 @@
+mod Children
+mod Decimals
+mod Lining
+mod Putting

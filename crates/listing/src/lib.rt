@@ -1,0 +1,4 @@
+// The listing of a tree: child box records are read, their tree is built, and its records are printed.
+pub mod lines;
+pub mod reading;
+pub mod text;
