@@ -1,6 +1,7 @@
 pub mod EmitLaws
 mod EntryWords
 pub mod FlatLaws
+mod HandWalk
 pub mod ItemWords
 pub mod Lawful
 pub mod MarkedLaws

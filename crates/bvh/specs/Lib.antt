@@ -1,4 +1,5 @@
 pub mod Build
+pub mod Core
 pub mod Decode
 pub mod Entry
 pub mod Flat
