@@ -1,4 +1,6 @@
 mod Children
 mod Decimals
+mod FewBoxes
 mod Lining
 mod Putting
+mod Whole

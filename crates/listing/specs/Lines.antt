@@ -54,6 +54,10 @@ treeLines bytes n = lines (λ i. treeLine i (treeAt bytes (16 * i))) n
 unfoldable pub countsLine : ℕ → ℕ → List ℕ
 countsLine count capacity = nodesWord ++ decimal count ++ (32 ∷ []) ++ decimal capacity ++ (10 ∷ [])
 
+-- the lines of `count` nodes and `parts` trees, after the line of count and capacity
+unfoldable pub recordsText : List ℕ → ℕ → ℕ → List ℕ → ℕ → List ℕ
+recordsText nodes count capacity trees parts = countsLine count capacity ++ nodeLines nodes count ++ treeLines trees parts
+
 -- Rule L7 (01, Program `boxes`: it prints `refused` and the number).
 unfoldable pub refusedLine : ℕ → List ℕ
 refusedLine number = refusedWord ++ decimal number ++ (10 ∷ [])
