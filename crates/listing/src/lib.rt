@@ -2,4 +2,5 @@
 pub mod lines;
 pub mod list;
 pub mod reading;
+pub mod run;
 pub mod text;
