@@ -99,7 +99,7 @@ put-records-requires c κs =
     let b = c .before .before .before .before .built .given .0 .0 in
     let few = made-few (c .before .before .before .before .before .before .before .before .before .before .before .before .before .before .before .before .before .before .before .before .before .before .before .before .before .before .before .before .before .before .before .before .args .input .now) b (c .before .before .before .before .before .before .before .before .before .before .before .before .before .before .before .before .before .before .before .before .before .before .before .before .before .before .before .before .before .before .before .before .pre .1) (made-here (c .before .before .before .before .before .before .before .before .before .before .before .before .before .before .before .before)) (c .before .before .before .before .built .given .1) in
     let kept = c .before .before .before .before .before .before .before .before .before .before .before .before .before .before .before .before .build-core .kept in
-    (c .before .before .before .before .before .before .before .before .before .before .before .before .before .before .before .before .before .before .before .before .before .before .before .before .before .before .before .before .before .before .before .before .pre .0, omega arith, omega arith, few .nodes-few, few .capacity-few, few .trees-few)
+    (c .before .before .before .before .before .before .before .before .before .before .before .before .before .before .before .before .before .before .before .before .before .before .before .before .before .before .before .before .before .before .before .before .pre .0, omega arith, omega arith, omega arith, omega arith, omega arith)
 
 -- src/list.rt:33:1
 same-length : tie.Need-same-length
