@@ -1,11 +1,11 @@
 -- The fewest digits that hold a number are its decimal digits; and a signed number's, from its 16 bits in two's complement.
-use Prim.Native.Nat.{ℕ, zero, suc, _+_, _-_, _*_, _/_, _%_, _^_, _≤_, _<_}
+use Prim.Native.Nat.{ℕ, zero, suc, _+_, _-_, _/_, _%_, _^_, _≤_, _<_}
 use native.Mathlib.Nat.{pow-suc, pow-le-pow-right}
 use native.Mathlib.Decide.{decLe}
 use native.Mathlib.Omega.{arith}
 use mathlib.Core.Bool.{Bool, cond}
 use mathlib.Core.List.{List, [], _∷_, _++_}
-use mathlib.Core.Path.{_≡_, refl, sym, ap, _∙_, subst}
+use mathlib.Core.Path.{_≡_, sym, ap, _∙_, subst}
 use lib.IntN.{ℤ, pos, negsuc}
 use mir.Syntax.{w16, w32}
 use mir.Val.{SFits, toZ, ofZ}
@@ -13,7 +13,6 @@ use mir.Facts.{toZ-ofZ, sfits-widen}
 use borrow.Author.Tests.{lt-ltb, le-ltb}
 use Rattle.io.specs.Digits.{glyph, digits, Fewest}
 use Rattle.float32.specs.Casts.{low16bits}
-use Rattle.split.specs.Lists.{pick}
 use Rattle.listing.specs.Text.{digit, decimalOf, decimal, signed}
 
 glyph-is : (n : ℕ) → glyph (n % 10) ≡ digit (n % 10)

@@ -18,7 +18,7 @@ cornerAt bytes k = record { x = wordAt bytes k; y = wordAt bytes (k + 4); z = wo
 unfoldable pub childBox : List ℕ → ℕ → BoxWords
 childBox bytes k = record { min = cornerAt bytes k; max = cornerAt bytes (k + 16) }
 
--- Rule L9 (01: all present): the first n records as entries of a build, a mark and the box each.
+-- The first n records as a build takes its entries: a mark that the entry is present, and the box.
 unfoldable pub childWords : List ℕ → ℕ → List ℕ
 childWords bytes zero = []
 childWords bytes (suc n) = childWords bytes n ++ (1 ∷ boxWords (childBox bytes (32 * n)))

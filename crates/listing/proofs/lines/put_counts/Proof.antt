@@ -2,43 +2,30 @@
 use borrow.Author.Needs.{needs}
 use Rattle.listing.proofs.lines.put_counts.Statement.{statement}
 use Rattle.listing.proofs.lines.put_counts.Tie as tie
-use Rattle.listing.proofs.lines.put_counts.Reads as reads
-use Rattle.listing.proofs.lines.put_counts.Lts as lts
-use Rattle.listing.proofs.text.put_byte.Reads as put-byte-reads
-use Rattle.listing.proofs.text.put_decimal.Reads as put-decimal-reads
-use Rattle.listing.proofs.text.put_text.Reads as put-text-reads
 use Rattle.listing.specs.Lines.{countsLine}
 use Rattle.listing.proofs.Putting.{put-then}
 
--- src/lines.rt:112:35
 slice-aggregate-put-text : tie.Need-slice-aggregate-put-text
 slice-aggregate-put-text c = search needs
 
--- src/lines.rt:112:9
 put-text-requires : tie.Need-put-text-requires
 put-text-requires c κs = search needs
 
--- src/lines.rt:113:9
 put-decimal-requires : tie.Need-put-decimal-requires
 put-decimal-requires c κs = search needs
 
--- src/lines.rt:114:9
 put-byte-requires : tie.Need-put-byte-requires
 put-byte-requires c κs = search needs
 
--- src/lines.rt:115:9
 put-decimal-requires-2 : tie.Need-put-decimal-requires-2
 put-decimal-requires-2 c κs = search needs
 
--- src/lines.rt:116:5
 put-byte-requires-2 : tie.Need-put-byte-requires-2
 put-byte-requires-2 c κs = search needs
 
--- src/lines.rt:108:1
 same-length : tie.Need-same-length
 same-length c = search needs
 
--- src/lines.rt:108:1
 returns : tie.Need-returns
 unfolding countsLine
 returns c = put-then (put-then (put-then (put-then (c .before .before .before .before .before .before .before .before .before .before .before .before .before .before .before .before .before .before .put-text .ensures) (c .before .before .before .before .before .before .before .before .before .before .before .before .before .before .put-decimal .ensures)) (c .before .before .before .before .before .before .before .before .before .before .put-byte .ensures)) (c .before .before .before .before .before .before .put-decimal2 .ensures)) (c .before .before .put-byte2 .ensures)

@@ -2,25 +2,18 @@
 use borrow.Author.Needs.{needs}
 use Rattle.listing.proofs.lines.put_node_line.Statement.{statement}
 use Rattle.listing.proofs.lines.put_node_line.Tie as tie
-use Rattle.listing.proofs.lines.put_node_line.Reads as reads
-use Rattle.listing.proofs.lines.put_node_line.Lts as lts
-use Rattle.listing.proofs.lines.put_record.Reads as put-record-reads
 use Rattle.listing.specs.Lines.{nodeWord, nodeLine}
 use Rattle.listing.proofs.Lining.{record-put}
 
--- src/lines.rt:54:9
 slice-aggregate-put-record : tie.Need-slice-aggregate-put-record
 slice-aggregate-put-record c = search needs
 
--- src/lines.rt:51:5
 put-record-requires : tie.Need-put-record-requires
 put-record-requires c κs = search needs
 
--- src/lines.rt:47:1
 same-length : tie.Need-same-length
 same-length c = search needs
 
--- src/lines.rt:47:1
 returns : tie.Need-returns
 unfolding nodeLine
 returns c =

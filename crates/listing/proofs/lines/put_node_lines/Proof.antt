@@ -1,10 +1,6 @@
 -- `lines::put_node_lines` meets its contract: the lines of the first i records are put.
 use Rattle.listing.proofs.lines.put_node_lines.Statement.{statement}
 use Rattle.listing.proofs.lines.put_node_lines.Tie as tie
-use Rattle.listing.proofs.lines.put_node_lines.Reads as reads
-use Rattle.listing.proofs.lines.put_node_lines.Lts as lts
-use Rattle.listing.proofs.lines.put_node_line.Reads as put-node-line-reads
-use Rattle.records.proofs.node_at.Reads as node-at-reads
 use Prim.Native.Nat.{ℕ, _-_, _*_}
 use mathlib.Core.List.{List}
 use mathlib.Core.Path.{ap}
@@ -24,31 +20,24 @@ abbrev μ-loop : tie.MeasureT-loop
 abbrev lineOf : List ℕ → ℕ → List ℕ
 lineOf bytes i = nodeLine i (nodeAt bytes (16 * i))
 
--- src/lines.rt:86:5
 loop-holds : tie.Need-loop-holds Inv-loop μ-loop
 loop-holds c = no-line (lineOf (c .before .before .args .nodes .now)) (c .before .before .args .out .now) (c .before .before .args .at) (c .before .before .args .count)
 
--- src/lines.rt:87:66
 mul-node-at : tie.Need-mul-node-at Inv-loop μ-loop
 mul-node-at c = omega arith
 
--- src/lines.rt:87:42
 node-at-requires : tie.Need-node-at-requires Inv-loop μ-loop
 node-at-requires c κs = omega arith
 
--- src/lines.rt:87:9
 put-node-line-requires : tie.Need-put-node-line-requires Inv-loop μ-loop
 put-node-line-requires c κs = (line-room (lineOf (c .before .before .before .before .before .before .args .nodes .now)) (c .before .before .before .loop .inv) (omega arith) (omega arith), omega arith)
 
--- src/lines.rt:88:9
 add-i : tie.Need-add-i Inv-loop μ-loop
 add-i c = omega arith
 
--- src/lines.rt:86:5
 loop-less : tie.Need-loop-less Inv-loop μ-loop
 loop-less c = omega arith
 
--- src/lines.rt:86:5
 loop-again : tie.Need-loop-again Inv-loop μ-loop
 loop-again c =
     let a = c .before .before .before .before .before .before .before .before .before .args in
@@ -57,11 +46,9 @@ loop-again c =
     let e = c .before .before .before .node-at .ensures in
     line-next line (l .inv) (omega arith) (put-as (ap (nodeLine (l .i)) e) (omega arith) (c .before .before .put-node-line .ensures))
 
--- src/lines.rt:80:1
 same-length : tie.Need-same-length Inv-loop μ-loop
 same-length c = c .before .loop .inv .same
 
--- src/lines.rt:80:1
 returns : tie.Need-returns Inv-loop μ-loop
 unfolding nodeLines
 returns c = all-lines (lineOf (c .before .before .before .before .args .nodes .now)) (c .before .loop .inv) (omega arith)

@@ -2,25 +2,18 @@
 use borrow.Author.Needs.{needs}
 use Rattle.listing.proofs.lines.put_tree_line.Statement.{statement}
 use Rattle.listing.proofs.lines.put_tree_line.Tie as tie
-use Rattle.listing.proofs.lines.put_tree_line.Reads as reads
-use Rattle.listing.proofs.lines.put_tree_line.Lts as lts
-use Rattle.listing.proofs.lines.put_record.Reads as put-record-reads
 use Rattle.listing.specs.Lines.{treeWord, treeLine}
 use Rattle.listing.proofs.Lining.{record-put}
 
--- src/lines.rt:70:9
 slice-aggregate-put-record : tie.Need-slice-aggregate-put-record
 slice-aggregate-put-record c = search needs
 
--- src/lines.rt:67:5
 put-record-requires : tie.Need-put-record-requires
 put-record-requires c κs = search needs
 
--- src/lines.rt:63:1
 same-length : tie.Need-same-length
 same-length c = search needs
 
--- src/lines.rt:63:1
 returns : tie.Need-returns
 unfolding treeLine
 returns c =

@@ -1,10 +1,6 @@
 -- `lines::put_tree_lines` meets its contract: the lines of the first i records are put.
 use Rattle.listing.proofs.lines.put_tree_lines.Statement.{statement}
 use Rattle.listing.proofs.lines.put_tree_lines.Tie as tie
-use Rattle.listing.proofs.lines.put_tree_lines.Reads as reads
-use Rattle.listing.proofs.lines.put_tree_lines.Lts as lts
-use Rattle.listing.proofs.lines.put_tree_line.Reads as put-tree-line-reads
-use Rattle.records.proofs.tree_at.Reads as tree-at-reads
 use Prim.Native.Nat.{ℕ, _-_, _*_}
 use mathlib.Core.List.{List}
 use mathlib.Core.Path.{ap}
@@ -24,31 +20,24 @@ abbrev μ-loop : tie.MeasureT-loop
 abbrev lineOf : List ℕ → ℕ → List ℕ
 lineOf bytes i = treeLine i (treeAt bytes (16 * i))
 
--- src/lines.rt:100:5
 loop-holds : tie.Need-loop-holds Inv-loop μ-loop
 loop-holds c = no-line (lineOf (c .before .before .args .trees .now)) (c .before .before .args .out .now) (c .before .before .args .at) (c .before .before .args .count)
 
--- src/lines.rt:101:66
 mul-tree-at : tie.Need-mul-tree-at Inv-loop μ-loop
 mul-tree-at c = omega arith
 
--- src/lines.rt:101:42
 tree-at-requires : tie.Need-tree-at-requires Inv-loop μ-loop
 tree-at-requires c κs = omega arith
 
--- src/lines.rt:101:9
 put-tree-line-requires : tie.Need-put-tree-line-requires Inv-loop μ-loop
 put-tree-line-requires c κs = (line-room (lineOf (c .before .before .before .before .before .before .args .trees .now)) (c .before .before .before .loop .inv) (omega arith) (omega arith), omega arith)
 
--- src/lines.rt:102:9
 add-i : tie.Need-add-i Inv-loop μ-loop
 add-i c = omega arith
 
--- src/lines.rt:100:5
 loop-less : tie.Need-loop-less Inv-loop μ-loop
 loop-less c = omega arith
 
--- src/lines.rt:100:5
 loop-again : tie.Need-loop-again Inv-loop μ-loop
 loop-again c =
     let a = c .before .before .before .before .before .before .before .before .before .args in
@@ -57,11 +46,9 @@ loop-again c =
     let e = c .before .before .before .tree-at .ensures in
     line-next line (l .inv) (omega arith) (put-as (ap (treeLine (l .i)) e) (omega arith) (c .before .before .put-tree-line .ensures))
 
--- src/lines.rt:94:1
 same-length : tie.Need-same-length Inv-loop μ-loop
 same-length c = c .before .loop .inv .same
 
--- src/lines.rt:94:1
 returns : tie.Need-returns Inv-loop μ-loop
 unfolding treeLines
 returns c = all-lines (lineOf (c .before .before .before .before .args .trees .now)) (c .before .loop .inv) (omega arith)

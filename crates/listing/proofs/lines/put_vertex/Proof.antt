@@ -2,30 +2,22 @@
 use borrow.Author.Needs.{needs}
 use Rattle.listing.proofs.lines.put_vertex.Statement.{statement}
 use Rattle.listing.proofs.lines.put_vertex.Tie as tie
-use Rattle.listing.proofs.lines.put_vertex.Reads as reads
-use Rattle.listing.proofs.lines.put_vertex.Lts as lts
-use Rattle.listing.proofs.text.put_field.Reads as put-field-reads
 use Rattle.listing.specs.Lines.{vertexFields}
 use Rattle.listing.proofs.Lining.{field-put}
 use Rattle.listing.proofs.Putting.{put-then}
 
--- src/lines.rt:19:9
 put-field-requires : tie.Need-put-field-requires
 put-field-requires c κs = search needs
 
--- src/lines.rt:20:9
 put-field-requires-2 : tie.Need-put-field-requires-2
 put-field-requires-2 c κs = search needs
 
--- src/lines.rt:21:5
 put-field-requires-3 : tie.Need-put-field-requires-3
 put-field-requires-3 c κs = search needs
 
--- src/lines.rt:15:1
 same-length : tie.Need-same-length
 same-length c = search needs
 
--- src/lines.rt:15:1
 returns : tie.Need-returns
 unfolding vertexFields
 returns c =

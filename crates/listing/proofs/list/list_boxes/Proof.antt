@@ -2,35 +2,24 @@
 use borrow.Author.Needs.{needs}
 use Rattle.listing.proofs.list.list_boxes.Statement.{statement}
 use Rattle.listing.proofs.list.list_boxes.Tie as tie
-use Rattle.listing.proofs.list.list_boxes.Reads as reads
-use Rattle.listing.proofs.list.list_boxes.Lts as lts
-use Rattle.listing.proofs.lines.put_refusal.Reads as put-refusal-reads
-use Rattle.listing.proofs.list.put_children.Reads as put-children-reads
-use borrow.Author.Tests.{lt-ltb, le-ltb}
 use Rattle.listing.proofs.Whole.{whole-text, over-limit, ragged, served}
 use native.Mathlib.Omega.{arith}
 
--- src/list.rt:75:9
 put-refusal-requires : tie.Need-put-refusal-requires
 put-refusal-requires c κs = search needs
 
--- src/list.rt:75:9
 returns : tie.Need-returns
 returns c = whole-text (over-limit (c .before .before .before .before .args .input .now) (omega arith)) (omega arith) (c .put-refusal .ensures)
 
--- src/list.rt:78:9
 put-refusal-requires-2 : tie.Need-put-refusal-requires-2
 put-refusal-requires-2 c κs = search needs
 
--- src/list.rt:78:9
 returns-2 : tie.Need-returns-2
 returns-2 c = whole-text (ragged (c .before .before .before .before .before .args .input .now) (omega arith) (c .before .before .if2 .taken)) (omega arith) (c .put-refusal2 .ensures)
 
--- src/list.rt:80:5
 put-children-requires : tie.Need-put-children-requires
 put-children-requires c κs = search needs
 
--- src/list.rt:71:1
 returns-3 : tie.Need-returns-3
 returns-3 c = whole-text (served (c .before .before .before .before .before .args .input .now) (omega arith) (c .before .before .if2 .left)) (omega arith) (c .put-children .ensures)
 

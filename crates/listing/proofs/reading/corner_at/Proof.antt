@@ -2,32 +2,23 @@
 use borrow.Author.Needs.{needs}
 use Rattle.listing.proofs.reading.corner_at.Statement.{statement}
 use Rattle.listing.proofs.reading.corner_at.Tie as tie
-use Rattle.listing.proofs.reading.corner_at.Reads as reads
-use Rattle.listing.proofs.reading.corner_at.Lts as lts
-use Rattle.listing.proofs.reading.word_at.Reads as word-at-reads
 use Rattle.listing.specs.Reading.{cornerAt}
 
--- src/reading.rt:35:12
 word-at-requires : tie.Need-word-at-requires
 word-at-requires c κs = search needs
 
--- src/reading.rt:36:27
 add-word-at : tie.Need-add-word-at
 add-word-at c = search needs
 
--- src/reading.rt:36:12
 word-at-requires-2 : tie.Need-word-at-requires-2
 word-at-requires-2 c κs = search needs
 
--- src/reading.rt:37:27
 add-word-at-2 : tie.Need-add-word-at-2
 add-word-at-2 c = search needs
 
--- src/reading.rt:37:12
 word-at-requires-3 : tie.Need-word-at-requires-3
 word-at-requires-3 c κs = search needs
 
--- src/reading.rt:30:1
 returns : tie.Need-returns
 unfolding cornerAt
 returns c = λ i. record { x = c .before .before .word-at .ensures i; y = c .before .word-at2 .ensures i; z = c .word-at3 .ensures i }

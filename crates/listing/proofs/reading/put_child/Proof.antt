@@ -2,12 +2,8 @@
 use borrow.Author.Needs.{needs}
 use Rattle.listing.proofs.reading.put_child.Statement.{statement}
 use Rattle.listing.proofs.reading.put_child.Tie as tie
-use Rattle.listing.proofs.reading.put_child.Reads as reads
-use Rattle.listing.proofs.reading.put_child.Lts as lts
-use Rattle.listing.proofs.reading.child_box.Reads as child-box-reads
-use Rattle.split.proofs.boxes.put_box.Reads as put-box-reads
 use Prim.Native.Nat.{_+_, _*_}
-use mathlib.Core.List.{List, _++_}
+use mathlib.Core.List.{_++_}
 use mathlib.Core.Path.{ap, _∙_}
 use lib.ListN.{set, take, drop, length-set}
 use Rattle.split.specs.declared.boxes.BoxWords.{BoxWords}
@@ -16,39 +12,30 @@ use Rattle.listing.specs.Reading.{childBox}
 use Rattle.bvh.proofs.ItemWords.{mark-then-box}
 use native.Mathlib.Omega.{arith}
 
--- src/reading.rt:56:14
 mul-at : tie.Need-mul-at
 mul-at c = search needs
 
--- src/reading.rt:57:5
 mul-words : tie.Need-mul-words
 mul-words c = search needs
 
--- src/reading.rt:57:5
 slice-write-words : tie.Need-slice-write-words
 slice-write-words c = search needs
 
--- src/reading.rt:58:34
 add-put-box : tie.Need-add-put-box
 add-put-box c = search needs
 
--- src/reading.rt:58:59
 mul-child-box : tie.Need-mul-child-box
 mul-child-box c = search needs
 
--- src/reading.rt:58:42
 child-box-requires : tie.Need-child-box-requires
 child-box-requires c κs = search needs
 
--- src/reading.rt:58:5
 put-box-requires : tie.Need-put-box-requires
 put-box-requires c κs = simp length-set (omega arith)
 
--- src/reading.rt:52:1
 same-length : tie.Need-same-length
 same-length c = c .before .before .put-box .kept .0 ∙ simp length-set
 
--- src/reading.rt:52:1
 returns : tie.Need-returns
 returns c =
     let a = c .before .before .before .before .before .before .before .args in

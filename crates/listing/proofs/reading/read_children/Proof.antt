@@ -1,9 +1,6 @@
 -- `reading::read_children` meets its contract: the first i records are read.
 use Rattle.listing.proofs.reading.read_children.Statement.{statement}
 use Rattle.listing.proofs.reading.read_children.Tie as tie
-use Rattle.listing.proofs.reading.read_children.Reads as reads
-use Rattle.listing.proofs.reading.read_children.Lts as lts
-use Rattle.listing.proofs.reading.put_child.Reads as put-child-reads
 use Prim.Native.Nat.{_-_}
 use Rattle.listing.proofs.Children.{Children, no-child, child-next, all-children}
 use native.Mathlib.Omega.{arith}
@@ -14,34 +11,27 @@ Inv-loop words₀ bytes n i₀ words i = Children bytes words₀ words i n
 abbrev μ-loop : tie.MeasureT-loop
 μ-loop words₀ bytes n i₀ words i = n - i
 
--- src/reading.rt:67:5
 loop-holds : tie.Need-loop-holds Inv-loop μ-loop
 loop-holds c = no-child (c .before .before .args .bytes .now) (c .before .before .args .words .now) (c .before .before .args .n)
 
--- src/reading.rt:68:9
 put-child-requires : tie.Need-put-child-requires Inv-loop μ-loop
 put-child-requires c κs = (omega arith, omega arith)
 
--- src/reading.rt:69:9
 add-i : tie.Need-add-i Inv-loop μ-loop
 add-i c = omega arith
 
--- src/reading.rt:67:5
 loop-less : tie.Need-loop-less Inv-loop μ-loop
 loop-less c = omega arith
 
--- src/reading.rt:67:5
 loop-again : tie.Need-loop-again Inv-loop μ-loop
 loop-again c =
     let a = c .before .before .before .before .before .before .before .before .args in
     let l = c .before .before .before .before .before .loop in
     child-next (a .bytes .now) (a .words .now) (l .words) _ (l .i) (a .n) (l .inv) (omega arith) (c .before .before .put-child .kept .0) (c .before .before .put-child .ensures)
 
--- src/reading.rt:62:1
 same-length : tie.Need-same-length Inv-loop μ-loop
 same-length c = c .before .loop .inv .same
 
--- src/reading.rt:62:1
 returns : tie.Need-returns Inv-loop μ-loop
 returns c =
     let a = c .before .before .before .before .args in

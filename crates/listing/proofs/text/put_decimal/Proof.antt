@@ -2,40 +2,28 @@
 use borrow.Author.Needs.{needs}
 use Rattle.listing.proofs.text.put_decimal.Statement.{statement}
 use Rattle.listing.proofs.text.put_decimal.Tie as tie
-use Rattle.listing.proofs.text.put_decimal.Reads as reads
-use Rattle.listing.proofs.text.put_decimal.Lts as lts
-use Rattle.io.proofs.decimal.Reads as decimal-reads
-use Rattle.listing.proofs.text.put_text.Reads as put-text-reads
-use mathlib.Core.Path.{_≡_, ap, _∙_, sym}
-use mathlib.Core.List.{List}
-use lib.ListN.{length, take}
+use mathlib.Core.Path.{_∙_}
 use Rattle.listing.proofs.Decimals.{digits-are, few-digits}
 use Rattle.listing.proofs.Putting.{put-as}
 use native.Mathlib.Omega.{arith}
 
--- src/text.rt:33:9
 decimal-requires : tie.Need-decimal-requires
 decimal-requires c κs = search needs
 
--- src/text.rt:34:23
 array-share-prefix-digits : tie.Need-array-share-prefix-digits
 array-share-prefix-digits c = search needs
 
--- src/text.rt:34:23
 slice-aggregate-put-text : tie.Need-slice-aggregate-put-text
 slice-aggregate-put-text c = search needs
 
--- src/text.rt:34:5
 put-text-requires : tie.Need-put-text-requires
 put-text-requires c κs =
     let d = c .before .before .decimal in
     omega (arith, few-digits (d .result) (c .before .before .before .before .before .args .n) (c .before .before .before .before .before .pre .1) (d .ensures .1 .0))
 
--- src/text.rt:28:1
 same-length : tie.Need-same-length
 same-length c = search needs
 
--- src/text.rt:28:1
 returns : tie.Need-returns
 returns c =
     let d = c .before .before .before .before .before .decimal in

@@ -2,10 +2,6 @@
 use borrow.Author.Needs.{needs}
 use Rattle.listing.proofs.text.put_field.Statement.{statement}
 use Rattle.listing.proofs.text.put_field.Tie as tie
-use Rattle.listing.proofs.text.put_field.Reads as reads
-use Rattle.listing.proofs.text.put_field.Lts as lts
-use Rattle.listing.proofs.text.put_byte.Reads as put-byte-reads
-use Rattle.listing.proofs.text.put_signed.Reads as put-signed-reads
 use lib.IntN.{ℤ}
 use mathlib.Core.List.{_∷_}
 use mathlib.Core.Path.{ap}
@@ -14,19 +10,15 @@ use Rattle.listing.specs.Text.{signed, field}
 use Rattle.listing.proofs.Putting.{put-as, put-then}
 use native.Mathlib.Omega.{arith}
 
--- src/text.rt:55:9
 put-byte-requires : tie.Need-put-byte-requires
 put-byte-requires c κs = search needs
 
--- src/text.rt:56:5
 put-signed-requires : tie.Need-put-signed-requires
 put-signed-requires c κs = search needs
 
--- src/text.rt:51:1
 same-length : tie.Need-same-length
 same-length c = search needs
 
--- src/text.rt:51:1
 returns : tie.Need-returns
 unfolding field
 returns c = put-as (ap (λ (z : ℤ). 32 ∷ signed z) (toZ-ofZ (c .before .before .before .before .before .before .before .before .before .fits .v))) (omega arith) (put-then (c .before .before .before .before .before .before .put-byte .ensures) (c .before .before .put-signed .ensures))

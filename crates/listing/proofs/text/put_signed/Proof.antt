@@ -2,62 +2,45 @@
 use borrow.Author.Needs.{needs}
 use Rattle.listing.proofs.text.put_signed.Statement.{statement}
 use Rattle.listing.proofs.text.put_signed.Tie as tie
-use Rattle.listing.proofs.text.put_signed.Reads as reads
-use Rattle.listing.proofs.text.put_signed.Lts as lts
-use Rattle.float32.proofs.casts.low_bits.Reads as low-bits-reads
-use Rattle.listing.proofs.text.put_byte.Reads as put-byte-reads
-use Rattle.listing.proofs.text.put_decimal.Reads as put-decimal-reads
 use Rattle.listing.proofs.Decimals.{short-read, bits-read, not-below, below-zero, bits-few}
 use Rattle.listing.proofs.Putting.{put-as, put-then}
 use native.Mathlib.Omega.{arith}
 
--- src/text.rt:42:41
 cast-low-bits : tie.Need-cast-low-bits
 cast-low-bits c = short-read (c .before .fits .v)
 
--- src/text.rt:42:9
 low-bits-requires : tie.Need-low-bits-requires
 low-bits-requires c κs = search needs
 
--- src/text.rt:44:37
 cast-put-decimal : tie.Need-cast-put-decimal
 cast-put-decimal c = search needs
 
--- src/text.rt:44:9
 put-decimal-requires : tie.Need-put-decimal-requires
 put-decimal-requires c κs = search needs
 
--- src/text.rt:44:9
 same-length : tie.Need-same-length
 same-length c = search needs
 
--- src/text.rt:44:9
 returns : tie.Need-returns
 returns c =
     let s = c .before .before .before .before .before .before .before in
     put-as (not-below (s .args .v) _ (s .fits .v) (bits-read (s .fits .v) (c .before .before .before .before .before .low-bits .ensures)) (omega arith)) (omega arith) (c .before .before .put-decimal .ensures)
 
--- src/text.rt:46:9
 put-byte-requires : tie.Need-put-byte-requires
 put-byte-requires c κs = search needs
 
--- src/text.rt:47:31
 sub-put-decimal : tie.Need-sub-put-decimal
 sub-put-decimal c = omega (arith, bits-few (c .before .before .before .before .before .before .before .before .args .v) (bits-read (c .before .before .before .before .before .before .before .before .fits .v) (c .before .before .before .before .before .before .low-bits .ensures)))
 
--- src/text.rt:47:30
 cast-put-decimal-2 : tie.Need-cast-put-decimal-2
 cast-put-decimal-2 c = search needs
 
--- src/text.rt:47:5
 put-decimal-requires-2 : tie.Need-put-decimal-requires-2
 put-decimal-requires-2 c κs = search needs
 
--- src/text.rt:38:1
 same-length-2 : tie.Need-same-length-2
 same-length-2 c = search needs
 
--- src/text.rt:38:1
 returns-2 : tie.Need-returns-2
 returns-2 c =
     let s = c .before .before .before .before .before .before .before .before .before .before .before in
