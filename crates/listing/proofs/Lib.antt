@@ -1,5 +1,6 @@
 mod Children
 mod Decimals
+pub mod Examples
 mod FewBoxes
 mod Lining
 mod Numbered
