@@ -6,6 +6,7 @@ pub mod ItemWords
 pub mod Lawful
 pub mod MarkedLaws
 pub mod Places
+pub mod Promises
 pub mod RangeLaws
 pub mod RowsInLaws
 pub mod TreeLaws

@@ -7,6 +7,7 @@ pub mod Items
 pub mod Laid
 pub mod Numbers
 pub mod Output
+pub mod Promises
 pub mod Ranges
 pub mod Rows
 pub mod Sizes

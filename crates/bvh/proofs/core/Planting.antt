@@ -1,5 +1,5 @@
 -- Between gathering and growing: what is gathered gives the builder its room, and what grows from it is the tree of the marked places.
-use Prim.Native.Nat.{ℕ, _+_, _*_, _≤_, _<_}
+use Prim.Native.Nat.{ℕ, _+_, _≤_}
 use native.Mathlib.Nat.{zero-add}
 use native.Mathlib.Omega.{arith}
 use mathlib.Core.List.{List, _++_}
@@ -7,7 +7,6 @@ use mathlib.Core.Path.{_≡_, sym, ap, _∙_, subst}
 use lib.ListN.{length, take, drop}
 use lib.Seq.{length-take-le, take-at}
 use Rattle.split.specs.Boxes.{boxAt}
-use Rattle.split.specs.Lists.{Within}
 use Rattle.bvh.specs.Core.{WorkRoom, TreePlanted}
 use Rattle.bvh.specs.Decode.{marked, Gathered, Below}
 use Rattle.bvh.specs.Rows.{Room, Grown}

@@ -2,34 +2,32 @@
 use Prim.Native.Nat.{ℕ, _+_, _-_, _*_, _≤_, _<_}
 use native.Mathlib.Nat.{sub-self}
 use native.Mathlib.Omega.{arith}
-use mathlib.Core.List.{List, [], _∷_, _++_, append-nil}
-use mathlib.Core.Path.{_≡_, refl, sym, ap, ap₂, _∙_, subst}
+use mathlib.Core.List.{List, [], _++_, append-nil}
+use mathlib.Core.Path.{_≡_, refl, sym, ap, _∙_, subst}
 use borrow.Author.Tests.{eq-eqb, ne-eqb}
-use lib.Dec.{eqb}
 use lib.ListN.{length, take, drop, take-append-drop}
 use lib.Seq.{length-take-le}
 use Rattle.records.specs.declared.scale.Scale.{Scale}
 use Rattle.records.specs.Scale.{scaleOfBox}
-use Rattle.split.specs.Boxes.{boxAt, boxFrom}
+use Rattle.split.specs.Boxes.{boxAt}
 use Rattle.split.specs.Lists.{Within}
 use Rattle.split.specs.declared.boxes.BoxWords.{BoxWords}
-use Rattle.bvh.specs.declared.core.BuiltTree.{BuiltTree}
 use Rattle.bvh.specs.declared.core.Planted.{Planted}
-use Rattle.bvh.specs.Build.{scaleIn, treeOf, builtOf, nodesWritten, treesWritten, orderWritten}
+use Rattle.bvh.specs.Build.{scaleIn, treeOf, nodesWritten, treesWritten, orderWritten}
 use Rattle.bvh.specs.Core.{NodesWritten, Writable, Written}
 use Rattle.bvh.specs.Decode.{marked, rowsIn, Below, RowsFit, SmallRows}
 use Rattle.bvh.specs.Entry.{entriesIn}
 use Rattle.bvh.specs.Flat.{Flat, Scannable, TreesPut}
 use Rattle.bvh.specs.Output.{over, nodesBytes, padBytes, capacityOf, treesBytes, orderOf}
 use Rattle.bvh.specs.Ranges.{ranges}
-use Rattle.bvh.specs.Rows.{Row, rows, rowBox, words, counts, heads, Grown}
+use Rattle.bvh.specs.Rows.{rows, rowBox, words, counts}
 use Rattle.bvh.specs.Tree.{Node, leaf, inner, Builder, builder, grow, boxOf, leafOrder, size}
 use Rattle.bvh.proofs.EmitLaws.{padded, length-nodes}
 use Rattle.bvh.proofs.FlatLaws.{grow-filled, grown-flat, grown-scannable}
-use Rattle.bvh.proofs.Lawful.{Lawful, lawful}
+use Rattle.bvh.proofs.Lawful.{lawful}
 use Rattle.bvh.proofs.core.Planting.{marks-below}
 use Rattle.bvh.proofs.RowsInLaws.{rows-in, length-rows-in, small-rows}
-use Rattle.bvh.proofs.TreeLaws.{leaf-order-length, leaf-order-within, grow-full}
+use Rattle.bvh.proofs.TreeLaws.{leaf-order-within, grow-full}
 use Rattle.bvh.proofs.WordLaws.{below-within, within-below, below-wider}
 
 -- ---- the node records and the padding

@@ -3,12 +3,7 @@ use borrow.Author.Needs.{needs}
 use Rattle.bvh.proofs.core.build_core.Statement.{statement}
 use Rattle.bvh.proofs.core.build_core.Tie as tie
 use Rattle.bvh.proofs.core.build_core.Reads as reads
-use Rattle.bvh.proofs.core.build_core.Lts as lts
-use Rattle.bvh.proofs.core.plant.Reads as plant-reads
-use Rattle.bvh.proofs.core.too_short.Reads as too-short-reads
-use Rattle.bvh.proofs.core.write_tree.Reads as write-tree-reads
-use mathlib.Core.Path.{_≡_, sym, _∙_}
-use Prim.Native.Nat.{_≤_}
+use mathlib.Core.Path.{sym, _∙_}
 use lib.Seq.{length-take-le}
 use Rattle.bvh.proofs.core.Answering.{Enough, enough, work-room, writable, too-many-entries, threshold-below, threshold-above, buffer-too-short, too-many-nodes, built}
 use native.Mathlib.Omega.{arith}
@@ -20,133 +15,101 @@ start c = c .before .before .before .before .before .before .before .before .bef
 room : (c : tie.Else4) → let a = start c .args in Enough (a .n) (a .nodes .now) (a .trees .now) (a .order .now) (a .words .now) (a .places .now) (a .temp .now) (a .stack .now) (a .first .now) (a .count .now) (a .boxes .now)
 room c = enough _ _ _ _ _ _ _ _ _ _ _ (sym (c .before .too-short .ensures) ∙ c .if4 .left)
 
--- src/core.rt:222:9
 returns : tie.Need-returns
 returns c = too-many-entries _ _ _ _ _ _ _ (c .if1 .taken)
 
--- src/core.rt:225:9
 returns-2 : tie.Need-returns-2
 returns-2 c = threshold-below _ _ _ _ _ _ _ (c .before .if1 .left) (c .if2 .taken)
 
--- src/core.rt:228:9
 returns-3 : tie.Need-returns-3
 returns-3 c = threshold-above _ _ _ _ _ _ _ (c .before .before .if1 .left) (c .before .if2 .left) (c .if3 .taken)
 
--- src/core.rt:242:8
 too-short-requires : tie.Need-too-short-requires
 too-short-requires c κs = search needs
 
--- src/core.rt:243:9
 returns-4 : tie.Need-returns-4
 returns-4 c = buffer-too-short _ _ _ _ _ _ _ (c .before .before .before .before .if1 .left) (c .before .before .before .if2 .left) (c .before .before .if3 .left) (sym (c .before .too-short .ensures) ∙ c .if4 .taken)
 
--- src/core.rt:246:34
 mul-plant : tie.Need-mul-plant
 mul-plant c = search needs
 
--- src/core.rt:246:25
 slice-reshare-prefix-plant : tie.Need-slice-reshare-prefix-plant
 slice-reshare-prefix-plant c = room c .words-room
 
--- src/core.rt:246:25
 slice-aggregate-plant : tie.Need-slice-aggregate-plant
 slice-aggregate-plant c = sym (length-take-le _ _ (room (c .before) .words-room))
 
--- src/core.rt:246:9
 plant-requires : tie.Need-plant-requires
 plant-requires c κs = work-room _ _ _ _ _ _ _ _ _ _ _ _ (c .before .before .before .before .before .before .before .before .before .before .before .if1 .left) (c .before .before .before .before .before .before .before .before .before .before .if2 .left) (room (c .before .before .before .before .before .before .before))
 
--- src/core.rt:248:9
 same-length : tie.Need-same-length
 same-length c = search needs
 
--- src/core.rt:248:9
 same-length-2 : tie.Need-same-length-2
 same-length-2 c = search needs
 
--- src/core.rt:248:9
 same-length-3 : tie.Need-same-length-3
 same-length-3 c = search needs
 
--- src/core.rt:248:9
 same-length-4 : tie.Need-same-length-4
 same-length-4 c = search needs
 
--- src/core.rt:248:9
 same-length-5 : tie.Need-same-length-5
 same-length-5 c = search needs
 
--- src/core.rt:248:9
 same-length-6 : tie.Need-same-length-6
 same-length-6 c = search needs
 
--- src/core.rt:248:9
 same-length-7 : tie.Need-same-length-7
 same-length-7 c = search needs
 
--- src/core.rt:248:9
 returns-5 : tie.Need-returns-5
 returns-5 c = too-many-nodes _ _ _ _ _ _ _ (c .before .before .before .before .before .before .before .before .before .before .before .before .before .before .before .before .before .before .before .before .before .before .before .before .before .before .if1 .left) (c .before .before .before .before .before .before .before .before .before .before .before .before .before .before .before .before .before .before .before .before .before .before .before .before .before .if2 .left) (c .before .before .before .before .before .before .before .before .before .before .before .before .before .before .before .before .before .before .before .before .before .before .before .before .if3 .left) (sym (c .before .before .before .before .before .before .before .before .before .before .before .before .before .before .before .before .before .before .before .before .before .before .before .too-short .ensures) ∙ c .before .before .before .before .before .before .before .before .before .before .before .before .before .before .before .before .before .before .before .before .before .before .if4 .left) (omega (arith, c .if5 .taken, c .before .before .before .before .before .before .before .before .before .before .before .before .before .before .plant .ensures .grown .size-is))
 
--- src/core.rt:251:18
 mul-write-tree : tie.Need-mul-write-tree
 mul-write-tree c = search needs
 
--- src/core.rt:251:9
 slice-reshare-prefix-write-tree : tie.Need-slice-reshare-prefix-write-tree
 slice-reshare-prefix-write-tree c = room (c .before .before .before .before .before .before .before .before .before .before .before .before .before .before .before .before .before .before .before .before .before .before) .words-room
 
--- src/core.rt:251:9
 slice-aggregate-write-tree : tie.Need-slice-aggregate-write-tree
 slice-aggregate-write-tree c = sym (length-take-le _ _ (room (c .before .before .before .before .before .before .before .before .before .before .before .before .before .before .before .before .before .before .before .before .before .before .before) .words-room))
 
--- src/core.rt:250:18
 write-tree-requires : tie.Need-write-tree-requires
 write-tree-requires c κs =
     let p = c .before .before .before .before .before .before .before .before .before .before .before .before .before .before .before .before .before .before .before .before .before .before .before .plant in
     writable _ _ _ _ _ _ _ _ _ _ _ _ (c .before .before .before .before .before .before .before .before .before .before .before .before .before .before .before .before .before .before .before .before .before .before .before .before .before .before .before .before .before .before .before .before .before .before .before .if1 .left) (c .before .before .before .before .before .before .before .before .before .before .before .before .before .before .before .before .before .before .before .before .before .before .before .before .before .before .before .before .before .before .before .before .before .before .if2 .left) (room (c .before .before .before .before .before .before .before .before .before .before .before .before .before .before .before .before .before .before .before .before .before .before .before .before .before .before .before .before .before .before .before)) _ _ _ _ _ _ (p .ensures) (c .before .before .before .before .before .before .before .before .before .if5 .left) (p .kept .1 .1 .1 .0) (p .kept .1 .1 .1 .1 .0) (p .kept .1 .1 .1 .1 .1 .1 .0) (p .kept .1 .1 .1 .1 .1 .1 .1 .0) (p .kept .1 .1 .1 .1 .1 .1 .1 .1 .0)
 
--- src/core.rt:205:1
 same-length-8 : tie.Need-same-length-8
 same-length-8 c = search needs
 
--- src/core.rt:205:1
 same-length-9 : tie.Need-same-length-9
 same-length-9 c = search needs
 
--- src/core.rt:205:1
 same-length-10 : tie.Need-same-length-10
 same-length-10 c = search needs
 
--- src/core.rt:205:1
 same-length-11 : tie.Need-same-length-11
 same-length-11 c = search needs
 
--- src/core.rt:205:1
 same-length-12 : tie.Need-same-length-12
 same-length-12 c = c .before .before .before .before .before .before .before .before .before .before .before .before .before .before .before .before .before .before .before .before .before .before .before .before .before .before .before .before .before .before .before .before .plant .kept .1 .1 .1 .0
 
--- src/core.rt:205:1
 same-length-13 : tie.Need-same-length-13
 same-length-13 c = c .before .before .before .before .before .before .before .before .write-tree .kept .1 .1 .1 .1 .1 .1 .1 .1 .0 ∙ c .before .before .before .before .before .before .before .before .before .before .before .before .before .before .before .before .before .before .before .before .before .before .before .before .before .before .before .before .before .before .before .before .plant .kept .1 .1 .1 .1 .0
 
--- src/core.rt:205:1
 same-length-14 : tie.Need-same-length-14
 same-length-14 c = c .before .before .before .before .before .before .before .before .before .before .before .before .before .before .before .before .before .before .before .before .before .before .before .before .before .before .before .before .before .before .before .before .plant .kept .1 .1 .1 .1 .1 .0
 
--- src/core.rt:205:1
 same-length-15 : tie.Need-same-length-15
 same-length-15 c = c .before .before .before .before .before .before .before .before .before .before .before .before .before .before .before .before .before .before .before .before .before .before .before .before .before .before .before .before .before .before .before .before .plant .kept .1 .1 .1 .1 .1 .1 .0
 
--- src/core.rt:205:1
 same-length-16 : tie.Need-same-length-16
 same-length-16 c = c .before .before .before .before .before .before .before .before .before .before .before .before .before .before .before .before .before .before .before .before .before .before .before .before .before .before .before .before .before .before .before .before .plant .kept .1 .1 .1 .1 .1 .1 .1 .0
 
--- src/core.rt:205:1
 same-length-17 : tie.Need-same-length-17
 same-length-17 c = c .before .before .before .before .before .before .before .before .before .before .before .before .before .before .before .before .before .before .before .before .before .before .before .before .before .before .before .before .before .before .before .before .plant .kept .1 .1 .1 .1 .1 .1 .1 .1 .0
 
--- src/core.rt:205:1
 returns-6 : tie.Need-returns-6
 returns-6 c = built _ _ _ _ _ _ _ (c .before .before .before .before .before .before .before .before .before .before .before .before .before .before .before .before .before .before .before .before .before .before .before .before .before .before .before .before .before .before .before .before .before .before .before .before .before .before .before .before .before .before .before .before .if1 .left) (c .before .before .before .before .before .before .before .before .before .before .before .before .before .before .before .before .before .before .before .before .before .before .before .before .before .before .before .before .before .before .before .before .before .before .before .before .before .before .before .before .before .before .before .if2 .left) (c .before .before .before .before .before .before .before .before .before .before .before .before .before .before .before .before .before .before .before .before .before .before .before .before .before .before .before .before .before .before .before .before .before .before .before .before .before .before .before .before .before .before .if3 .left) (sym (c .before .before .before .before .before .before .before .before .before .before .before .before .before .before .before .before .before .before .before .before .before .before .before .before .before .before .before .before .before .before .before .before .before .before .before .before .before .before .before .before .before .too-short .ensures) ∙ c .before .before .before .before .before .before .before .before .before .before .before .before .before .before .before .before .before .before .before .before .before .before .before .before .before .before .before .before .before .before .before .before .before .before .before .before .before .before .before .before .if4 .left) (omega (arith, c .before .before .before .before .before .before .before .before .before .before .before .before .before .before .before .before .before .before .if5 .left, c .before .before .before .before .before .before .before .before .before .before .before .before .before .before .before .before .before .before .before .before .before .before .before .before .before .before .before .before .before .before .before .before .plant .ensures .grown .size-is)) _ _ _ _ (c .before .before .before .before .before .before .before .before .write-tree .ensures)
 

@@ -3,58 +3,44 @@ use borrow.Author.Needs.{needs}
 use Rattle.bvh.proofs.core.plant.Statement.{statement}
 use Rattle.bvh.proofs.core.plant.Tie as tie
 use Rattle.bvh.proofs.core.plant.Reads as reads
-use Rattle.bvh.proofs.core.plant.Lts as lts
-use Rattle.bvh.proofs.grow.grow_tree.Reads as grow-tree-reads
-use Rattle.bvh.proofs.items.gather.Reads as gather-reads
 use mathlib.Core.Path.{sym}
 use Rattle.bvh.proofs.core.Planting.{gathered-long, grow-room, planted}
 use native.Mathlib.Omega.{arith}
 
--- src/core.rt:140:9
 gather-requires : tie.Need-gather-requires
 gather-requires c κs = search needs
 
--- src/core.rt:142:9
 slice-relend-prefix-grow-tree : tie.Need-slice-relend-prefix-grow-tree
 slice-relend-prefix-grow-tree c = search needs
 
--- src/core.rt:142:9
 slice-aggregate-grow-tree : tie.Need-slice-aggregate-grow-tree
 slice-aggregate-grow-tree c =
     let g = c .before .before .before .gather in
     sym (gathered-long _ 0 _ _ _ (g .ensures) (omega (arith, g .kept .1 .1 .0, c .before .before .before .before .before .before .before .before .before .before .before .before .pre .places-room)))
 
--- src/core.rt:141:9
 grow-tree-requires : tie.Need-grow-tree-requires
 grow-tree-requires c κs =
     let g = c .before .before .before .before .before .before .before .before .gather in
     grow-room _ _ _ _ _ (g .ensures) (omega (arith, g .kept .1 .1 .0, c .before .before .before .before .before .before .before .before .before .before .before .before .before .before .before .before .before .pre .places-room)) _ _ _ _ _ _ (c .before .before .before .before .before .before .before .before .before .before .before .before .before .before .before .before .before .pre)
 
--- src/core.rt:126:1
 same-length : tie.Need-same-length
 same-length c = search needs
 
--- src/core.rt:126:1
 same-length-2 : tie.Need-same-length-2
 same-length-2 c = search needs
 
--- src/core.rt:126:1
 same-length-3 : tie.Need-same-length-3
 same-length-3 c = search needs
 
--- src/core.rt:126:1
 same-length-4 : tie.Need-same-length-4
 same-length-4 c = search needs
 
--- src/core.rt:126:1
 same-length-5 : tie.Need-same-length-5
 same-length-5 c = search needs
 
--- src/core.rt:126:1
 same-length-6 : tie.Need-same-length-6
 same-length-6 c = search needs
 
--- src/core.rt:126:1
 returns : tie.Need-returns
 returns c =
     let g = c .before .before .before .before .before .before .before .before .before .before .before .before .before .before .before .before .before .before .before .before .before .gather in

@@ -3,40 +3,29 @@ use borrow.Author.Needs.{needs}
 use Rattle.bvh.proofs.core.write_nodes.Statement.{statement}
 use Rattle.bvh.proofs.core.write_nodes.Tie as tie
 use Rattle.bvh.proofs.core.write_nodes.Reads as reads
-use Rattle.bvh.proofs.core.write_nodes.Lts as lts
-use Rattle.bvh.proofs.emit.pad_nodes.Reads as pad-nodes-reads
-use Rattle.bvh.proofs.emit.put_nodes.Reads as put-nodes-reads
 use Rattle.bvh.proofs.core.Writing.{nodes-padded, nodes-bare}
 
--- src/core.rt:102:5
 put-nodes-requires : tie.Need-put-nodes-requires
 put-nodes-requires c κs = search needs
 
--- src/core.rt:105:24
 mul-capacity : tie.Need-mul-capacity
 mul-capacity c = search needs
 
--- src/core.rt:105:24
 add-capacity : tie.Need-add-capacity
 add-capacity c = search needs
 
--- src/core.rt:106:9
 pad-nodes-requires : tie.Need-pad-nodes-requires
 pad-nodes-requires c κs = search needs
 
--- src/core.rt:107:9
 same-length : tie.Need-same-length
 same-length c = search needs
 
--- src/core.rt:107:9
 returns : tie.Need-returns
 returns c = nodes-padded _ _ _ _ _ _ _ _ _ (c .before .before .before .before .before .before .before .put-nodes .ensures) _ (c .before .before .before .before .if1 .taken) (c .before .before .before .before .before .before .before .before .before .before .before .before .before .before .pre .2) (c .before .before .pad-nodes .ensures)
 
--- src/core.rt:89:1
 same-length-2 : tie.Need-same-length-2
 same-length-2 c = search needs
 
--- src/core.rt:89:1
 returns-2 : tie.Need-returns-2
 returns-2 c = nodes-bare _ _ _ _ _ _ _ _ _ (c .before .before .before .put-nodes .ensures) (c .if1 .left)
 

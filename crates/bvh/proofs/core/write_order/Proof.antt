@@ -3,32 +3,23 @@ use borrow.Author.Needs.{needs}
 use Rattle.bvh.proofs.core.write_order.Statement.{statement}
 use Rattle.bvh.proofs.core.write_order.Tie as tie
 use Rattle.bvh.proofs.core.write_order.Reads as reads
-use Rattle.bvh.proofs.core.write_order.Lts as lts
-use Rattle.bvh.proofs.emit.put_order.Reads as put-order-reads
-use Rattle.bvh.proofs.items.gather.Reads as gather-reads
-use Prim.Native.Nat.{_≤_}
 use mathlib.Core.Path.{sym}
-use lib.ListN.{length, take}
 use Rattle.bvh.proofs.core.Planting.{gathered-below, gathered-long}
 use Rattle.bvh.proofs.core.Writing.{order-rising, order-leaves}
 use native.Mathlib.Omega.{arith}
 
--- src/core.rt:118:13
 gather-requires : tie.Need-gather-requires
 gather-requires c κs = search needs
 
--- src/core.rt:119:39
 slice-reshare-prefix-put-order : tie.Need-slice-reshare-prefix-put-order
 slice-reshare-prefix-put-order c = search needs
 
--- src/core.rt:119:39
 slice-aggregate-put-order : tie.Need-slice-aggregate-put-order
 slice-aggregate-put-order c =
     let g = c .before .before .before .before .gather in
     let p = c .before .before .before .before .before .before .before .before .before .before .before .pre in
     sym (gathered-long _ 0 _ _ _ (g .ensures) (omega (arith, g .kept .1 .1 .0)))
 
--- src/core.rt:119:9
 put-order-requires : tie.Need-put-order-requires
 put-order-requires c κs =
     let g = c .before .before .before .before .gather in
@@ -36,27 +27,21 @@ put-order-requires c κs =
     let long = gathered-long _ 0 _ _ _ (g .ensures) (omega (arith, g .kept .1 .1 .0)) in
     (omega (arith, g .ensures .most, long), gathered-below _ _ _ _ _ (g .ensures) (omega arith))
 
--- src/core.rt:121:9
 put-order-requires-2 : tie.Need-put-order-requires-2
 put-order-requires-2 c κs = search needs
 
--- src/core.rt:113:1
 same-length : tie.Need-same-length
 same-length c = search needs
 
--- src/core.rt:113:1
 same-length-2 : tie.Need-same-length-2
 same-length-2 c = search needs
 
--- src/core.rt:113:1
 returns : tie.Need-returns
 returns c = order-rising _ _ _ _ _ _ (c .before .before .before .before .before .before .before .before .before .if1 .taken) (c .before .before .before .before .before .before .before .gather .ensures .places-are) (c .before .before .put-order .ensures)
 
--- src/core.rt:113:1
 same-length-3 : tie.Need-same-length-3
 same-length-3 c = search needs
 
--- src/core.rt:113:1
 returns-2 : tie.Need-returns-2
 returns-2 c = order-leaves _ _ _ _ _ (c .before .before .before .before .if1 .left) (c .before .before .put-order2 .ensures)
 
