@@ -28,7 +28,14 @@ same-length c = search needs
 
 returns : tie.Need-returns
 unfolding countsLine
-returns c = put-then (put-then (put-then (put-then (c .before .before .before .before .before .before .before .before .before .before .before .before .before .before .before .before .before .before .put-text .ensures) (c .before .before .before .before .before .before .before .before .before .before .before .before .before .before .put-decimal .ensures)) (c .before .before .before .before .before .before .before .before .before .before .put-byte .ensures)) (c .before .before .before .before .before .before .put-decimal2 .ensures)) (c .before .before .put-byte2 .ensures)
+returns c =
+    let end = c .before .before in
+    let capacity = end .before .before .before .before in
+    let space = capacity .before .before .before .before in
+    let count = space .before .before .before .before in
+    let word = count .before .before .before .before in
+    let counted = put-then (put-then (word .put-text .ensures) (count .put-decimal .ensures)) (space .put-byte .ensures) in
+    put-then (put-then counted (capacity .put-decimal2 .ensures)) (end .put-byte2 .ensures)
 
 pub put-counts-spec : {M : Type 1} → statement M
 put-counts-spec =

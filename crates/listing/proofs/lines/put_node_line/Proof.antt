@@ -17,8 +17,11 @@ same-length c = search needs
 returns : tie.Need-returns
 unfolding nodeLine
 returns c =
-    let a = c .before .before .before .before .before .before .before .before .args in
-    record-put nodeWord (a .number) (a .n .min) (a .n .max) (a .n .«item_id») (a .n .«item_count») (c .before .before .before .before .struct-told .given .1 .1 .0 .1) (c .before .before .before .struct-told2 .given .1 .1 .1 .0 .1) (c .before .before .put-record .ensures)
+    let line = c .before .before in
+    let a = line .before .before .before .before .before .before .args in
+    let one = line .before .before .struct-told .given .1 .1 .0 .1 in
+    let two = line .before .struct-told2 .given .1 .1 .1 .0 .1 in
+    record-put nodeWord (a .number) (a .n .min) (a .n .max) (a .n .«item_id») (a .n .«item_count») one two (line .put-record .ensures)
 
 pub put-node-line-spec : {M : Type 1} → statement M
 put-node-line-spec =

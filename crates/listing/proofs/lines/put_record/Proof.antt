@@ -35,10 +35,19 @@ same-length c = search needs
 returns : tie.Need-returns
 unfolding recordLine
 returns c =
-    let s = c .before .before .before .before .before .before .before .before .before .before .before .before .before .before .before .before .before .before .before .before .before .before .before .before .before .before .before .before .before .before in
-    let one = field-put (s .args .one) (s .fits .one .sfits) (c .before .before .before .before .before .before .before .before .before .before .put-field .ensures) in
-    let two = field-put (s .args .two) (s .fits .two .sfits) (c .before .before .before .before .before .before .put-field2 .ensures) in
-    put-as refl (omega arith) (put-then (put-then (put-then (put-then (put-then (put-then (c .before .before .before .before .before .before .before .before .before .before .before .before .before .before .before .before .before .before .before .before .before .before .before .before .before .before .put-text .ensures) (c .before .before .before .before .before .before .before .before .before .before .before .before .before .before .before .before .before .before .before .before .before .before .put-decimal .ensures)) (c .before .before .before .before .before .before .before .before .before .before .before .before .before .before .before .before .before .before .put-vertex .ensures)) (c .before .before .before .before .before .before .before .before .before .before .before .before .before .before .put-vertex2 .ensures)) one) two) (c .before .before .put-byte .ensures))
+    let end = c .before .before in
+    let second = end .before .before .before .before in
+    let first = second .before .before .before .before in
+    let high = first .before .before .before .before in
+    let low = high .before .before .before .before in
+    let number = low .before .before .before .before in
+    let word = number .before .before .before .before in
+    let start = word .before .before .before .before in
+    let one = field-put (start .args .one) (start .fits .one .sfits) (first .put-field .ensures) in
+    let two = field-put (start .args .two) (start .fits .two .sfits) (second .put-field2 .ensures) in
+    let numbered = put-then (word .put-text .ensures) (number .put-decimal .ensures) in
+    let boxed = put-then (put-then numbered (low .put-vertex .ensures)) (high .put-vertex2 .ensures) in
+    put-as refl (omega arith) (put-then (put-then (put-then boxed one) two) (end .put-byte .ensures))
 
 pub put-record-spec : {M : Type 1} → statement M
 put-record-spec =

@@ -22,7 +22,11 @@ same-length c = search needs
 
 returns : tie.Need-returns
 unfolding refusedLine
-returns c = put-then (put-then (c .before .before .before .before .before .before .before .before .before .before .put-text .ensures) (c .before .before .before .before .before .before .put-decimal .ensures)) (c .before .before .put-byte .ensures)
+returns c =
+    let end = c .before .before in
+    let number = end .before .before .before .before in
+    let word = number .before .before .before .before in
+    put-then (put-then (word .put-text .ensures) (number .put-decimal .ensures)) (end .put-byte .ensures)
 
 pub put-refusal-spec : {M : Type 1} → statement M
 put-refusal-spec =

@@ -17,8 +17,11 @@ same-length c = search needs
 returns : tie.Need-returns
 unfolding treeLine
 returns c =
-    let a = c .before .before .before .before .before .before .before .before .args in
-    record-put treeWord (a .number) (a .t .min) (a .t .max) (a .t .«node_index1») (a .t .«node_index2») (c .before .before .before .before .struct-told .given .1 .1 .0 .1) (c .before .before .before .struct-told2 .given .1 .1 .1 .0 .1) (c .before .before .put-record .ensures)
+    let line = c .before .before in
+    let a = line .before .before .before .before .before .before .args in
+    let one = line .before .before .struct-told .given .1 .1 .0 .1 in
+    let two = line .before .struct-told2 .given .1 .1 .1 .0 .1 in
+    record-put treeWord (a .number) (a .t .min) (a .t .max) (a .t .«node_index1») (a .t .«node_index2») one two (line .put-record .ensures)
 
 pub put-tree-line-spec : {M : Type 1} → statement M
 put-tree-line-spec =

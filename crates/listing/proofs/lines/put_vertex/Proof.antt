@@ -21,10 +21,13 @@ same-length c = search needs
 returns : tie.Need-returns
 unfolding vertexFields
 returns c =
-    let v = c .before .before .before .before .before .before .before .before .before .before .before .before .before .before .before .before .args .v in
-    let x = field-put (v .0) (c .before .before .before .before .before .before .before .before .before .before .before .before .before .struct-told .given .0 .1) (c .before .before .before .before .before .before .before .before .before .before .before .before .put-field .ensures) in
-    let y = field-put (v .1) (c .before .before .before .before .before .before .before .before .struct-told2 .given .1 .0 .1) (c .before .before .before .before .before .before .before .put-field2 .ensures) in
-    let z = field-put (v .2) (c .before .before .before .struct-told3 .given .1 .1 .0 .1) (c .before .before .put-field3 .ensures) in
+    let third = c .before .before in
+    let second = third .before .before .before .before .before in
+    let first = second .before .before .before .before .before in
+    let v = first .before .before .before .before .args .v in
+    let x = field-put (v .0) (first .before .struct-told .given .0 .1) (first .put-field .ensures) in
+    let y = field-put (v .1) (second .before .struct-told2 .given .1 .0 .1) (second .put-field2 .ensures) in
+    let z = field-put (v .2) (third .before .struct-told3 .given .1 .1 .0 .1) (third .put-field3 .ensures) in
     put-then (put-then x y) z
 
 pub put-vertex-spec : {M : Type 1} → statement M

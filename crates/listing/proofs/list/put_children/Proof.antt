@@ -21,10 +21,22 @@ unfolding start
 left c =
     let input = start c .args .input .now in
     let n = length input / 32 in
+    let read = c .before .before .before .before .before .before .before .before .before .before .before .before in
     made
-    (ap (entriesIn n) (children-taken input _ _ n (c .before .before .before .before .before .before .before .before .before .before .before .before .read-children .ensures)) ∙ children-are input (start c .pre .2))
+    (ap (entriesIn n) (children-taken input _ _ n (read .read-children .ensures)) ∙ children-are input (start c .pre .2))
     (few-children input (start c .pre .1))
-    (record { nodes-room = omega arith; trees-room = omega arith; order-room = omega arith; words-room = omega arith; places-room = omega arith; temp-room = omega arith; stack-room = omega arith; first-room = omega arith; count-room = omega arith; boxes-room = omega arith })
+    (record {
+      nodes-room = omega arith;
+      trees-room = omega arith;
+      order-room = omega arith;
+      words-room = omega arith;
+      places-room = omega arith;
+      temp-room = omega arith;
+      stack-room = omega arith;
+      first-room = omega arith;
+      count-room = omega arith;
+      boxes-room = omega arith;
+    })
     (c .build-core .ensures)
 
 slice-aggregate-read-children : tie.Need-slice-aggregate-read-children

@@ -21,7 +21,11 @@ same-length c = search needs
 
 returns : tie.Need-returns
 unfolding recordsText
-returns c = put-as refl (omega arith) (put-then (put-then (c .before .before .before .before .before .before .before .before .before .before .put-counts .ensures) (c .before .before .before .before .before .before .put-node-lines .ensures)) (c .before .before .put-tree-lines .ensures))
+returns c =
+    let trees = c .before .before in
+    let nodes = trees .before .before .before .before in
+    let counts = nodes .before .before .before .before in
+    put-as refl (omega arith) (put-then (put-then (counts .put-counts .ensures) (nodes .put-node-lines .ensures)) (trees .put-tree-lines .ensures))
 
 pub put-records-spec : {M : Type 1} → statement M
 put-records-spec =

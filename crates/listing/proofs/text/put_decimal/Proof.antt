@@ -18,17 +18,20 @@ slice-aggregate-put-text c = search needs
 
 put-text-requires : tie.Need-put-text-requires
 put-text-requires c κs =
-    let d = c .before .before .decimal in
-    omega (arith, few-digits (d .result) (c .before .before .before .before .before .args .n) (c .before .before .before .before .before .pre .1) (d .ensures .1 .0))
+    let d = c .before .before in
+    let s = d .before .before .before in
+    omega (arith, few-digits (d .decimal .result) (s .args .n) (s .pre .1) (d .decimal .ensures .1 .0))
 
 same-length : tie.Need-same-length
 same-length c = search needs
 
 returns : tie.Need-returns
 returns c =
-    let d = c .before .before .before .before .before .decimal in
-    let k = few-digits (d .result) (c .before .before .before .before .before .before .before .before .args .n) (c .before .before .before .before .before .before .before .before .pre .1) (d .ensures .1 .0) in
-    put-as (d .ensures .1 .1 ∙ digits-are (d .result) (c .before .before .before .before .before .before .before .before .args .n) (omega arith) (d .ensures .1 .0)) (omega arith) (c .before .before .put-text .ensures)
+    let d = c .before .before .before .before .before in
+    let s = d .before .before .before in
+    let fewest = d .decimal .ensures .1 .0 in
+    let five = few-digits (d .decimal .result) (s .args .n) (s .pre .1) fewest in
+    put-as (d .decimal .ensures .1 .1 ∙ digits-are (d .decimal .result) (s .args .n) (omega arith) fewest) (omega arith) (c .before .before .put-text .ensures)
 
 pub put-decimal-spec : {M : Type 1} → statement M
 put-decimal-spec =

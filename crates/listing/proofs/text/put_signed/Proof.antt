@@ -2,9 +2,14 @@
 use borrow.Author.Needs.{needs}
 use Rattle.listing.proofs.text.put_signed.Statement.{statement}
 use Rattle.listing.proofs.text.put_signed.Tie as tie
+use mathlib.Core.Path.{_≡_}
+use Rattle.float32.specs.Casts.{low16bits}
 use Rattle.listing.proofs.Decimals.{short-read, bits-read, not-below, below-zero, bits-few}
 use Rattle.listing.proofs.Putting.{put-as, put-then}
 use native.Mathlib.Omega.{arith}
+
+bits-are : (c : tie.After-low-bits) → c .low-bits .result ≡ low16bits (c .before .before .args .v)
+bits-are c = bits-read (c .before .before .fits .v) (c .low-bits .ensures)
 
 cast-low-bits : tie.Need-cast-low-bits
 cast-low-bits c = short-read (c .before .fits .v)
@@ -23,14 +28,17 @@ same-length c = search needs
 
 returns : tie.Need-returns
 returns c =
-    let s = c .before .before .before .before .before .before .before in
-    put-as (not-below (s .args .v) _ (s .fits .v) (bits-read (s .fits .v) (c .before .before .before .before .before .low-bits .ensures)) (omega arith)) (omega arith) (c .before .before .put-decimal .ensures)
+    let low = c .before .before .before .before .before in
+    let s = low .before .before in
+    put-as (not-below (s .args .v) _ (s .fits .v) (bits-are low) (omega arith)) (omega arith) (c .before .before .put-decimal .ensures)
 
 put-byte-requires : tie.Need-put-byte-requires
 put-byte-requires c κs = search needs
 
 sub-put-decimal : tie.Need-sub-put-decimal
-sub-put-decimal c = omega (arith, bits-few (c .before .before .before .before .before .before .before .before .args .v) (bits-read (c .before .before .before .before .before .before .before .before .fits .v) (c .before .before .before .before .before .before .low-bits .ensures)))
+sub-put-decimal c =
+    let low = c .before .before .before .before .before .before in
+    omega (arith, bits-few (low .before .before .args .v) (bits-are low))
 
 cast-put-decimal-2 : tie.Need-cast-put-decimal-2
 cast-put-decimal-2 c = search needs
@@ -43,8 +51,11 @@ same-length-2 c = search needs
 
 returns-2 : tie.Need-returns-2
 returns-2 c =
-    let s = c .before .before .before .before .before .before .before .before .before .before .before in
-    put-as (below-zero (s .args .v) _ (s .fits .v) (bits-read (s .fits .v) (c .before .before .before .before .before .before .before .before .before .low-bits .ensures)) (omega arith)) (omega arith) (put-then (c .before .before .before .before .before .before .put-byte .ensures) (c .before .before .put-decimal2 .ensures))
+    let digits = c .before .before in
+    let minus = digits .before .before .before .before in
+    let low = minus .before .before .before in
+    let s = low .before .before in
+    put-as (below-zero (s .args .v) _ (s .fits .v) (bits-are low) (omega arith)) (omega arith) (put-then (minus .put-byte .ensures) (digits .put-decimal2 .ensures))
 
 pub put-signed-spec : {M : Type 1} → statement M
 put-signed-spec =
