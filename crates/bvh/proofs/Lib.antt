@@ -2,7 +2,7 @@ pub mod EmitLaws
 mod EntryWords
 pub mod FlatLaws
 mod HandWalk
-mod ItemWords
+pub mod ItemWords
 pub mod Lawful
 pub mod MarkedLaws
 pub mod MeetLaws

@@ -1,8 +1,10 @@
-//! What the proved programs must print, worked out with Rust's own operators and casts.
+//! What the proved programs must print: worked out with Rust's own operators and casts, and `boxes` by the reference.
 //!
 //!     table                    the table of hard cases       (crates/hardcases/stdout)
 //!     table --replay           some cases of each operation  (crates/replay/stdin)
 //!     table --count < CASES    those cases counted, with no mismatch  (crates/replay/stdout)
+//!     table --boxes FOLDER     inputs of `boxes`, as files there      (crates/boxes_cases/data, stdout)
+mod boxes;
 mod cases;
 mod replay;
 mod source;
@@ -10,16 +12,23 @@ mod table;
 
 use std::io::{self, Write};
 
+fn fail(why: &str) -> ! {
+    eprintln!("table: {why}");
+    std::process::exit(2);
+}
+
 fn main() -> io::Result<()> {
     let mut out = io::BufWriter::new(io::stdout().lock());
     match std::env::args().nth(1).as_deref() {
         None => table::print(&mut out)?,
         Some("--replay") => replay::print(&mut out)?,
         Some("--count") => replay::count(io::stdin().lock(), &mut out)?,
-        Some(other) => {
-            eprintln!("table: unknown word {other}; give none, --replay or --count");
-            std::process::exit(2);
-        }
+        Some("--boxes") => match (std::env::args().nth(2), oracle::missing()) {
+            (Some(folder), None) => boxes::print(&mut out, folder.as_ref())?,
+            (None, _) => fail("--boxes needs a folder for the inputs"),
+            (_, Some(missing)) => fail(missing),
+        },
+        Some(other) => fail(&format!("unknown word {other}; give none, --replay, --count or --boxes")),
     }
     out.flush()
 }

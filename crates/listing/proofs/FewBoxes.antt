@@ -1,0 +1,168 @@
+-- A build of at most 256 child boxes at threshold 1 is not refused, and the lines of what it writes are the listing.
+use Prim.Native.Nat.{ℕ, zero, suc, _+_, _*_, _/_, _≤_}
+use native.Mathlib.Decide.{decLe}
+use native.Mathlib.Omega.{arith}
+use mathlib.Core.Bool.{false}
+use mathlib.Core.List.{List, [], _∷_, _++_}
+use mathlib.Core.Path.{_≡_, refl, sym, ap, ap₂, _∙_, subst}
+use types.Run.{OneOf, miss}
+use denote.Enum.Declared.{tagOf}
+use lib.ListN.{length}
+use borrow.Author.Tests.{le-ltb}
+use Rattle.bvh.proofs.core.Build.{the-type}
+use Rattle.bvh.specs.declared.core.Build.{Build}
+use Rattle.bvh.specs.declared.core.Build.the-variants.{Built}
+use Rattle.bvh.specs.declared.core.BuiltTree.{BuiltTree}
+use Rattle.bvh.specs.declared.core.Lengths.{Lengths}
+use Rattle.bvh.specs.Build.{Entries, treeOf, builtOf, short, answerOf, kept, nodesWritten, treesWritten}
+use Rattle.bvh.specs.Decode.{Below, SmallRows}
+use Rattle.bvh.specs.Entry.{Answered}
+use Rattle.bvh.specs.Numbers.{upFrom}
+use Rattle.bvh.specs.Output.{over, capacityOf}
+use Rattle.bvh.specs.Ranges.{ranges}
+use Rattle.bvh.specs.Rows.{rows}
+use Rattle.bvh.specs.Tree.{builder, grow, leafOrder, size}
+use Rattle.bvh.proofs.Lawful.{lawful}
+use Rattle.bvh.proofs.RangeLaws.{ranges-few}
+use Rattle.bvh.proofs.RowsInLaws.{small-rows}
+use Rattle.bvh.proofs.TreeLaws.{grow-leaf, size-most, leaf-order-length, leaf-order-within}
+use Rattle.bvh.proofs.WordLaws.{below-wider, below-within, within-below}
+use Rattle.listing.specs.Lines.{countsLine, recordsText}
+use Rattle.listing.specs.Listing.{childrenOf, listingOf}
+use Rattle.listing.proofs.Records.{node-lines, tree-lines}
+
+-- ---- how large the tree is
+
+size-few : (e : Entries) → size (treeOf e 1) ≤ 2 * length (e .places) + 1
+unfolding treeOf
+size-few e = go (decLe (length (e .places)) 0)
+  where
+    go : Dec (length (e .places) ≤ 0) → size (grow (builder (e .at)) 1 (e .places)) ≤ 2 * length (e .places) + 1
+    go (yes h) = rw (grow-leaf (builder (e .at)) 1 (e .places) (omega arith)) (omega arith)
+    go (no h) = omega (arith, size-most (builder (e .at)) (lawful (e .at)) 1 (omega arith) (e .places) (omega arith))
+
+length-up : (at n : ℕ) → length (upFrom at n) ≡ n
+length-up at zero = refl
+length-up at (suc n) = ap suc (length-up (at + 1) n)
+
+below-up : (at n hi : ℕ) → at + n ≤ hi → Below hi (upFrom at n)
+below-up at zero hi h = tt
+below-up at (suc n) hi h = (omega arith, below-up (at + 1) n hi (omega arith))
+
+-- At most 256 entries, whose present ones have places among them.
+pub record FewEntries (e : Entries) : Type 0 where
+  pub few : e .number ≤ 256
+  pub most : length (e .places) ≤ e .number
+  pub inside : Below 256 (e .places)
+
+pub few-children : (input : List ℕ) → length input ≤ 8192 → FewEntries (childrenOf input)
+unfolding childrenOf
+few-children input h =
+    let n = length input / 32 in
+    record { few = omega arith; most = omega (arith, length-up 0 n); inside = below-up 0 n 256 (omega arith) }
+
+-- ---- the answer
+
+-- The buffers have room for 256 entries.
+pub record Roomy (l : Lengths) : Type 0 where
+  pub nodes-room : 8208 ≤ l .nodes
+  pub trees-room : 8208 ≤ l .trees
+  pub order-room : 256 ≤ l .order
+  pub words-room : 1792 ≤ l .words
+  pub places-room : 256 ≤ l .places
+  pub temp-room : 256 ≤ l .temp
+  pub stack-room : 256 ≤ l .stack
+  pub first-room : 513 ≤ l .first
+  pub count-room : 513 ≤ l .count
+  pub boxes-room : 3078 ≤ l .boxes
+
+not-short : (n : ℕ) (l : Lengths) → n ≤ 256 → Roomy l → short n l ≡ false
+not-short n l h r =
+    rw (
+      le-ltb (l .nodes) (16 * (2 * n + 1)) (omega arith),
+      le-ltb (l .trees) (16 * (2 * n + 1)) (omega arith),
+      le-ltb (l .order) n (omega arith),
+      le-ltb (l .words) (7 * n) (omega arith),
+      le-ltb (l .places) n (omega arith),
+      le-ltb (l .temp) n (omega arith),
+      le-ltb (l .stack) n (omega arith),
+      le-ltb (l .first) (2 * n + 1) (omega arith),
+      le-ltb (l .count) (2 * n + 1) (omega arith),
+      le-ltb (l .boxes) (6 * (2 * n + 1)) (omega arith),
+    )
+
+module _ (e : Entries) (f : FewEntries e) where
+  entries-size : size (treeOf e 1) ≤ 513
+  entries-size = omega (arith, size-few e, f .few, f .most)
+
+  not-refused : (l : Lengths) → Roomy l → answerOf e 1 l ≡ Built (builtOf e 1 (treeOf e 1))
+  unfolding answerOf treeOf
+  not-refused l r =
+      rw (le-ltb 32767 (e .number) (omega (arith, f .few)), not-short (e .number) l (f .few) r, le-ltb 32767 (size (treeOf e 1)) (omega (arith, entries-size)))
+
+  -- ---- its records
+
+  small : SmallRows 1 (leafOrder (treeOf e 1)) (rows 0 (treeOf e 1))
+  unfolding treeOf
+  small =
+      let b = builder (e .at) in
+      let law = lawful (e .at) in
+      let within = leaf-order-within b law 1 (omega arith) (7 * 256) (e .places) (below-within 256 (7 * 256) (e .places) (omega arith) (f .inside)) in
+      small-rows 1 (treeOf e 1) (below-wider 256 32768 (leafOrder (treeOf e 1)) (omega arith) (within-below 256 (leafOrder (treeOf e 1)) within))
+      (omega (arith, leaf-order-length b law 1 (omega arith) (e .places), f .few, f .most)) (omega (arith, entries-size))
+
+  records-listed : (nodes trees : List ℕ)
+      → recordsText (over (nodesWritten e 1) nodes) (size (treeOf e 1)) (capacityOf 1 (e .number) (size (treeOf e 1))) (over (treesWritten e 1) trees) (length (ranges 0 (treeOf e 1))) ≡ listingOf e
+  unfolding listingOf recordsText
+  records-listed nodes trees =
+      let counts = countsLine (size (treeOf e 1)) (capacityOf 1 (e .number) (size (treeOf e 1))) in
+      ap₂ (λ (ns ts : List ℕ). counts ++ ns ++ ts) (node-lines e nodes small) (tree-lines e trees (omega (arith, entries-size)))
+
+-- ---- what the build leaves
+
+-- It is not refused; its values, and the bytes of its records.
+pub record Made (e : Entries) (r : Build) (nodes trees nodes′ trees′ : List ℕ) : Type 0 where
+  pub few : FewEntries e
+  pub answer : r ≡ Built (builtOf e 1 (treeOf e 1))
+  pub nodes-are : nodes′ ≡ over (nodesWritten e 1) nodes
+  pub trees-are : trees′ ≡ over (treesWritten e 1) trees
+
+made-by : (e : Entries) {l : Lengths} {r : Build} {nodes trees order nodes′ trees′ order′ : List ℕ} → FewEntries e → Roomy l
+    → Answered e 1 l r nodes trees order nodes′ trees′ order′ → Made e r nodes trees nodes′ trees′
+made-by e {l} {r} {nodes} {trees} few room a =
+    let built = a .answer ∙ not-refused e few l room in
+    record {
+      few = few;
+      answer = built;
+      nodes-are = a .nodes-are ∙ ap (λ (b : Build). kept b (nodesWritten e 1) nodes) built;
+      trees-are = a .trees-are ∙ ap (λ (b : Build). kept b (treesWritten e 1) trees) built;
+    }
+
+pub made : {d e : Entries} {l : Lengths} {r : Build} {nodes trees order nodes′ trees′ order′ : List ℕ} → d ≡ e → FewEntries e → Roomy l
+    → Answered d 1 l r nodes trees order nodes′ trees′ order′ → Made e r nodes trees nodes′ trees′
+made {d} {e} {l} {r} {nodes} {trees} {order} {nodes′} {trees′} {order′} same few room a =
+    made-by e few room (subst (λ (x : Entries). Answered x 1 l r nodes trees order nodes′ trees′ order′) same a)
+
+module _ (e : Entries) {r : Build} {nodes trees nodes′ trees′ : List ℕ} (m : Made e r nodes trees nodes′ trees′) where
+  -- It is no other answer.
+  pub made-only : OneOf (1 ∷ 2 ∷ 3 ∷ 4 ∷ []) (tagOf the-type r) → ⊥
+  made-only k = miss (1 ∷ 2 ∷ 3 ∷ 4 ∷ []) 0 tt (subst (λ (b : Build). OneOf (1 ∷ 2 ∷ 3 ∷ 4 ∷ []) (tagOf the-type b)) (m .answer) k)
+
+  module _ (b : BuiltTree) (is : r ≡ Built b) where
+    tree-is : b ≡ builtOf e 1 (treeOf e 1)
+    tree-is = let same : _≡_ {A = Build} (Built b) (Built (builtOf e 1 (treeOf e 1))) = sym is ∙ m .answer in cc
+
+    pub nodes-few : b .nodes ≤ 513
+    nodes-few = omega (arith, entries-size e (m .few), ap (λ (t : BuiltTree). t .nodes) tree-is)
+
+    pub capacity-few : b .capacity ≤ 513
+    capacity-few = omega (arith, m .few .few, ap (λ (t : BuiltTree). t .capacity) tree-is)
+
+    pub trees-few : b .trees ≤ 513
+    trees-few = omega (arith, entries-size e (m .few), ranges-few 0 (treeOf e 1), ap (λ (t : BuiltTree). t .trees) tree-is)
+
+    pub made-listed : recordsText nodes′ (b .nodes) (b .capacity) trees′ (b .trees) ≡ listingOf e
+    made-listed =
+        ap (λ (t : BuiltTree). recordsText nodes′ (t .nodes) (t .capacity) trees′ (t .trees)) tree-is
+        ∙ ap₂ (λ (ns ts : List ℕ). recordsText ns (size (treeOf e 1)) (capacityOf 1 (e .number) (size (treeOf e 1))) ts (length (ranges 0 (treeOf e 1)))) (m .nodes-are) (m .trees-are)
+        ∙ records-listed e (m .few) nodes trees

@@ -1,0 +1,71 @@
+// The child box records of the input, as the entries of a build.
+use math::words3::Words3;
+use split::boxes::BoxWords;
+ghost use mathlib.Core.Path.{_≡_};
+ghost use mathlib.Core.List.{_∷_, _++_};
+ghost use Prim.Native.Nat.{_+_, _*_, _≤_, _<_};
+ghost use lib.ListN.{length, take, drop};
+ghost use Rattle.split.specs.Boxes.{boxWords};
+ghost use Rattle.bvh.specs.Output.{over};
+ghost use Rattle.listing.specs.Reading.{wordAt, cornerAt, childBox, childWords};
+
+fn wide(byte: u8) -> u32
+    ensures { λ r. ⌜ (r ≡ byte) × (r < 256) ⌝ }
+{
+    byte as u32
+}
+
+fn word_at(bytes: &[u8], at: usize) -> u32
+    requires { ⌜ at + 4 ≤ length (now bytes) ⌝ }
+    ensures { λ r. ⌜ r ≡ wordAt (now (bytes .entry)) at ⌝ }
+{
+    let a = wide(bytes[at]);
+    let b = wide(bytes[at + 1]);
+    let c = wide(bytes[at + 2]);
+    let d = wide(bytes[at + 3]);
+    a + 256 * b + 65536 * c + 16777216 * d
+}
+
+// The three words from `at` on. The fourth, w, is not read.
+fn corner_at(bytes: &[u8], at: usize) -> Words3
+    requires { ⌜ at + 16 ≤ length (now bytes) ⌝ }
+    ensures { λ r. ⌜ r ≡ cornerAt (now (bytes .entry)) at ⌝ }
+{
+    Words3 {
+        x: word_at(bytes, at),
+        y: word_at(bytes, at + 4),
+        z: word_at(bytes, at + 8),
+    }
+}
+
+fn child_box(bytes: &[u8], at: usize) -> BoxWords
+    requires { ⌜ at + 32 ≤ length (now bytes) ⌝ }
+    ensures { λ r. ⌜ r ≡ childBox (now (bytes .entry)) at ⌝ }
+{
+    BoxWords {
+        min: corner_at(bytes, at),
+        max: corner_at(bytes, at + 16),
+    }
+}
+
+// Record i as entry i, which is present.
+fn put_child(words: &mut [u32], bytes: &[u8], i: usize)
+    requires { ⌜ (7 * i + 7 ≤ length (now words)) × (32 * i + 32 ≤ length (now bytes)) ⌝ }
+    ensures { λ _. ⌜ now (words .exit) ≡ take (7 * i) (now (words .entry)) ++ (1 ∷ boxWords (childBox (now (bytes .entry)) (32 * i)) ++ drop (7 * i + 7) (now (words .entry))) ⌝ }
+{
+    let at = 7 * i;
+    words[at] = 1;
+    split::boxes::put_box(words, at + 1, child_box(bytes, 32 * i));
+}
+
+// The first n records as entries.
+pub fn read_children(words: &mut [u32], bytes: &[u8], n: usize)
+    requires { ⌜ (7 * n ≤ length (now words)) × (32 * n ≤ length (now bytes)) ⌝ }
+    ensures { λ _. ⌜ now (words .exit) ≡ over (childWords (now (bytes .entry)) n) (now (words .entry)) ⌝ }
+{
+    let mut i = 0;
+    while i < n {
+        put_child(words, bytes, i);
+        i += 1;
+    }
+}
