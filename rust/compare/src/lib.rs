@@ -3,14 +3,19 @@
 //! - [`operation`]: the operations, each with both sides on words.
 //! - [`inputs`]: hostile and random inputs.
 //! - [`check`]: runs an operation over many inputs and shrinks a mismatch.
+//! - [`build`], [`header`]: trees over lists of boxes, which [`lists`] makes and [`deep`] makes deep.
 //! - [`exhaustive`]: operations of one word over all 2^32.
 //! - [`vectors`]: a sample of the reference's answers as a text file.
 //! - [`lent`]: buffers for operations that write into what they are lent.
 
+pub mod build;
 pub mod check;
+pub mod deep;
 pub mod exhaustive;
+pub mod header;
 pub mod inputs;
 pub mod lent;
+pub mod lists;
 pub mod operation;
 pub mod random;
 pub mod report;
