@@ -1,10 +1,12 @@
 pub mod EmitLaws
 mod EntryWords
 pub mod FlatLaws
+mod HandWalk
 mod ItemWords
 pub mod Lawful
 pub mod MarkedLaws
 pub mod Places
+pub mod Promises
 pub mod RangeLaws
 pub mod RowsInLaws
 pub mod TreeLaws

@@ -35,6 +35,10 @@ pub below-within : (n size : ℕ) (xs : List ℕ) → 7 * n ≤ size → Below n
 below-within n size [] h hs = tt
 below-within n size (x ∷ xs) h hs = (omega (arith, hs .0), below-within n size xs h (hs .1))
 
+pub within-below : (n : ℕ) (xs : List ℕ) → Within (7 * n) xs → Below n xs
+within-below n [] hs = tt
+within-below n (x ∷ xs) hs = (omega (arith, hs .0), within-below n xs (hs .1))
+
 pub rising-lower : (lo hi : ℕ) (xs : List ℕ) → lo ≤ hi → Rising hi xs → Rising lo xs
 rising-lower lo hi [] h hs = tt
 rising-lower lo hi (x ∷ xs) h hs = (omega (arith, hs .0), hs .1)

@@ -1,4 +1,5 @@
 pub mod Build
+pub mod Core
 pub mod Decode
 pub mod Entry
 pub mod Flat
@@ -6,6 +7,7 @@ pub mod Items
 pub mod Laid
 pub mod Numbers
 pub mod Output
+pub mod Promises
 pub mod Ranges
 pub mod Rows
 pub mod Sizes

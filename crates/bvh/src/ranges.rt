@@ -14,7 +14,7 @@ ghost use Rattle.bvh.specs.Output.{treeRecord};
 ghost use Rattle.bvh.specs.Tree.{Node};
 
 // The box of row i.
-fn row_box(boxes: &[u32], i: usize) -> BoxWords
+pub fn row_box(boxes: &[u32], i: usize) -> BoxWords
     requires { ⌜ 6 * i + 6 ≤ length (now boxes) ⌝ }
     ensures { λ r. ⌜ r ≡ rowBox (now (boxes .entry)) i ⌝ }
 {

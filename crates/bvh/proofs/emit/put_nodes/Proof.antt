@@ -1,7 +1,7 @@
 -- `emit::put_nodes` meets its contract. The loop's invariant: the records of the first i rows are written.
 use Rattle.bvh.proofs.emit.put_nodes.Statement.{statement}
 use Rattle.bvh.proofs.emit.put_nodes.Tie as tie
-use Prim.Native.Nat.{ℕ, _-_}
+use Prim.Native.Nat.{_-_}
 use mathlib.Core.Path.{refl, ap, _∙_}
 use mathlib.Core.List.{List}
 use lib.ListN.{length, take}

@@ -11,7 +11,7 @@ use mir.Facts.{toZ-pos}
 use Rattle.split.specs.declared.boxes.BoxWords.{BoxWords}
 use Rattle.records.specs.Quantise.{quantiseOf}
 use Rattle.bvh.specs.Decode.{rowAt}
-use Rattle.bvh.specs.Output.{idOf, nodeOf}
+use Rattle.bvh.specs.Output.{nodeOf}
 
 mul-box-from : tie.Need-mul-box-from
 mul-box-from c = search needs

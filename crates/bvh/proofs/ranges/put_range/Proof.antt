@@ -3,14 +3,9 @@ use borrow.Author.Needs.{needs}
 use Rattle.bvh.proofs.ranges.put_range.Statement.{statement}
 use Rattle.bvh.proofs.ranges.put_range.Tie as tie
 use Rattle.bvh.proofs.ranges.put_range.Reads as reads
-use Rattle.bvh.proofs.ranges.put_range.Lts as lts
-use Rattle.bvh.proofs.ranges.row_box.Reads as row-box-reads
-use Rattle.records.proofs.put_tree.Reads as put-tree-reads
-use Rattle.records.proofs.quantise.quantise.Reads as quantise-reads
-use Prim.Native.Nat.{ℕ, _+_, _<_, _^_}
+use Prim.Native.Nat.{ℕ, _+_, _<_}
 use mathlib.Core.List.{_++_}
 use mathlib.Core.Path.{_≡_, ap, _∙_}
-use lib.IntN.{pos}
 use lib.ListN.{take, drop}
 use mir.Syntax.{w16}
 use mir.Val.{toZ}
@@ -30,35 +25,27 @@ made : (s : Scale) (b d : BoxWords) (min max : BoundVertex) (first last : ℕ) �
 unfolding treeRecord
 made s b d min max first last hf hl eb emin emax = rw (emin, emax, toZ-pos w16 {n = first} hf, toZ-pos w16 {n = last} hl, eb)
 
--- src/ranges.rt:42:9
 row-box-requires : tie.Need-row-box-requires
 row-box-requires c κs = search needs
 
--- src/ranges.rt:44:14
 quantise-requires : tie.Need-quantise-requires
 quantise-requires c κs = search needs
 
--- src/ranges.rt:45:14
 quantise-requires-2 : tie.Need-quantise-requires-2
 quantise-requires-2 c κs = search needs
 
--- src/ranges.rt:46:22
 cast-t11 : tie.Need-cast-t11
 cast-t11 c = search needs
 
--- src/ranges.rt:47:22
 cast-t12 : tie.Need-cast-t12
 cast-t12 c = search needs
 
--- src/ranges.rt:49:5
 put-tree-requires : tie.Need-put-tree-requires
 put-tree-requires c κs = search needs
 
--- src/ranges.rt:38:1
 same-length : tie.Need-same-length
 same-length c = search needs
 
--- src/ranges.rt:38:1
 returns : tie.Need-returns
 returns c =
     let a = c .before .before .before .before .before .before .before .before .before .args in

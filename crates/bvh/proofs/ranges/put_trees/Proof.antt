@@ -2,10 +2,7 @@
 use Rattle.bvh.proofs.ranges.put_trees.Statement.{statement}
 use Rattle.bvh.proofs.ranges.put_trees.Tie as tie
 use Rattle.bvh.proofs.ranges.put_trees.Reads as reads
-use Rattle.bvh.proofs.ranges.put_trees.Lts as lts
-use Rattle.bvh.proofs.ranges.put_range.Reads as put-range-reads
-use Rattle.bvh.proofs.ranges.tree_size.Reads as tree-size-reads
-use Prim.Native.Nat.{_+_, _-_, _*_, _≤_, _<_}
+use Prim.Native.Nat.{_-_}
 use lib.ListN.{length}
 use Rattle.bvh.proofs.ranges.Scanning.{Going, Turn, start, finish, counts-number, pass, turn, write}
 use native.Mathlib.Omega.{arith}
@@ -23,73 +20,59 @@ before-it c = turn _ _ _ _ _ _ _ _ _ (c .before .before .before .before .before 
 after-it : (c : tie.After-slice-known2 Inv-loop μ-loop) → Turn (c .before .before .before .before .before .before .before .before .before .before .before .before .args .boxes .now) (c .before .before .before .before .before .before .before .loop .trees) (c .before .before .before .before .before .before .before .loop .i) (c .before .before .before .before .before .before .before .loop .k) (c .before .before .before .before .before .tree-size .result)
 after-it c = before-it (c .before .before .before)
 
--- src/ranges.rt:72:5
 loop-holds : tie.Need-loop-holds Inv-loop μ-loop
 loop-holds c =
     let a = c .before .before .before .before .args in
     start (a .scale) (a .first .now) (a .count .now) (a .boxes .now) (a .trees .now)
 
--- src/ranges.rt:73:13
 tree-size-requires : tie.Need-tree-size-requires Inv-loop μ-loop
 tree-size-requires c κs = omega (arith, counts-number _ _ _ _ (c .before .before .before .before .before .before .pre))
 
--- src/ranges.rt:75:13
 add-i : tie.Need-add-i Inv-loop μ-loop
 add-i c = omega arith
 
--- src/ranges.rt:72:5
 loop-less : tie.Need-loop-less Inv-loop μ-loop
 loop-less c = omega arith
 
--- src/ranges.rt:72:5
 loop-again : tie.Need-loop-again Inv-loop μ-loop
 loop-again c = pass _ _ _ _ _ _ _ _ _ (c .before .before .before .before .before .before .before .before .pre) (c .before .before .before .loop .inv) (c .before .before .loop-test .taken) (c .before .tree-size .ensures) (c .if1 .taken)
 
--- src/ranges.rt:77:30
 mul-put-range : tie.Need-mul-put-range Inv-loop μ-loop
 mul-put-range c =
     let b = before-it c in
     omega arith
 
--- src/ranges.rt:77:48
 add-put-range : tie.Need-add-put-range Inv-loop μ-loop
 add-put-range c =
     let b = before-it c in
     omega arith
 
--- src/ranges.rt:77:13
 put-range-requires : tie.Need-put-range-requires Inv-loop μ-loop
 put-range-requires c κs =
     let b = before-it c in
     omega arith
 
--- src/ranges.rt:78:13
 add-k : tie.Need-add-k Inv-loop μ-loop
 add-k c =
     let b = after-it c in
     omega arith
 
--- src/ranges.rt:79:13
 add-i-2 : tie.Need-add-i-2 Inv-loop μ-loop
 add-i-2 c =
     let b = after-it c in
     omega arith
 
--- src/ranges.rt:72:5
 loop-less-2 : tie.Need-loop-less-2 Inv-loop μ-loop
 loop-less-2 c =
     let b = after-it c in
     omega arith
 
--- src/ranges.rt:72:5
 loop-again-2 : tie.Need-loop-again-2 Inv-loop μ-loop
 loop-again-2 c = write _ _ _ _ _ _ _ _ _ (c .before .before .before .before .before .before .before .before .before .before .before .before .pre) (c .before .before .before .before .before .before .before .loop .inv) (c .before .before .before .before .before .before .loop-test .taken) (c .before .before .before .before .before .tree-size .ensures) (c .before .before .before .before .if1 .left) _ (c .before .before .put-range .kept .0) (c .before .before .put-range .ensures)
 
--- src/ranges.rt:66:1
 same-length : tie.Need-same-length Inv-loop μ-loop
 same-length c = c .before .loop .inv .same-length
 
--- src/ranges.rt:66:1
 returns : tie.Need-returns Inv-loop μ-loop
 returns c = finish _ _ _ _ _ _ _ _ (c .before .loop .inv) (c .loop-test .left)
 

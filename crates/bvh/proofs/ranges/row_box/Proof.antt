@@ -3,84 +3,64 @@ use borrow.Author.Needs.{needs}
 use Rattle.bvh.proofs.ranges.row_box.Statement.{statement}
 use Rattle.bvh.proofs.ranges.row_box.Tie as tie
 use Rattle.bvh.proofs.ranges.row_box.Reads as reads
-use Rattle.bvh.proofs.ranges.row_box.Lts as lts
 use Prim.Native.Nat.{_+_, _*_}
 use mathlib.Core.Path.{_≡_}
 use native.Mathlib.Omega.{arith}
 
--- src/ranges.rt:22:14
 mul-at : tie.Need-mul-at
 mul-at c = search needs
 
--- src/ranges.rt:25:16
 mul-t4 : tie.Need-mul-t4
 mul-t4 c = search needs
 
--- src/ranges.rt:25:16
 shared-slice-read-t6 : tie.Need-shared-slice-read-t6
 shared-slice-read-t6 c = search needs
 
--- src/ranges.rt:26:22
 add-t7 : tie.Need-add-t7
 add-t7 c = search needs
 
--- src/ranges.rt:26:16
 mul-t8 : tie.Need-mul-t8
 mul-t8 c = search needs
 
--- src/ranges.rt:26:16
 shared-slice-read-t10 : tie.Need-shared-slice-read-t10
 shared-slice-read-t10 c = search needs
 
--- src/ranges.rt:27:22
 add-t11 : tie.Need-add-t11
 add-t11 c = search needs
 
--- src/ranges.rt:27:16
 mul-t12 : tie.Need-mul-t12
 mul-t12 c = search needs
 
--- src/ranges.rt:27:16
 shared-slice-read-t14 : tie.Need-shared-slice-read-t14
 shared-slice-read-t14 c = search needs
 
--- src/ranges.rt:30:22
 add-t16 : tie.Need-add-t16
 add-t16 c = search needs
 
--- src/ranges.rt:30:16
 mul-t17 : tie.Need-mul-t17
 mul-t17 c = search needs
 
--- src/ranges.rt:30:16
 shared-slice-read-t19 : tie.Need-shared-slice-read-t19
 shared-slice-read-t19 c = search needs
 
--- src/ranges.rt:31:22
 add-t20 : tie.Need-add-t20
 add-t20 c = search needs
 
--- src/ranges.rt:31:16
 mul-t21 : tie.Need-mul-t21
 mul-t21 c = search needs
 
--- src/ranges.rt:31:16
 shared-slice-read-t23 : tie.Need-shared-slice-read-t23
 shared-slice-read-t23 c = search needs
 
--- src/ranges.rt:32:22
 add-t24 : tie.Need-add-t24
 add-t24 c = search needs
 
--- src/ranges.rt:32:16
 mul-t25 : tie.Need-mul-t25
 mul-t25 c = search needs
 
--- src/ranges.rt:32:16
 shared-slice-read-t27 : tie.Need-shared-slice-read-t27
 shared-slice-read-t27 c = search needs
 
--- src/ranges.rt:18:1
 returns : tie.Need-returns
 returns c =
     let i = c .before .before .before .before .before .before .args .i in

@@ -2,55 +2,40 @@
 use borrow.Author.Needs.{needs}
 use Rattle.bvh.proofs.ranges.tree_size.Statement.{statement}
 use Rattle.bvh.proofs.ranges.tree_size.Tie as tie
-use Rattle.bvh.proofs.ranges.tree_size.Reads as reads
-use Rattle.bvh.proofs.ranges.tree_size.Lts as lts
-use Prim.Native.Nat.{_≤_, _<_, max}
-use mathlib.Core.Path.{_≡_, sym}
-use lib.ListN.{getD}
 use borrow.Author.Tests.{eq-eqb, ne-eqb}
 use native.Mathlib.Omega.{arith}
 
--- src/ranges.rt:57:8
 mul-if1 : tie.Need-mul-if1
 mul-if1 c = search needs
 
--- src/ranges.rt:57:8
 shared-slice-read-if1 : tie.Need-shared-slice-read-if1
 shared-slice-read-if1 c = search needs
 
--- src/ranges.rt:59:16
 mul-if2 : tie.Need-mul-if2
 mul-if2 c = search needs
 
--- src/ranges.rt:59:16
 shared-slice-read-if2 : tie.Need-shared-slice-read-if2
 shared-slice-read-if2 c = search needs
 
--- src/ranges.rt:59:27
 mul-result : tie.Need-mul-result
 mul-result c = search needs
 
--- src/ranges.rt:59:27
 shared-slice-read-result : tie.Need-shared-slice-read-result
 shared-slice-read-result c = search needs
 
--- src/ranges.rt:59:27
 cast-result : tie.Need-cast-result
 cast-result c = omega (arith, c .shared-slice-known3 .given (c .before .before .before .before .before .args .i))
 
--- src/ranges.rt:53:1
 returns : tie.Need-returns
 returns c =
     let a = c .before .before .before .before .before .args in
     rw (eq-eqb _ 0 (c .before .before .before .if1 .taken)) (omega (arith, c .before .if2 .taken))
 
--- src/ranges.rt:53:1
 returns-2 : tie.Need-returns-2
 returns-2 c =
     let a = c .before .before .before .before .args in
     rw (eq-eqb _ 0 (c .before .before .if1 .taken)) (omega (arith, c .if2 .left))
 
--- src/ranges.rt:53:1
 returns-3 : tie.Need-returns-3
 returns-3 c =
     let a = c .before .before .args in

@@ -1,0 +1,3 @@
+mod Answering
+mod Planting
+mod Writing
