@@ -153,19 +153,19 @@ pub fn build_bvh(
             words.copy_from_slice(&item.map_or([0; 7], entry));
         }
     }
-    let ffi::Build { refusal, tree } = ffi::build_bvh(items.len(), threshold, nodes, trees, order, parts);
-    match Refusal::from_number(refusal) {
+    let answer = ffi::build_bvh(items.len(), threshold, nodes, trees, order, parts);
+    match Refusal::from_number(answer.refusal) {
         Some(refusal) => Err(refusal),
         None => Ok(BuiltTree {
-            nodes_count: tree.nodes as u32,
-            nodes_capacity: tree.capacity as u32,
-            trees_count: tree.trees as u32,
-            items_count: tree.present as u32,
-            bb_min: floats(tree.min),
-            bb_max: floats(tree.max),
-            bb_center: tree.scale.cen,
-            quantum_inverse: tree.scale.inverse,
-            quantum: tree.scale.quantum,
+            nodes_count: answer.nodes as u32,
+            nodes_capacity: answer.capacity as u32,
+            trees_count: answer.trees as u32,
+            items_count: answer.present as u32,
+            bb_min: floats(answer.min),
+            bb_max: floats(answer.max),
+            bb_center: answer.scale.cen,
+            quantum_inverse: answer.scale.inverse,
+            quantum: answer.scale.quantum,
         }),
     }
 }

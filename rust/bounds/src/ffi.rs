@@ -25,7 +25,7 @@ pub struct Words3 {
     pub z: u32,
 }
 
-/// `bounds_scale`.
+/// `bounds_units`.
 #[derive(Clone, Copy)]
 #[repr(C)]
 pub struct Scale {
@@ -34,10 +34,11 @@ pub struct Scale {
     pub quantum: Vec3,
 }
 
-/// `bounds_built_tree`.
+/// `bounds_build_answer`.
 #[derive(Clone, Copy)]
 #[repr(C)]
-pub struct BuiltTree {
+pub struct BuildAnswer {
+    pub refusal: u32,
     pub nodes: usize,
     pub capacity: usize,
     pub trees: usize,
@@ -45,14 +46,6 @@ pub struct BuiltTree {
     pub min: Words3,
     pub max: Words3,
     pub scale: Scale,
-}
-
-/// `bounds_build`.
-#[derive(Clone, Copy)]
-#[repr(C)]
-pub struct Build {
-    pub refusal: u32,
-    pub tree: BuiltTree,
 }
 
 /// `bounds_bvh`.
@@ -139,7 +132,7 @@ unsafe extern "C" {
         count_len: usize,
         boxes: *mut u32,
         boxes_len: usize,
-    ) -> Build;
+    ) -> BuildAnswer;
     fn bounds_tree_header(out: *mut u8, out_len: usize, bvh: Bvh) -> u32;
 }
 
@@ -151,7 +144,7 @@ pub fn build_bvh(
     trees: &mut [u8],
     order: &mut [u16],
     [words, places, temp, stack, first, count, boxes]: [&mut [u32]; 7],
-) -> Build {
+) -> BuildAnswer {
     // SAFETY: each pointer comes from a slice and goes with that slice's length, all its cells are initialised, and no
     // two slices overlap, being exclusive borrows. Entries and threshold may be any number: the library reads entries
     // only where it found the slices long enough for them.
@@ -197,8 +190,7 @@ const _: () = {
     assert!(size_of::<Mat4>() == 64 && align_of::<Mat4>() == 4);
     assert!(size_of::<Words3>() == 12 && align_of::<Words3>() == 4);
     assert!(size_of::<Scale>() == 36 && align_of::<Scale>() == 4);
-    assert!(size_of::<BuiltTree>() == 96 && align_of::<BuiltTree>() == 8);
-    assert!(size_of::<Build>() == 104 && align_of::<Build>() == 8);
+    assert!(size_of::<BuildAnswer>() == 104 && align_of::<BuildAnswer>() == 8);
     assert!(size_of::<Bvh>() == 96 && align_of::<Bvh>() == 8);
 };
 
@@ -219,7 +211,7 @@ mod tests {
         (0..ENTRIES).flat_map(entry).collect()
     }
 
-    fn build(parts: [usize; 7]) -> (Build, Vec<u8>) {
+    fn build(parts: [usize; 7]) -> (BuildAnswer, Vec<u8>) {
         let mut lent = parts.map(|len| vec![0; len]);
         let filled = words();
         let len = lent[0].len().min(filled.len());
@@ -232,7 +224,7 @@ mod tests {
     #[test]
     fn each_part_of_the_work_buffer_is_checked() {
         let (built, nodes) = build(PARTS);
-        assert_eq!((built.refusal, built.tree.nodes, built.tree.capacity, built.tree.present), (0, 5, 7, 3));
+        assert_eq!((built.refusal, built.nodes, built.capacity, built.present), (0, 5, 7, 3));
         for part in 0..PARTS.len() {
             let (mut longer, mut shorter) = (PARTS, PARTS);
             longer[part] += 1;
@@ -241,7 +233,7 @@ mod tests {
             shorter[part] -= 1;
             let (refused, untouched) = build(shorter);
             assert_eq!((refused.refusal, untouched), (2, vec![7; 112]), "part {part} shorter");
-            assert_eq!((refused.tree.nodes, refused.tree.min.x), (0, 0), "a refusal has no values");
+            assert_eq!((refused.nodes, refused.min.x), (0, 0), "a refusal has no values");
         }
         assert_eq!(PARTS.iter().sum::<usize>() as u64, bounds_work_len(ENTRIES as u32));
     }
