@@ -26,12 +26,17 @@ pub struct Series {
 /// A sample lasts at least this long, so that the clock's own steps do not show.
 const LEAST: Duration = Duration::from_millis(1);
 
+/// After this long a size has samples enough, if it has a few.
+const ENOUGH: Duration = Duration::from_secs(10);
+pub const FEWEST: usize = 3;
+
 pub fn series(subject: &Subject, samples: usize, seed: u64) -> Series {
     let point = |&size: &usize| {
         let [mut ours, mut theirs] = (subject.passes)(size, seed);
         let (ours_times, theirs_times) = (passes_a_sample(&mut ours), passes_a_sample(&mut theirs));
         let mut times = [Vec::new(), Vec::new()];
-        for _ in 0..samples {
+        let begun = Instant::now();
+        while times[0].len() < samples.min(FEWEST) || times[0].len() < samples && begun.elapsed() < ENOUGH {
             times[0].push(sample(&mut ours, ours_times));
             times[1].push(sample(&mut theirs, theirs_times));
         }

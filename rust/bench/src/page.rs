@@ -1,14 +1,16 @@
 //! The measured series as a page: one table, and what it was measured with.
 
-use crate::measure::Series;
+use crate::measure::{Series, FEWEST};
 
 pub fn page(series: &[Series], samples: usize, seed: u64) -> String {
     format!(
         "# Speed\n\n\
          The proved library and the reference, compiled in release mode and timed in turn in one run, on the same random\n\
-         inputs (seed {seed}), one thread; medians of {samples} samples. The ratio is the library's time by the\n\
-         reference's: below 1 the library is faster. A step of the library is a call into it; the reference's is compiled\n\
-         into the loop.\n\n\
+         inputs (seed {seed}), one thread; medians of {samples} samples, or of {FEWEST} and more where they would take over\n\
+         10 seconds. The ratio is the library's time by the reference's: below 1 the library is faster. A step of the\n\
+         library is a call into it; the reference's is compiled into the loop. A build of the library is a call of\n\
+         `bounds::build_bvh`, from floats to records in bytes; the reference's is its `build_bvh`, up to records that\n\
+         are not yet bytes.\n\n\
          Made by `cargo run --release -p bench -- --write` in rust/, on: {}.\n\n\
          ![Time over size](bench.svg)\n\n{}",
         processor(),

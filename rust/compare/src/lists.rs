@@ -78,7 +78,7 @@ impl Lists {
         Lists { random: Random::new(seed), hard: hard(Input::Float), deep }
     }
 
-    /// A list of any kind. Most are small; one in 20,000 is over a limit or near it, one in 50,000 long and deep.
+    /// A list of any kind. Most are small; one in 10,000 is over a limit or near it, one in 50,000 long and deep.
     pub fn case(&mut self) -> Case {
         let style = self.random.pick(&STYLES);
         let n = self.size(style);
@@ -98,11 +98,11 @@ impl Lists {
             };
         }
         match r.below(20_000) {
-            0 => {
+            0 | 1 => {
                 let any = 16_000 + r.below(16_768);
                 r.pick(&[LIMIT + 1, LIMIT, LIMIT - 1, 16_384, 16_385, any])
             }
-            1..=8 => r.below(3_000),
+            2..=8 => r.below(3_000),
             9..=400 => r.below(300),
             401..=3_000 => r.below(70),
             _ => r.below(17),
@@ -116,8 +116,8 @@ impl Lists {
             1 => r.pick(&[32_768, 65_536, 65_537, 0x8000_0001, u32::MAX]),
             2..=9 => r.pick(&[9, 16, 127, 1_000, 32_766, 32_767]),
             10..=19 => (n + r.below(3)).clamp(1, LIMIT) as u32,
-            // A long list passes only with larger leaves.
-            _ if n > 16_384 && r.once_in(2) => r.pick(&[3, 4, 5, 6, 7, 8]),
+            // Of the long ones some pass and some have too many nodes.
+            _ if n > 16_384 => r.pick(&[1, 1, 1, 1, 2, 2, 3, 4, 5, 6, 7, 8]),
             _ => 1 + r.below(8) as u32,
         }
     }
