@@ -12,11 +12,33 @@ pub fn page(series: &[Series], samples: usize, seed: u64) -> String {
          `bounds::build_bvh`, from floats to records in bytes; the reference's is its `build_bvh`, up to records that\n\
          are not yet bytes.\n\n\
          Made by `cargo run --release -p bench -- --write` in rust/, on: {}.\n\n\
-         ![Time over size](bench.svg)\n\n{}",
+         ![Time over size](bench.svg)\n\n{}\n{BUILD}",
         processor(),
         table(series)
     )
 }
+
+/// From `perf record` over the series named in it.
+const BUILD: &str = "\
+## Where a build's time goes
+
+Shares of the library's own time, by sampling (`perf`), random boxes at threshold 4 and the hostile list:
+
+| step | random | hostile |
+|---|---:|---:|
+| box of each node, folded before the split | 34 % | 41 % |
+| counts of centres below the average | 20 % | 23 % |
+| average | 16 % | 20 % |
+| partition | 15 % | 16 % |
+| larger group first, sizes, ranges, records, order | 8 % | 0 % |
+| quantising | 5 % | 0 % |
+| entries into words | 2 % | 0 % |
+
+So nearly all of it is four passes over a node's boxes on each level. The reference spends a third of its time in
+allocating and freeing the lists of each node and in counting nodes and items anew at each level (`total_nodes`,
+`total_items`), which on the hostile list, some 9,000 levels deep at 16,384 boxes, is three quarters of it.
+Equal boxes are sorted at each level, the rule's fallback.
+";
 
 pub fn table(series: &[Series]) -> String {
     let mut out = String::from(
