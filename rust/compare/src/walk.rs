@@ -28,6 +28,9 @@ pub struct Walked {
 /// Most nodes, trees and items.
 const LIMIT: usize = 65_535;
 
+/// A box in units of the quantum: min and max.
+type Span = ([i16; 3], [i16; 3]);
+
 /// A node or tree record: a box, and two numbers.
 struct Record {
     min: [i16; 3],
@@ -47,7 +50,7 @@ impl Record {
         }
     }
 
-    fn meets(&self, (min, max): &([i16; 3], [i16; 3])) -> bool {
+    fn meets(&self, (min, max): &Span) -> bool {
         (0..3).all(|axis| self.min[axis] <= max[axis] && min[axis] <= self.max[axis])
     }
 }
@@ -100,14 +103,7 @@ impl Walk<'_> {
     }
 
     /// The nodes from `first` up to `last`.
-    fn range(
-        &self,
-        first: i32,
-        last: i32,
-        query: &([i16; 3], [i16; 3]),
-        mut walked: Walked,
-        out: &mut [u16],
-    ) -> Walked {
+    fn range(&self, first: i32, last: i32, query: &Span, mut walked: Walked, out: &mut [u16]) -> Walked {
         let mut at = first;
         while at < last {
             walked.reads += 1;
@@ -138,13 +134,13 @@ impl Walk<'_> {
 mod tests {
     use super::*;
 
-    const ALL: ([i16; 3], [i16; 3]) = ([-32767; 3], [32767; 3]);
+    const ALL: Span = ([-32767; 3], [32767; 3]);
     /// Left and right halves along x.
-    const LEFT: ([i16; 3], [i16; 3]) = ([-32767; 3], [-100, 32767, 32767]);
-    const RIGHT: ([i16; 3], [i16; 3]) = ([100, -32767, -32767], [32767; 3]);
+    const LEFT: Span = ([-32767; 3], [-100, 32767, 32767]);
+    const RIGHT: Span = ([100, -32767, -32767], [32767; 3]);
 
-    fn records(of: &[(([i16; 3], [i16; 3]), i16, i16)]) -> Vec<u8> {
-        let record = |&((min, max), a, b): &(([i16; 3], [i16; 3]), i16, i16)| {
+    fn records(of: &[(Span, i16, i16)]) -> Vec<u8> {
+        let record = |&((min, max), a, b): &(Span, i16, i16)| {
             [min[0], min[1], min[2], max[0], max[1], max[2], a, b].map(i16::to_le_bytes).concat()
         };
         of.iter().flat_map(record).collect()
@@ -153,8 +149,8 @@ mod tests {
     /// With a quantum of 1 around 0.
     fn walk(
         query: ([f32; 3], [f32; 3]),
-        nodes: &[(([i16; 3], [i16; 3]), i16, i16)],
-        trees: &[(([i16; 3], [i16; 3]), i16, i16)],
+        nodes: &[(Span, i16, i16)],
+        trees: &[(Span, i16, i16)],
         item_count: usize,
     ) -> ((u32, usize, usize), Vec<u16>) {
         let (node_bytes, tree_bytes) = (records(nodes), records(trees));
