@@ -6,7 +6,7 @@ pub fn page(series: &[Series], samples: usize, seed: u64) -> String {
     format!(
         "# Speed\n\n\
          The proved library and the reference, compiled in release mode and timed in turn in one run, on the same random\n\
-         inputs (seed {seed}), one thread; medians of {samples} samples, or of {FEWEST} and more where they would take over\n\
+         inputs (seed {seed}), one thread; the least of {samples} samples, or of {FEWEST} and more where they would take over\n\
          10 seconds. The ratio is the library's time by the reference's: below 1 the library is faster. A step of the\n\
          library is a call into it; the reference's is compiled into the loop. A build of the library is a call of\n\
          `bounds::build_bvh`, from floats to records in bytes; the reference's is its `build_bvh`, up to records that\n\
