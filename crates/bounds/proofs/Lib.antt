@@ -1,1 +1,2 @@
+mod BuildLaws
 mod Read

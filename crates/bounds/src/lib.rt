@@ -1,4 +1,6 @@
 // The C interface: one function an operation, none of which asks anything of its caller.
+use bvh::core::Build;
+use bvh::core::BuiltTree;
 use float32::compare::Relation;
 use float32::sorting::Ordering;
 use math::aabb::Aabb;
@@ -6,8 +8,13 @@ use math::mat4::Mat4;
 use math::mat4::Vec4;
 use math::vec3::Vec3;
 use math::words3::Words3;
+use records::header::Bvh;
+use records::header::Header;
+use records::scale::Scale;
 ghost use mathlib.Core.Path.{_≡_};
+ghost use Prim.Native.Nat.{_+_, _*_};
 ghost use lib.Ieee.{binary32, ofBits, toBits};
+ghost use lib.ListN.{take};
 ghost use Rattle.float32.specs.Casts.{castI32, low16, shortOf, vertexOf};
 ghost use Rattle.float32.specs.Comparison.{relationOf};
 ghost use Rattle.float32.specs.Counts.{ofCount};
@@ -17,7 +24,10 @@ ghost use Rattle.float32.specs.SquareRoot.{sqrtOf};
 ghost use Rattle.math.specs.Stored.{vminWordsOf, vmaxWordsOf};
 ghost use Rattle.math.specs.Transform.{pointOf, vectorOf, transformBox};
 ghost use Rattle.math.specs.Vec3s.{addOf, subOf, scaleOf, negOf, absOf, dotOf, crossOf, lengthOf, vmulOf, vdivOf, vaddOf, normOf, vmin3Of, vmax3Of, cmpVec3Of};
+ghost use Rattle.records.specs.Header.{headerNumber, headerAnswer, headerExit};
+ghost use Rattle.bvh.specs.Entry.{entriesIn, lengthsOf};
 ghost use Rattle.bounds.specs.Numbers.{relationNumber, orderingNumber};
+ghost use Rattle.bounds.specs.Trees.{refusedBy, treeValues, buildAnswer, Answers, HeaderWritten};
 
 // ---- words and floats
 
@@ -317,4 +327,134 @@ pub extern "C" fn bounds_transform_box(b: Aabb, m: Mat4) -> Aabb
     ensures { λ r. ⌜ r ≡ transformBox b m ⌝ }
 {
     math::aabb::transform_box(b, m)
+}
+
+// ---- trees
+
+// What a build answers: 01's number, 0 where it is not refused, and the tree's values, 0 where it is.
+#[repr(C)]
+pub struct BuildAnswer {
+    pub refusal: u32,
+    pub nodes: usize,
+    pub capacity: usize,
+    pub trees: usize,
+    pub present: usize,
+    pub min: Words3,
+    pub max: Words3,
+    pub scale: Scale,
+}
+
+fn refused(number: u32) -> BuildAnswer
+    ensures { λ r. ⌜ r ≡ refusedBy number ⌝ }
+{
+    let zero = Vec3 {
+        x: 0.0,
+        y: 0.0,
+        z: 0.0,
+    };
+    let none = Words3 { x: 0, y: 0, z: 0 };
+    BuildAnswer {
+        refusal: number,
+        nodes: 0,
+        capacity: 0,
+        trees: 0,
+        present: 0,
+        min: none,
+        max: none,
+        scale: Scale {
+            cen: zero,
+            inverse: zero,
+            quantum: zero,
+        },
+    }
+}
+
+fn tree_values(t: BuiltTree) -> BuildAnswer
+    ensures { λ r. ⌜ r ≡ treeValues t ⌝ }
+{
+    let min = t.min;
+    let max = t.max;
+    let scale = t.scale;
+    BuildAnswer {
+        refusal: 0,
+        nodes: t.nodes,
+        capacity: t.capacity,
+        trees: t.trees,
+        present: t.present,
+        min: min,
+        max: max,
+        scale: scale,
+    }
+}
+
+fn build_answer(b: Build) -> BuildAnswer
+    ensures { λ r. ⌜ r ≡ buildAnswer b ⌝ }
+{
+    match b {
+        Build::Built(t) => tree_values(t),
+        Build::TooManyEntries => refused(1),
+        Build::BufferTooShort => refused(2),
+        Build::ThresholdOutside => refused(3),
+        Build::TooManyNodes => refused(4),
+    }
+}
+
+// The words of the work buffer that a build of so many entries needs, all parts together: 7n for words, n each for places, temp and stack, 2n + 1 each for first and count, 6(2n + 1) for boxes.
+#[no_mangle]
+pub extern "C" fn bounds_work_len(entries: u32) -> u64
+    ensures { λ r. ⌜ r ≡ 26 * entries + 8 ⌝ }
+{
+    26 * (entries as u64) + 8
+}
+
+// The tree of the present entries, of which `words` holds seven words each: a mark (0 for absent), min, max.
+#[no_mangle]
+pub extern "C" fn bounds_build_bvh(
+    entries: usize,
+    threshold: u32,
+    nodes: &mut [u8],
+    trees: &mut [u8],
+    order: &mut [u16],
+    words: &mut [u32],
+    places: &mut [u32],
+    temp: &mut [u32],
+    stack: &mut [u32],
+    first: &mut [u32],
+    count: &mut [u32],
+    boxes: &mut [u32],
+) -> BuildAnswer
+    ensures { λ r. ⌜ Answers (entriesIn entries (take (7 * entries) (now (words .entry)))) threshold (lengthsOf (now (nodes .entry)) (now (trees .entry)) (now (order .entry)) (now (words .entry)) (now (places .entry)) (now (temp .entry)) (now (stack .entry)) (now (first .entry)) (now (count .entry)) (now (boxes .entry))) r (now (nodes .entry)) (now (trees .entry)) (now (order .entry)) (now (nodes .exit)) (now (trees .exit)) (now (order .exit)) ⌝ }
+{
+    build_answer(bvh::core::build_core(
+        entries,
+        threshold,
+        nodes,
+        trees,
+        order,
+        words,
+        places,
+        temp,
+        stack,
+        first,
+        count,
+        boxes,
+    ))
+}
+
+fn header_number(h: Header) -> u32
+    ensures { λ n. ⌜ n ≡ headerNumber h ⌝ }
+{
+    match h {
+        Header::Written => 0,
+        Header::TooManyTrees => 1,
+        Header::BufferTooShort => 2,
+    }
+}
+
+// The 128 bytes of a tree's header; 01's number, 0 where it is not refused.
+#[no_mangle]
+pub extern "C" fn bounds_tree_header(out: &mut [u8], bvh: Bvh) -> u32
+    ensures { λ r. ⌜ HeaderWritten bvh (now (out .entry)) (now (out .exit)) r ⌝ }
+{
+    header_number(records::header::tree_header(out, bvh))
 }

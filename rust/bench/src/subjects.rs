@@ -1,8 +1,10 @@
 //! What is timed: both sides of an operation over the same inputs.
 
+use bounds::bvh::{build_bvh, records_len, work_len, BvhItem};
 use bounds::{float, math, Mat4, Vec3};
+use compare::deep;
 use compare::random::Random;
-use oracle::{float as source, math as reference, Aabb};
+use oracle::{float as source, math as reference, tree, Aabb};
 use std::hint::black_box;
 
 /// Goes once over all inputs.
@@ -53,9 +55,52 @@ fn vec3(p: [f32; 3]) -> Vec3 {
     Vec3::new(p[0], p[1], p[2])
 }
 
+/// Both builds over the same boxes: ours into buffers that are lent again and again, theirs without turning its records
+/// into bytes.
+fn builds(boxes: Vec<Aabb>, threshold: u32) -> [Pass; 2] {
+    let n = boxes.len();
+    let items: Vec<Option<Aabb>> = boxes.iter().copied().map(Some).collect();
+    let mut theirs = tree::builder(&items, threshold as usize);
+    let item = |b: Aabb| Some(BvhItem { min: vec3(b.min), max: vec3(b.max) });
+    let items: Vec<Option<BvhItem>> = boxes.into_iter().map(item).collect();
+    let (mut nodes, mut trees) = (vec![0; records_len(n)], vec![0; records_len(n)]);
+    let (mut order, mut work) = (vec![0; n], vec![0; work_len(n)]);
+    let mut ours =
+        move || build_bvh(black_box(&items), threshold, &mut nodes, &mut trees, &mut order, &mut work).expect("fits");
+    assert_eq!(ours().nodes_count as usize, theirs(), "the same tree");
+    let ours = move || {
+        black_box(ours());
+    };
+    let theirs = move || {
+        black_box(theirs());
+    };
+    [Box::new(ours), Box::new(theirs)]
+}
+
+/// Boxes of up to 10 on each axis, spread over 400.
+fn spread(n: usize, seed: u64) -> Vec<Aabb> {
+    inputs(n, seed, |t| {
+        let min = t.point().map(|x| x / 200.0);
+        Aabb { min, max: min.map(|low| low + t.float().abs() / 4000.0) }
+    })
+}
+
+/// Boxes of which the split rule takes off a few at a time.
+fn hostile(n: usize) -> Vec<Aabb> {
+    let at = |&(low, high): &(f32, f32)| Aabb { min: [low, 0.0, 0.0], max: [high, 0.0, 0.0] };
+    deep::corners(n, false).iter().map(at).collect()
+}
+
 pub fn all() -> Vec<Subject> {
     let step = |name, passes| Subject { name, unit: "calls", sizes: STEPS, passes };
+    let build = |name, sizes, passes| Subject { name, unit: "boxes", sizes, passes };
     vec![
+        build("build, threshold 4", &[1_000, 10_000, 32_767], |n, seed| builds(spread(n, seed), 4)),
+        build("build, threshold 1", &[1_000, 4_000, 16_384], |n, seed| builds(spread(n, seed), 1)),
+        build("build, equal boxes, threshold 4", &[1_000, 10_000, 32_767], |n, _| {
+            builds(vec![Aabb { min: [1.0; 3], max: [2.0; 3] }; n], 4)
+        }),
+        build("build, hostile list, threshold 1", &[1_000, 4_000, 16_384], |n, _| builds(hostile(n), 1)),
         step("to_short", |n, seed| {
             let x = inputs(n, seed, Tame::float);
             [each(&x, float::to_short), each(&x, source::to_short)]

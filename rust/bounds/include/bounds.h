@@ -1,11 +1,15 @@
 /* Collision-bound preparation, proved in Rattle: the C interface of libbounds.a.
  *
- * Every function is total: it takes any argument, touches no memory and keeps no state. A float's word is its 32 bits.
- * A function over words that copies one keeps a NaN's bits; one that computes gives some NaN where it gives a NaN.
+ * Every function is total: it takes any argument and keeps no state. A float's word is its 32 bits. A function over
+ * words that copies one keeps a NaN's bits; one that computes gives some NaN where it gives a NaN.
+ *
+ * A lent buffer is a pointer and a number of elements. It must be there, aligned and initialised, and overlap no other
+ * one of the call; the pointer must not be null, also where the number is 0. Nothing else is touched.
  */
 #ifndef BOUNDS_H
 #define BOUNDS_H
 
+#include <stddef.h>
 #include <stdint.h>
 
 #ifdef __cplusplus
@@ -70,6 +74,56 @@ int32_t bounds_cmp_vec3(bounds_vec3 a, bounds_vec3 b);  /* cmp_f32 of x, then y,
 bounds_vec4 bounds_transform_point(bounds_mat4 m, bounds_vec3 p);
 bounds_vec3 bounds_transform_vector(bounds_mat4 m, bounds_vec3 v);
 bounds_aabb bounds_transform_box(bounds_aabb b, bounds_mat4 m);
+
+/* ---- the tree over a list of boxes ----
+ *
+ * A refusal has a number: 1 list over its limit, 2 lent buffer too short, 3 threshold, 4 too many nodes. It changes no
+ * output buffer. 0 stands for no refusal.
+ */
+
+typedef struct { bounds_vec3 cen, inverse, quantum; } bounds_units;
+
+typedef struct {
+    uint32_t refusal;
+    size_t nodes, capacity, trees, present;  /* these and the rest are 0 at a refusal */
+    bounds_words3 min, max;                  /* copied from the boxes */
+    bounds_units scale;
+} bounds_build_answer;
+
+typedef struct {
+    uint64_t nodes_address;
+    uint32_t nodes_count, nodes_capacity;
+    bounds_words3 bb_min, bb_max;
+    bounds_units scale;
+    uint64_t trees_address;
+    uint32_t trees_count;
+} bounds_bvh;
+
+/* Words of the work buffer for so many entries: 26 each, and 8. */
+uint64_t bounds_work_len(uint32_t entries);
+
+/* Builds the tree of the present ones among n entries, a leaf of which holds at most `threshold`. Refusals 1 (over
+ * 32,767 entries), 3 (outside 1 to 32,767), 2, 4 (over 32,767 nodes), looked for in this order. Written are:
+ *   nodes   16 bytes a node; 16 * (2n + 1) are needed
+ *   trees   16 bytes a range of nodes; 16 * (2n + 1) are needed
+ *   order   the places of the items; n are needed
+ * and what lies behind stays as it was. The work buffer is cut into seven parts, of which the first holds the entries:
+ *   words   7n: for each entry a mark (0 for absent), then min and max in words
+ *   places  n
+ *   temp    n
+ *   stack   n
+ *   first   2n + 1
+ *   count   2n + 1
+ *   boxes   6 * (2n + 1) */
+bounds_build_answer bounds_build_bvh(size_t entries, uint32_t threshold,
+                                     uint8_t *nodes, size_t nodes_len, uint8_t *trees, size_t trees_len,
+                                     uint16_t *order, size_t order_len, uint32_t *words, size_t words_len,
+                                     uint32_t *places, size_t places_len, uint32_t *temp, size_t temp_len,
+                                     uint32_t *stack, size_t stack_len, uint32_t *first, size_t first_len,
+                                     uint32_t *count, size_t count_len, uint32_t *boxes, size_t boxes_len);
+
+/* Writes the 128 bytes of a tree's header. Refusals 1 (over 65,535 trees), 2 (under 128 bytes), in this order. */
+uint32_t bounds_tree_header(uint8_t *out, size_t out_len, bounds_bvh bvh);
 
 #ifdef __cplusplus
 }

@@ -25,6 +25,43 @@ pub struct Words3 {
     pub z: u32,
 }
 
+/// `bounds_units`.
+#[derive(Clone, Copy)]
+#[repr(C)]
+pub struct Scale {
+    pub cen: Vec3,
+    pub inverse: Vec3,
+    pub quantum: Vec3,
+}
+
+/// `bounds_build_answer`.
+#[derive(Clone, Copy)]
+#[repr(C)]
+pub struct BuildAnswer {
+    pub refusal: u32,
+    pub nodes: usize,
+    pub capacity: usize,
+    pub trees: usize,
+    pub present: usize,
+    pub min: Words3,
+    pub max: Words3,
+    pub scale: Scale,
+}
+
+/// `bounds_bvh`.
+#[derive(Clone, Copy)]
+#[repr(C)]
+pub struct Bvh {
+    pub nodes_address: u64,
+    pub nodes_count: u32,
+    pub nodes_capacity: u32,
+    pub bb_min: Words3,
+    pub bb_max: Words3,
+    pub scale: Scale,
+    pub trees_address: u64,
+    pub trees_count: u32,
+}
+
 unsafe extern "C" {
     // Scalars by value: no memory is reached. The numbers that stand for an order are read as numbers, so that none of
     // them would be invalid.
@@ -68,6 +105,81 @@ unsafe extern "C" {
     pub safe fn bounds_transform_point(m: Mat4, p: Vec3) -> Vec4; // sixteen floats are the header's four rows of four
     pub safe fn bounds_transform_vector(m: Mat4, v: Vec3) -> Vec3; // likewise
     pub safe fn bounds_transform_box(b: Aabb, m: Mat4) -> Aabb; // likewise; a fourth coordinate of 0 gives infinities
+
+    pub safe fn bounds_work_len(entries: u32) -> u64; // any number; 26 of them and 8 more stay below 2^64
+
+    // Memory is reached, and only through each pointer and the length behind it: called below, with slices.
+    fn bounds_build_bvh(
+        entries: usize,
+        threshold: u32,
+        nodes: *mut u8,
+        nodes_len: usize,
+        trees: *mut u8,
+        trees_len: usize,
+        order: *mut u16,
+        order_len: usize,
+        words: *mut u32,
+        words_len: usize,
+        places: *mut u32,
+        places_len: usize,
+        temp: *mut u32,
+        temp_len: usize,
+        stack: *mut u32,
+        stack_len: usize,
+        first: *mut u32,
+        first_len: usize,
+        count: *mut u32,
+        count_len: usize,
+        boxes: *mut u32,
+        boxes_len: usize,
+    ) -> BuildAnswer;
+    fn bounds_tree_header(out: *mut u8, out_len: usize, bvh: Bvh) -> u32;
+}
+
+/// `bounds_build_bvh`; the work buffer is lent in its seven parts.
+pub fn build_bvh(
+    entries: usize,
+    threshold: u32,
+    nodes: &mut [u8],
+    trees: &mut [u8],
+    order: &mut [u16],
+    [words, places, temp, stack, first, count, boxes]: [&mut [u32]; 7],
+) -> BuildAnswer {
+    // SAFETY: each pointer comes from a slice and goes with that slice's length, all its cells are initialised, and no
+    // two slices overlap, being exclusive borrows. Entries and threshold may be any number: the library reads entries
+    // only where it found the slices long enough for them.
+    unsafe {
+        bounds_build_bvh(
+            entries,
+            threshold,
+            nodes.as_mut_ptr(),
+            nodes.len(),
+            trees.as_mut_ptr(),
+            trees.len(),
+            order.as_mut_ptr(),
+            order.len(),
+            words.as_mut_ptr(),
+            words.len(),
+            places.as_mut_ptr(),
+            places.len(),
+            temp.as_mut_ptr(),
+            temp.len(),
+            stack.as_mut_ptr(),
+            stack.len(),
+            first.as_mut_ptr(),
+            first.len(),
+            count.as_mut_ptr(),
+            count.len(),
+            boxes.as_mut_ptr(),
+            boxes.len(),
+        )
+    }
+}
+
+/// `bounds_tree_header`.
+pub fn tree_header(out: &mut [u8], bvh: Bvh) -> u32 {
+    // SAFETY: the pointer comes from an exclusive slice and goes with its length; any header may be given.
+    unsafe { bounds_tree_header(out.as_mut_ptr(), out.len(), bvh) }
 }
 
 // The layouts that the header gives: a change of a struct stops the build here.
@@ -77,4 +189,52 @@ const _: () = {
     assert!(size_of::<Aabb>() == 24 && align_of::<Aabb>() == 4);
     assert!(size_of::<Mat4>() == 64 && align_of::<Mat4>() == 4);
     assert!(size_of::<Words3>() == 12 && align_of::<Words3>() == 4);
+    assert!(size_of::<Scale>() == 36 && align_of::<Scale>() == 4);
+    assert!(size_of::<BuildAnswer>() == 104 && align_of::<BuildAnswer>() == 8);
+    assert!(size_of::<Bvh>() == 96 && align_of::<Bvh>() == 8);
 };
+
+#[cfg(test)]
+mod tests {
+    use super::*;
+
+    const ENTRIES: usize = 3;
+    const PARTS: [usize; 7] =
+        [7 * ENTRIES, ENTRIES, ENTRIES, ENTRIES, 2 * ENTRIES + 1, 2 * ENTRIES + 1, 6 * (2 * ENTRIES + 1)];
+
+    /// Boxes 2i to 2i + 1 on each axis; any mark but 0 says present.
+    fn words() -> Vec<u32> {
+        let entry = |i: usize| {
+            let (low, high) = ((2.0 * i as f32).to_bits(), (2.0 * i as f32 + 1.0).to_bits());
+            [[1, 0x8000_0000, u32::MAX][i], low, low, low, high, high, high]
+        };
+        (0..ENTRIES).flat_map(entry).collect()
+    }
+
+    fn build(parts: [usize; 7]) -> (BuildAnswer, Vec<u8>) {
+        let mut lent = parts.map(|len| vec![0; len]);
+        let filled = words();
+        let len = lent[0].len().min(filled.len());
+        lent[0][..len].copy_from_slice(&filled[..len]);
+        let (mut nodes, mut trees, mut order) = (vec![7; 112], vec![7; 112], vec![7; ENTRIES]);
+        let built = build_bvh(ENTRIES, 1, &mut nodes, &mut trees, &mut order, lent.each_mut().map(|v| &mut v[..]));
+        (built, nodes)
+    }
+
+    #[test]
+    fn each_part_of_the_work_buffer_is_checked() {
+        let (built, nodes) = build(PARTS);
+        assert_eq!((built.refusal, built.nodes, built.capacity, built.present), (0, 5, 7, 3));
+        for part in 0..PARTS.len() {
+            let (mut longer, mut shorter) = (PARTS, PARTS);
+            longer[part] += 1;
+            let (same, same_nodes) = build(longer);
+            assert_eq!((same.refusal, &same_nodes), (0, &nodes), "part {part} longer");
+            shorter[part] -= 1;
+            let (refused, untouched) = build(shorter);
+            assert_eq!((refused.refusal, untouched), (2, vec![7; 112]), "part {part} shorter");
+            assert_eq!((refused.nodes, refused.min.x), (0, 0), "a refusal has no values");
+        }
+        assert_eq!(PARTS.iter().sum::<usize>() as u64, bounds_work_len(ENTRIES as u32));
+    }
+}

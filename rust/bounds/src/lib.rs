@@ -5,14 +5,17 @@
 //!
 //! - [`float`]: one float step each, on values and on words (a float's 32 bits).
 //! - [`math`]: points, boxes and transforms.
+//! - [`bvh`]: the tree over a list of boxes, and its header.
 //! - [`refusal`]: what an operation turns down, by its number and in words.
 #![deny(unsafe_code)]
 #![warn(missing_docs)]
 
+pub mod bvh;
 mod ffi;
 pub mod float;
 pub mod math;
 pub mod refusal;
 
+pub use bvh::{build_bvh, tree_header, BuiltTree, Bvh, BvhItem};
 pub use math::{Mat4, Vec3, Vec4};
 pub use refusal::Refusal;

@@ -72,7 +72,7 @@ pub fn run(op: &Operation, seed: u64, cases: u64) -> Line {
     }
     progress.end(mismatches);
     let smallest = first.map(|case| describe(op, &shrink(op.shape, case, |c| differs(op, c))));
-    Line { operation: op.name.to_string(), cases: total, mismatches, smallest }
+    Line { operation: op.name.to_string(), cases: total, mismatches, smallest, reached: Vec::new() }
 }
 
 fn differs(op: &Operation, case: &[u32]) -> bool {

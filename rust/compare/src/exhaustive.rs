@@ -98,7 +98,7 @@ where
         )
     });
     let words = if stride == 1 { "all words".to_string() } else { format!("1 word in {stride}") };
-    Line { operation: format!("{name}, {words}"), cases: total, mismatches, smallest }
+    Line { operation: format!("{name}, {words}"), cases: total, mismatches, smallest, reached: Vec::new() }
 }
 
 /// Of the words that do not match, the one with the fewest bits: all are seen, so nothing needs shrinking.

@@ -35,6 +35,16 @@ impl<T: Cell> Lent<T> {
         &mut self.cells[GUARD..end]
     }
 
+    /// `Err` where a cell on either side was touched. The buffer itself may hold anything: a work buffer.
+    pub fn check_guards(&self) -> Result<(), String> {
+        let end = self.cells.len() - GUARD;
+        let touched = |&i: &usize| self.cells[i] != pattern(self.seed, i);
+        match (0..GUARD).chain(end..self.cells.len()).find(touched) {
+            Some(i) => Err(format!("cell {} of {} was touched", i as isize - GUARD as isize, end - GUARD)),
+            None => Ok(()),
+        }
+    }
+
     /// `Err` with the first cell that is neither as `written` says (from the buffer's start) nor as it was before.
     /// A refusal is checked with nothing written.
     pub fn check(&self, written: &[T]) -> Result<(), String> {
@@ -80,6 +90,7 @@ mod tests {
         assert!(lent.check(&[7]).is_err(), "a cell too many");
         lent.buffer()[4] ^= 1;
         assert!(lent.check(&[7, 8]).is_err(), "a cell past what was written");
+        assert_eq!(lent.check_guards(), Ok(()));
     }
 
     #[test]
@@ -88,6 +99,7 @@ mod tests {
             let mut lent = Lent::<u32>::new(3, 3);
             lent.cells[at] ^= 1;
             assert!(lent.check(&[]).is_err());
+            assert!(lent.check_guards().is_err());
         }
     }
 

@@ -1,14 +1,15 @@
 //! `compare [OP..] [--seed S] [--cases N] [--stride N] [--threads N] [--write-vectors FILE]`
 //!
-//! OP is `float`, `math`, `exhaustive`, `all` (these three, and what is meant without an OP) or an operation's name.
+//! OP is `float`, `math`, `tree`, `exhaustive`, `all` (these four, and what is meant without an OP) or an operation's
+//! name; those of `tree` are `build` and `header`.
 //! Exit status: 0 all the same, 1 a mismatch, 2 it could not be run.
 
 use compare::exhaustive::{self, Extent};
-use compare::{check, operation, report, vectors};
+use compare::{build, check, header, operation, report, vectors};
 use std::process::ExitCode;
 
 const USAGE: &str = "usage: compare [OP..] [--seed S] [--cases N] [--stride N] [--threads N] [--write-vectors FILE]
-  OP                    float, math, exhaustive, all, or an operation's name
+  OP                    float, math, tree, exhaustive, all, or an operation's name
   --seed S              of the random inputs (default 1)
   --cases N             of each operation (default 1000000)
   --stride N            exhaustive: only every N-th word (default 1: all of them), from one that the seed gives
@@ -50,8 +51,10 @@ fn arguments(mut words: impl Iterator<Item = String>) -> Result<Arguments, Strin
 
 fn run(a: &Arguments) -> Result<Vec<report::Line>, String> {
     let operations = operation::all();
-    let known =
-        |op: &str| ["all", "exhaustive"].contains(&op) || operations.iter().any(|o| o.group == op || o.name == op);
+    let known = |op: &str| {
+        ["all", "exhaustive", "tree", "build", "header"].contains(&op)
+            || operations.iter().any(|o| o.group == op || o.name == op)
+    };
     if let Some(op) = a.ops.iter().find(|op| !known(op)) {
         return Err(format!("{op}: no such operation\n{USAGE}"));
     }
@@ -64,6 +67,12 @@ fn run(a: &Arguments) -> Result<Vec<report::Line>, String> {
         if asked(&[op.group, op.name]) {
             lines.push(check::run(op, a.seed, a.cases));
         }
+    }
+    if asked(&["tree", "build"]) {
+        lines.push(build::run(a.seed, a.cases));
+    }
+    if asked(&["tree", "header"]) {
+        lines.push(header::run(a.seed, a.cases));
     }
     if asked(&["exhaustive"]) {
         let first = (a.seed % a.stride as u64) as u32;

@@ -10,6 +10,8 @@ pub struct Line {
     pub mismatches: u64,
     /// The smallest input found, and both answers to it.
     pub smallest: Option<String>,
+    /// What the cases reached: a count to a line.
+    pub reached: Vec<String>,
 }
 
 /// The table, and below it each mismatch.
@@ -21,6 +23,10 @@ pub fn table(lines: &[Line]) -> String {
     }
     let (cases, mismatches) = lines.iter().fold((0, 0), |(c, m), l| (c + l.cases, m + l.mismatches));
     out += &format!("{:width$}  {cases:>13}  {mismatches:>10}\n", "all");
+    for l in lines.iter().filter(|l| !l.reached.is_empty()) {
+        out += &format!("\n{}\n", l.operation);
+        l.reached.iter().for_each(|what| out += &format!("  {what}\n"));
+    }
     for l in lines {
         if let Some(smallest) = &l.smallest {
             out += &format!("\n{}: {smallest}\n", l.operation);

@@ -101,6 +101,11 @@ answers! {
         if built.nodes_count > LIMIT { Err(Refused(4)) } else { Ok(built) }
     }
 
+    /// `build_bvh` alone, to be timed: each call builds the tree and answers its number of nodes. Nothing is refused.
+    fn builder(items: &[Option<Aabb>], threshold: usize) -> Box<dyn FnMut() -> usize + Send> {
+        inside::builder(items, threshold)
+    }
+
     /// bvh.rs, `Bvh::write`. Refusal 1, which is the reference's own error.
     fn header(header: &Header) -> Result<[u8; 128], Refused> { inside::header(header).map_err(|_| Refused(1)) }
 

@@ -20,11 +20,19 @@ pub fn cmp_vec3(a: Vec3, b: Vec3) -> Ordering {
     super::cmp_vec3(a, b)
 }
 
-pub fn build(items: &[Option<Aabb>], threshold: usize) -> Built {
+fn list(items: &[Option<Aabb>]) -> Vec<Option<BvhItem>> {
     let item = |(index, item): (usize, &Option<Aabb>)| item.map(|b| BvhItem { min: v(b.min), max: v(b.max), index });
-    let items: Vec<Option<BvhItem>> = items.iter().enumerate().map(item).collect();
+    items.iter().enumerate().map(item).collect()
+}
+
+pub fn builder(items: &[Option<Aabb>], threshold: usize) -> Box<dyn FnMut() -> usize + Send> {
+    let items = list(items);
+    Box::new(move || build_bvh(&mut Graph::new(), &items, threshold).bvh.nodes_count as usize)
+}
+
+pub fn build(items: &[Option<Aabb>], threshold: usize) -> Built {
     let mut g = Graph::new();
-    let built = build_bvh(&mut g, &items, threshold);
+    let built = build_bvh(&mut g, &list(items), threshold);
     read_out(&g, &built.bvh, built.item_order)
 }
 

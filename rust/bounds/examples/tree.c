@@ -1,0 +1,86 @@
+/* A tree from C: two boxes, its records and its header, each value beside the one it must be.
+ * cc -std=c11 -Wall -Wextra -Iinclude examples/tree.c LIBDIR/libbounds.a -o tree && ./tree */
+#include "bounds.h"
+#include <inttypes.h>
+#include <stdio.h>
+#include <stdlib.h>
+#include <string.h>
+
+enum { ENTRIES = 2, ROWS = 2 * ENTRIES + 1 };
+
+static int wrong;
+
+static void number(const char *what, int64_t got, int64_t want) {
+    printf("%-36s %12" PRId64 "%s\n", what, got, got == want ? "" : "  WRONG");
+    wrong |= got != want;
+}
+
+static int16_t field(const uint8_t *record, int at) {
+    return (int16_t)(record[2 * at] | record[2 * at + 1] << 8);
+}
+
+static void record(const char *what, const uint8_t *record, const int16_t want[8]) {
+    int same = 1;
+    printf("%-36s", what);
+    for (int i = 0; i < 8; i++) {
+        printf(" %d", field(record, i));
+        same &= field(record, i) == want[i];
+    }
+    puts(same ? "" : "  WRONG");
+    wrong |= !same;
+}
+
+static void put_entry(uint32_t *words, const float box[6]) {
+    words[0] = 1; /* present */
+    memcpy(words + 1, box, 6 * sizeof *box);
+}
+
+/* The work buffer is one; its parts lie one behind the other. */
+static bounds_build_answer build(uint32_t threshold, uint8_t *nodes, uint8_t *trees, uint16_t *order, uint32_t *work,
+                                 size_t boxes_len) {
+    enum { N = ENTRIES };
+    uint32_t *places = work + 7 * N, *temp = places + N, *stack = temp + N, *first = stack + N;
+    uint32_t *count = first + ROWS, *boxes = count + ROWS;
+    return bounds_build_bvh(N, threshold, nodes, 16 * ROWS, trees, 16 * ROWS, order, N, work, 7 * N, places, N,
+                            temp, N, stack, N, first, ROWS, count, ROWS, boxes, boxes_len);
+}
+
+int main(void) {
+    const float left[6] = {-1, -1, -1, -0.5f, 1, 1}, right[6] = {0.5f, -1, -1, 1, 1, 1};
+    uint8_t nodes[16 * ROWS] = {0}, trees[16 * ROWS] = {0}, header[128] = {0};
+    uint16_t order[ENTRIES] = {0};
+    number("work_len(2)", (int64_t)bounds_work_len(ENTRIES), 26 * ENTRIES + 8);
+    uint32_t *work = calloc(bounds_work_len(ENTRIES), sizeof *work);
+    if (!work) return 2;
+    put_entry(work, left);
+    put_entry(work + 7, right);
+
+    number("threshold 0: refused", build(0, nodes, trees, order, work, 6 * ROWS).refusal, 3);
+    number("work buffer short: refused", build(1, nodes, trees, order, work, 6 * ROWS - 1).refusal, 2);
+    number("no byte of it written", nodes[12], 0);
+
+    bounds_build_answer built = build(1, nodes, trees, order, work, 6 * ROWS);
+    number("refusal", built.refusal, 0);
+    number("nodes", (int64_t)built.nodes, 3);
+    number("capacity", (int64_t)built.capacity, 5);
+    number("trees", (int64_t)built.trees, 1);
+    number("present", (int64_t)built.present, 2);
+    number("min x, its word", built.min.x, 0xBF800000);
+    record("node 0", nodes, (int16_t[]){-32767, -32767, -32767, 32767, 32767, 32767, 3, 0});
+    record("node 1", nodes + 16, (int16_t[]){16383, -32767, -32767, 32767, 32767, 32767, 1, 1});
+    record("node 2", nodes + 32, (int16_t[]){-32767, -32767, -32767, -16383, 32767, 32767, 0, 1});
+    record("padding", nodes + 64, (int16_t[]){0, 0, 0, 0, 0, 0, 1, 0});
+    record("tree 0", trees, (int16_t[]){-32767, -32767, -32767, 32767, 32767, 32767, 0, 3});
+    number("order of 1", order[1], 1);
+
+    bounds_bvh bvh = {.nodes_address = 0x50000080, .nodes_count = 3, .nodes_capacity = 5, .bb_min = built.min,
+                      .bb_max = built.max, .scale = built.scale, .trees_address = 0x500000D0, .trees_count = 1};
+    number("header of 127 bytes: refused", bounds_tree_header(header, 127, bvh), 2);
+    number("header", bounds_tree_header(header, 128, bvh), 0);
+    number("address, low byte", header[0], 0x80);
+    number("w of min, high byte", header[47], 0xFF);
+    number("trees, twice", header[120] + header[122], 2);
+    free(work);
+    puts(wrong ? "some value is wrong" : "all values are right");
+    return wrong;
+}

@@ -1,0 +1,230 @@
+//! The tree over a list of boxes: [`build_bvh`], and its [`tree_header`].
+//!
+//! ```
+//! use bounds::bvh::{build_bvh, records_len, tree_header, work_len, BvhItem};
+//! use bounds::Vec3;
+//!
+//! let left = BvhItem { min: Vec3::new(-1.0, -1.0, -1.0), max: Vec3::new(-0.5, 1.0, 1.0) };
+//! let right = BvhItem { min: Vec3::new(0.5, -1.0, -1.0), max: Vec3::new(1.0, 1.0, 1.0) };
+//! let items = [Some(left), Some(right)];
+//! let (mut nodes, mut trees) = (vec![0; records_len(2)], vec![0; records_len(2)]);
+//! let (mut order, mut work) = (vec![0; 2], vec![0; work_len(2)]);
+//! let built = build_bvh(&items, 1, &mut nodes, &mut trees, &mut order, &mut work)?;
+//! assert_eq!((built.nodes_count, built.nodes_capacity, built.trees_count), (3, 5, 1));
+//! assert_eq!(trees[12..16], [0, 0, 3, 0]); // its nodes: from 0, up to 3
+//!
+//! let mut header = [0; 128];
+//! tree_header(&mut header, &built.bvh(0x5000_0000, 0x5000_0050))?;
+//! assert_eq!(header[120..124], [1, 0, 1, 0]);
+//! # Ok::<(), bounds::Refusal>(())
+//! ```
+
+use crate::ffi::{self, Words3};
+use crate::{Refusal, Vec3};
+
+/// An entry of the list: the box of an item, which is known by its place in the list. Any floats will do.
+#[derive(Clone, Copy, Debug, Default, PartialEq)]
+#[allow(missing_docs)]
+pub struct BvhItem {
+    pub min: Vec3,
+    pub max: Vec3,
+}
+
+/// The values of a tree that was built. The box is copied from the items, a NaN with its bits; the rest was computed.
+#[derive(Clone, Copy, Debug, PartialEq)]
+pub struct BuiltTree {
+    /// Nodes of the tree.
+    pub nodes_count: u32,
+    /// Node records written: with the padding at threshold 1, else as many as nodes.
+    pub nodes_capacity: u32,
+    /// Ranges of nodes.
+    pub trees_count: u32,
+    /// Entries that are present, and so places in the order list.
+    pub items_count: u32,
+    /// The box around all items.
+    pub bb_min: Vec3,
+    /// Its other corner.
+    pub bb_max: Vec3,
+    /// Its centre.
+    pub bb_center: Vec3,
+    /// What node values are multiplied by: 1 / quantum.
+    pub quantum_inverse: Vec3,
+    /// The unit of node values.
+    pub quantum: Vec3,
+}
+
+/// What a tree's header holds.
+#[derive(Clone, Copy, Debug, Default, PartialEq)]
+#[allow(missing_docs)]
+pub struct Bvh {
+    pub nodes_address: u64,
+    pub nodes_count: u32,
+    pub nodes_capacity: u32,
+    pub bb_min: Vec3,
+    pub bb_max: Vec3,
+    pub bb_center: Vec3,
+    pub quantum_inverse: Vec3,
+    pub quantum: Vec3,
+    pub trees_address: u64,
+    pub trees_count: u32,
+}
+
+impl BuiltTree {
+    /// The header of this tree, its node and tree records being at these addresses.
+    pub fn bvh(&self, nodes_address: u64, trees_address: u64) -> Bvh {
+        let &BuiltTree { nodes_count, nodes_capacity, trees_count, .. } = self;
+        let &BuiltTree { bb_min, bb_max, bb_center, quantum_inverse, quantum, .. } = self;
+        Bvh {
+            nodes_address,
+            nodes_count,
+            nodes_capacity,
+            bb_min,
+            bb_max,
+            bb_center,
+            quantum_inverse,
+            quantum,
+            trees_address,
+            trees_count,
+        }
+    }
+}
+
+/// Most entries of a list.
+pub const ENTRIES: usize = 32_767;
+
+/// Bytes of a node or tree record.
+pub const RECORD: usize = 16;
+
+/// Bytes of a tree's header.
+pub const HEADER: usize = 128;
+
+/// Bytes of the node buffer, and of the tree buffer, for so many entries.
+///
+/// ```
+/// assert_eq!(bounds::bvh::records_len(2), 80);
+/// ```
+pub fn records_len(entries: usize) -> usize {
+    RECORD.saturating_mul(entries.saturating_mul(2).saturating_add(1))
+}
+
+/// Words of the work buffer for so many entries.
+///
+/// ```
+/// assert_eq!(bounds::bvh::work_len(2), 60);
+/// ```
+pub fn work_len(entries: usize) -> usize {
+    u32::try_from(entries).map_or(usize::MAX, |n| ffi::bounds_work_len(n) as usize)
+}
+
+/// Builds the tree of the present entries, of which a leaf holds at most `threshold`.
+///
+/// Written are the node records ([`RECORD`] bytes each, in preorder), the tree records, and the order list: at
+/// threshold 1 the present places, rising; above it the places of the items leaf after leaf. What lies behind stays as
+/// it was. The buffers need [`records_len`] bytes each, a place for each entry and [`work_len`] words; longer ones will
+/// do. What the work buffer holds does not matter, nor what it holds afterwards.
+///
+/// # Errors
+///
+/// Refusals 1 (over [`ENTRIES`] entries, absent ones included), 3, 2 and 4, looked for in this order. They change no
+/// output buffer.
+///
+/// ```
+/// # use bounds::{bvh::*, Refusal};
+/// let (mut records, mut trees, mut work) = ([7; 16], [7; 16], [0; 8]);
+/// assert_eq!(build_bvh(&[], 0, &mut records, &mut trees, &mut [], &mut work), Err(Refusal::Threshold));
+/// assert_eq!(build_bvh(&[None], 1, &mut records, &mut trees, &mut [], &mut work), Err(Refusal::BufferTooShort));
+/// assert_eq!(records, [7; 16]);
+/// let built = build_bvh(&[], 1, &mut records, &mut trees, &mut [], &mut work)?;
+/// assert_eq!((built.nodes_count, built.items_count), (1, 0));
+/// # Ok::<(), Refusal>(())
+/// ```
+pub fn build_bvh(
+    items: &[Option<BvhItem>],
+    threshold: u32,
+    nodes: &mut [u8],
+    trees: &mut [u8],
+    order: &mut [u16],
+    work: &mut [u32],
+) -> Result<BuiltTree, Refusal> {
+    let parts = cut(work, items.len());
+    if items.len() <= ENTRIES {
+        // A part that is too short is refused before it is read.
+        for (words, item) in parts[0].chunks_exact_mut(7).zip(items) {
+            words.copy_from_slice(&item.map_or([0; 7], entry));
+        }
+    }
+    let answer = ffi::build_bvh(items.len(), threshold, nodes, trees, order, parts);
+    match Refusal::from_number(answer.refusal) {
+        Some(refusal) => Err(refusal),
+        None => Ok(BuiltTree {
+            nodes_count: answer.nodes as u32,
+            nodes_capacity: answer.capacity as u32,
+            trees_count: answer.trees as u32,
+            items_count: answer.present as u32,
+            bb_min: floats(answer.min),
+            bb_max: floats(answer.max),
+            bb_center: answer.scale.cen,
+            quantum_inverse: answer.scale.inverse,
+            quantum: answer.scale.quantum,
+        }),
+    }
+}
+
+/// Writes the [`HEADER`] bytes of a tree's header; what lies behind stays as it was.
+///
+/// The box is copied, a NaN with its bits; a NaN among the other floats is written as some NaN.
+///
+/// # Errors
+///
+/// Refusals 1 (over 65,535 trees) and 2 (under [`HEADER`] bytes), looked for in this order. They change no byte.
+///
+/// ```
+/// # use bounds::{bvh::*, Refusal};
+/// let mut out = [7; 127];
+/// assert_eq!(tree_header(&mut out, &Bvh { trees_count: 65_536, ..Bvh::default() }), Err(Refusal::ListTooLong));
+/// assert_eq!(tree_header(&mut out, &Bvh::default()), Err(Refusal::BufferTooShort));
+/// assert_eq!(out, [7; 127]);
+/// ```
+pub fn tree_header(out: &mut [u8], bvh: &Bvh) -> Result<(), Refusal> {
+    let header = ffi::Bvh {
+        nodes_address: bvh.nodes_address,
+        nodes_count: bvh.nodes_count,
+        nodes_capacity: bvh.nodes_capacity,
+        bb_min: bits(bvh.bb_min),
+        bb_max: bits(bvh.bb_max),
+        scale: ffi::Scale { cen: bvh.bb_center, inverse: bvh.quantum_inverse, quantum: bvh.quantum },
+        trees_address: bvh.trees_address,
+        trees_count: bvh.trees_count,
+    };
+    match Refusal::from_number(ffi::tree_header(out, header)) {
+        Some(refusal) => Err(refusal),
+        None => Ok(()),
+    }
+}
+
+/// The work buffer in the library's seven parts: words, places, temp, stack, first, count, boxes. Each gets its length
+/// or what is left, and the last all that is left, so that the library finds a part too short where the whole is.
+fn cut(work: &mut [u32], entries: usize) -> [&mut [u32]; 7] {
+    let n = entries.min(ENTRIES);
+    let mut rest = work;
+    [7 * n, n, n, n, 2 * n + 1, 2 * n + 1, usize::MAX].map(|len| {
+        let whole = std::mem::take(&mut rest);
+        let part;
+        (part, rest) = whole.split_at_mut(len.min(whole.len()));
+        part
+    })
+}
+
+/// The seven words of an entry that is present.
+fn entry(item: BvhItem) -> [u32; 7] {
+    let (min, max) = (bits(item.min), bits(item.max));
+    [1, min.x, min.y, min.z, max.x, max.y, max.z]
+}
+
+fn bits(v: Vec3) -> Words3 {
+    Words3 { x: v.x.to_bits(), y: v.y.to_bits(), z: v.z.to_bits() }
+}
+
+fn floats(w: Words3) -> Vec3 {
+    Vec3::new(f32::from_bits(w.x), f32::from_bits(w.y), f32::from_bits(w.z))
+}
