@@ -1,0 +1,89 @@
+-- `refusals::node_refused` meets its contract: the ways through it are how far its tests go.
+use borrow.Author.Needs.{needs}
+use Rattle.walk.proofs.refusals.node_refused.Statement.{statement}
+use Rattle.walk.proofs.refusals.node_refused.Tie as tie
+use Rattle.walk.proofs.refusals.node_refused.Reads as reads
+use Rattle.walk.proofs.refusals.node_refused.Lts as lts
+use Rattle.walk.proofs.refusals.number.Reads as number-reads
+use Rattle.walk.proofs.refusals.skip.Reads as skip-reads
+use borrow.Author.Needs.{needs}
+use mathlib.Core.Path.{sym, ap, ap₂, _∙_}
+use Prim.Native.Nat.{ℕ, _+_, max}
+use lib.Dec.{ltb}
+use Rattle.walk.specs.Refusals.{whole, badNode}
+use Rattle.walk.proofs.Truth.{or-yes, or-no}
+use Rattle.walk.proofs.Shorts.{same, below-zero}
+use Rattle.walk.proofs.Choices.{when, unless}
+
+-- src/refusals.rt:42:9
+returns : tie.Need-returns
+unfolding badNode
+returns c = sym (or-yes _ (or-yes _ (below-zero (c .before .before .before .args .n .«item_count») (c .before .struct-told .given .1 .1 .1 .0 .1) (c .if1 .taken))))
+
+-- src/refusals.rt:45:9
+returns-2 : tie.Need-returns-2
+unfolding badNode
+returns-2 c =
+    let t = c .before .struct-told2 .given in
+    let n = c .before .before .before .before .before .before .args .n in
+    let count = below-zero (n .«item_count») (t .1 .1 .1 .0 .1) (c .before .before .before .if1 .left) in
+    let id = below-zero (n .«item_id») (t .1 .1 .0 .1) (c .if2 .taken) in
+    sym (or-yes _ (or-no _ count ∙ id))
+
+-- src/refusals.rt:47:9
+number-requires : tie.Need-number-requires
+number-requires c κs = search needs
+
+-- src/refusals.rt:48:9
+number-requires-2 : tie.Need-number-requires-2
+number-requires-2 c κs = search needs
+
+-- src/refusals.rt:50:21
+skip-requires : tie.Need-skip-requires
+skip-requires c κs = search needs
+
+-- src/refusals.rt:50:16
+add-result : tie.Need-add-result
+add-result c = search needs
+
+-- src/refusals.rt:52:17
+add-result-2 : tie.Need-add-result-2
+add-result-2 c = search needs
+
+-- src/refusals.rt:37:1
+returns-3 : tie.Need-returns-3
+unfolding badNode
+returns-3 c =
+    let t = c .before .before .before .before .before .before .before .before .struct-told2 .given in
+    let n = c .before .before .before .before .before .before .before .before .before .before .before .before .before .args .n in
+    let count = below-zero (n .«item_count») (t .1 .1 .1 .0 .1) (c .before .before .before .before .before .before .before .before .before .before .if1 .left) in
+    let id = below-zero (n .«item_id») (t .1 .1 .0 .1) (c .before .before .before .before .before .before .before .if2 .left) in
+    let none = sym (c .before .before .before .number2 .ensures .0 ∙ ap whole (same (n .«item_count») (t .1 .1 .1 .0 .1))) ∙ c .before .before .if3 .taken in
+    let on = c .skip .ensures .0 ∙ ap (λ (n : ℕ). max n 1) (ap whole (same (n .«item_id») (t .1 .1 .0 .1))) in
+    ap (λ (n : ℕ). ltb (c .before .before .before .before .before .before .before .before .before .before .before .before .before .args .last) (c .before .before .before .before .before .before .before .before .before .before .before .before .before .args .at + n)) on ∙ sym (or-no _ (or-no _ count ∙ id) ∙ when _ _ _ none)
+
+-- src/refusals.rt:37:1
+returns-4 : tie.Need-returns-4
+unfolding badNode
+returns-4 c =
+    let t = c .before .before .before .before .before .before .struct-told2 .given in
+    let n = c .before .before .before .before .before .before .before .before .before .before .before .args .n in
+    let count = below-zero (n .«item_count») (t .1 .1 .1 .0 .1) (c .before .before .before .before .before .before .before .before .if1 .left) in
+    let id = below-zero (n .«item_id») (t .1 .1 .0 .1) (c .before .before .before .before .before .if2 .left) in
+    let many = c .before .number2 .ensures .0 ∙ ap whole (same (n .«item_count») (t .1 .1 .1 .0 .1)) in
+    let p = c .before .before .before .number .ensures .0 ∙ ap whole (same (n .«item_id») (t .1 .1 .0 .1)) in
+    ap₂ (λ (a b : ℕ). ltb (c .before .before .before .before .before .before .before .before .before .before .before .args .items) (a + b)) p many ∙ sym (or-no _ (or-no _ count ∙ id) ∙ unless _ _ _ (λ e. c .if3 .left (many ∙ e)))
+
+pub node-refused-spec : {M : Type 1} → statement M
+node-refused-spec =
+    tie.close
+    (tie.spec
+    returns
+    returns-2
+    number-requires
+    number-requires-2
+    skip-requires
+    add-result
+    add-result-2
+    returns-3
+    returns-4)

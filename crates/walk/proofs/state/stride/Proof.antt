@@ -1,0 +1,41 @@
+-- `state::stride` meets its contract: a node of count 0 is passed with all below it, a leaf alone.
+use borrow.Author.Needs.{needs}
+use Rattle.walk.proofs.state.stride.Statement.{statement}
+use Rattle.walk.proofs.state.stride.Tie as tie
+use Rattle.walk.proofs.state.stride.Reads as reads
+use Rattle.walk.proofs.state.stride.Lts as lts
+use Rattle.walk.proofs.refusals.number.Reads as number-reads
+use Rattle.walk.proofs.refusals.skip.Reads as skip-reads
+use borrow.Author.Needs.{needs}
+use mathlib.Core.Path.{_≡_, sym, ap, _∙_}
+use Prim.Native.Nat.{ℕ, max}
+use lib.Dec.{lit<}
+use lib.IntN.{ℤ}
+use Rattle.walk.specs.Refusals.{whole}
+use Rattle.walk.proofs.Shorts.{same}
+use Rattle.walk.proofs.Choices.{when, unless}
+
+-- what is read of the count
+count-is : (c : tie.After-number) → c .number .result ≡ whole (c .before .before .args .n .«item_count»)
+count-is c = c .number .ensures .0 ∙ ap whole (same (c .before .before .args .n .«item_count») (c .before .struct-told .given .1 .1 .1 .0 .1))
+
+-- src/state.rt:54:9
+number-requires : tie.Need-number-requires
+number-requires c κs = search needs
+
+-- src/state.rt:56:9
+skip-requires : tie.Need-skip-requires
+skip-requires c κs = search needs
+
+-- src/state.rt:51:1
+returns : tie.Need-returns
+returns c =
+    let n = c .before .before .before .before .before .args .n in
+    (c .skip .ensures .0 ∙ ap (λ (v : ℤ). max (whole v) 1) (same (n .«item_id») (c .before .struct-told2 .given .1 .1 .0 .1)) ∙ sym (when _ _ _ (sym (count-is (c .before .before .before)) ∙ c .before .before .if1 .taken)), c .skip .ensures .1)
+
+-- src/state.rt:51:1
+returns-2 : tie.Need-returns-2
+returns-2 c = (sym (unless _ _ _ (λ e. c .if1 .left (count-is (c .before) ∙ e))), lit< tt)
+
+pub stride-spec : {M : Type 1} → statement M
+stride-spec = tie.close (tie.spec number-requires skip-requires returns returns-2)
