@@ -63,7 +63,7 @@ items-by true th order lo (p ∷ []) rest t most e = ap (λ (x : ℕ). x ∷ [])
 items-by true th order lo (p ∷ p₂ ∷ ps) rest t most e = absurd (omega (arith, eqb-true th 1 t))
 items-by false th order lo (p ∷ ps) rest t most e = rw (ne-eqb (length (p ∷ ps)) 0 (λ n. omega arith)) (slice-is order lo (p ∷ ps) rest e)
 
-leaf-items : (th : ℕ) (order : List ℕ) (lo : ℕ) (b : BoxWords) (ps rest : List ℕ) → length ps ≤ th → drop lo order ≡ ps ++ rest
+pub leaf-items : (th : ℕ) (order : List ℕ) (lo : ℕ) (b : BoxWords) (ps rest : List ℕ) → length ps ≤ th → drop lo order ≡ ps ++ rest
     → itemsIn th order (record { box = b; head = lo; count = length ps }) ≡ ps
 leaf-items th order lo b ps rest most e = items-by (eqb th 1) th order lo ps rest refl most e
 
