@@ -1,2 +1,3 @@
 pub mod HitLaws
+pub mod ReadLaws
 pub mod VisitLaws
