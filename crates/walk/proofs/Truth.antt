@@ -26,6 +26,14 @@ both-second false b h = absurd (subst T (sym h) tt)
 pub either-second : (a b : Bool) → a || b ≡ true → a ≡ false → b ≡ true
 either-second a b h e = sym (or-no b e) ∙ h
 
+pub either-no-first : (a b : Bool) → a || b ≡ false → a ≡ false
+either-no-first true b h = h
+either-no-first false b h = refl
+
+pub either-no-second : (a b : Bool) → a || b ≡ false → b ≡ false
+either-no-second true b h = absurd (subst T h tt)
+either-no-second false b h = h
+
 -- Three tests, a, b and c, by what their results p, q and r say.
 pub third : {a b c p q r : Bool} → p ≡ a → q ≡ b → r ≡ c → p ≡ true → q ≡ true → r ≡ a && (b && c)
 third {a} {b} {c} ea eb ec hp hq = ec ∙ sym (and-yes (b && c) (sym ea ∙ hp) ∙ and-yes c (sym eb ∙ hq))

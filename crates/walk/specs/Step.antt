@@ -24,6 +24,9 @@ pub record Lent : Type 0 where
   pub nodes : List ℕ
   pub trees : List ℕ
 
+abbrev pub lentOf : Query → Sizes → List ℕ → List ℕ → Lent
+lentOf q z nodes trees = record { query = q; sizes = z; nodes = nodes; trees = trees }
+
 -- A state, and the positions that were handed out on the way to it.
 pub record Turn : Type 0 where
   pub state : WalkState

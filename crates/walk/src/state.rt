@@ -8,7 +8,7 @@ ghost use lib.Dec.{ltb};
 ghost use lib.ListN.{length};
 ghost use lib.Seq.{sets};
 ghost use Rattle.records.specs.Records.{nodeAt, treeAt};
-ghost use Rattle.walk.specs.Step.{upFrom, quiet, atTree, strideOf, handing, started, atNode, more, stepOf, Steppable, Stepped};
+ghost use Rattle.walk.specs.Step.{lentOf, upFrom, atTree, strideOf, handing, started, atNode, more, stepOf, Steppable, Stepped};
 
 // How many nodes, trees and items there are.
 pub struct Sizes {
@@ -193,7 +193,7 @@ impl WalkState {
     ) -> WalkState
         requires { ⌜ Steppable sizes (now nodes) (now trees) (now out) self ⌝ }
         requires { ⌜ more (sizes .trees) self ≡ true ⌝ }
-        ensures { λ r. ⌜ Stepped (stepOf (record { query = query; sizes = sizes; nodes = now (nodes .entry); trees = now (trees .entry) }) self) (self .handed) (now (out .entry)) (now (out .exit)) r ⌝ }
+        ensures { λ r. ⌜ Stepped (stepOf (lentOf query sizes (now (nodes .entry)) (now (trees .entry))) self) (self .handed) (now (out .entry)) (now (out .exit)) r ⌝ }
     {
         if self.at < self.last {
             self.at_node(query, sizes.items, nodes, out)

@@ -1,0 +1,94 @@
+-- What `entry::walk_bvh` answers, by the outcome of its checks.
+use mathlib.Core.Path.{_≡_, refl, sym, ap, subst, _∙_}
+use mathlib.Core.Bool.{true, false, _||_}
+use mathlib.Core.List.{List, [], _++_}
+use Prim.Native.Nat.{ℕ, _+_, _*_, _≤_}
+use native.Mathlib.Omega.{arith}
+use lib.Dec.{ltb, lit<}
+use lib.ListN.{length, drop}
+use borrow.Author.Tests.{ltb-false}
+use Rattle.math.specs.declared.aabb.Aabb.{Aabb}
+use Rattle.math.specs.declared.vec3.Vec3.{Vec3}
+use Rattle.walk.specs.Boxes.{queryOf}
+use Rattle.walk.specs.Step.{Lent, lentOf, Turn, started, Steppable, Stepped}
+use Rattle.walk.specs.Walks.{walkFrom, statusNumber, numberOf, countsOf, ended, tooMany, tooShort, walkOf, Outcome, Promise}
+use Rattle.walk.specs.declared.boxes.Query.{Query}
+use Rattle.walk.specs.declared.entry.Walk.{Walk}
+use Rattle.walk.specs.declared.entry.Walk.the-variants.{TooMany, BufferTooShort}
+use Rattle.walk.specs.declared.state.Sizes.{Sizes}
+use Rattle.walk.specs.declared.state.WalkState.{WalkState}
+use Rattle.walk.proofs.Handing.{sets-over}
+use Rattle.walk.proofs.Truth.{either-no-first, either-no-second}
+use Rattle.walk.proofs.WalkLaws.{walk-handed, walk-within}
+
+-- ---- what the checks show
+pub record Few (z : Sizes) : Type 0 where
+  pub nodes : z .nodes ≤ 65535
+  pub trees : z .trees ≤ 65535
+  pub items : z .items ≤ 65535
+
+pub few : (z : Sizes) → tooMany z ≡ false → Few z
+few z e =
+    let r = either-no-second (ltb 65535 (z .nodes)) (ltb 65535 (z .trees) || ltb 65535 (z .items)) e in
+    record {
+      nodes = ltb-false 65535 (z .nodes) (either-no-first (ltb 65535 (z .nodes)) (ltb 65535 (z .trees) || ltb 65535 (z .items)) e);
+      trees = ltb-false 65535 (z .trees) (either-no-first (ltb 65535 (z .trees)) (ltb 65535 (z .items)) r);
+      items = ltb-false 65535 (z .items) (either-no-second (ltb 65535 (z .trees)) (ltb 65535 (z .items)) r);
+    }
+
+pub steppable : (z : Sizes) (nodes trees out : List ℕ) → tooMany z ≡ false → tooShort z (length nodes) (length trees) (length out) ≡ false → Steppable z nodes trees out started
+steppable z nodes trees out e s =
+    let f = few z e in
+    let n : _ = ltb (length nodes) (16 * z .nodes) in
+    let t : _ = ltb (length trees) (16 * z .trees) in
+    let o : _ = ltb (length out) (z .items) in
+    let r = either-no-second n (t || o) s in
+    record {
+      few-nodes = f .nodes;
+      few-trees = f .trees;
+      few-items = f .items;
+      node-bytes = ltb-false (length nodes) (16 * z .nodes) (either-no-first n (t || o) s);
+      tree-bytes = ltb-false (length trees) (16 * z .trees) (either-no-first t o r);
+      places = ltb-false (length out) (z .items) (either-no-second t o r);
+      last-in = omega arith;
+      handed-in = omega arith;
+      few-reads = lit< tt;
+    }
+
+-- ---- the answers
+module _ (box : Aabb) (cen inverse : Vec3) (z : Sizes) (nodes trees out : List ℕ) where
+  abbrev outcome : Outcome
+  outcome = walkOf box cen inverse z nodes trees (length out)
+
+  abbrev lent : Lent
+  lent = lentOf (queryOf box cen inverse) z nodes trees
+
+  pub many : tooMany z ≡ true → Promise outcome out out TooMany
+  unfolding walkOf
+  many e = rw e (record { number-is = refl; counts-are = refl; output-is = refl })
+
+  module _ (e : tooMany z ≡ false) where
+    pub short : tooShort z (length nodes) (length trees) (length out) ≡ true → Promise outcome out out BufferTooShort
+    unfolding walkOf
+    short s = rw (e, s) (record { number-is = refl; counts-are = refl; output-is = refl })
+
+    module _ (s : tooShort z (length nodes) (length trees) (length out) ≡ false) where
+      outcome-is : outcome ≡ ended (walkFrom lent started)
+      unfolding walkOf
+      outcome-is = rw (e, s)
+
+      fits-out : length (walkFrom lent started .given) ≤ length out
+      fits-out =
+          let p = steppable z nodes trees out e s in
+          omega (arith, walk-handed lent started, walk-within lent started (p .handed-in), p .places)
+
+      pub answered : (q : Query) (u : WalkState) (out′ : List ℕ) (r : Walk) → q ≡ queryOf box cen inverse → Stepped (walkFrom (lentOf q z nodes trees) started) 0 out out′ u
+          → numberOf r ≡ statusNumber (u .status) → countsOf r ≡ record { reads = u .reads; handed = u .handed } → Promise outcome out out′ r
+      answered q u out′ r k p a b =
+          let w = subst (λ (q : Query). Stepped (walkFrom (lentOf q z nodes trees) started) 0 out out′ u) k p in
+          rw outcome-is
+          (record {
+            number-is = a ∙ ap (λ (u : WalkState). statusNumber (u .status)) (w .state-is);
+            counts-are = b ∙ ap (λ (u : WalkState). record { reads = u .reads; handed = u .handed }) (w .state-is);
+            output-is = w .output-is ∙ sets-over (walkFrom lent started .given) out fits-out;
+          })
