@@ -1,3 +1,4 @@
 pub mod HitLaws
+pub mod MachineLaws
 pub mod ReadLaws
 pub mod VisitLaws

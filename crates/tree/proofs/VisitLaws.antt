@@ -24,7 +24,7 @@ use Rattle.tree.specs.Visit.{visit, visitReads, visitParts, rangeReads, 
 
 -- ---- lists
 
-length-up : (at n : ℕ) → length (upFrom at n) ≡ n
+pub length-up : (at n : ℕ) → length (upFrom at n) ≡ n
 length-up at zero = refl
 length-up at (suc n) = ap suc (length-up (at + 1) n)
 
