@@ -5,6 +5,7 @@ mod HandWalk
 mod ItemWords
 pub mod Lawful
 pub mod MarkedLaws
+pub mod MeetLaws
 pub mod Places
 pub mod Promises
 pub mod RangeLaws

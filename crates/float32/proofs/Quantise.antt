@@ -14,8 +14,9 @@ use lib.Ieee.Scale.{finite}
 use lib.Ieee.Positive.{num, den, den-pos, positive, positive-finite, between, first-pos, le→cross}
 use borrow.Author.Tests.{eq-eqb}
 use Rattle.float32.specs.Casts.{limit, shortOf, vertexOf}
+use Rattle.float32.proofs.Order as Order
 use Rattle.float32.proofs.Order.{over, under, num-pos, positive-over, positive-under, Cross, Ordered, from-lowest, to-highest, numbers, le→ordered}
-use Rattle.float32.proofs.OrderLaws.{le-trans, le-lt-trans, neg-neg, neg-le, neg-lt}
+use Rattle.float32.proofs.OrderLaws.{le-trans, le-lt-trans, finite-between, neg-neg, neg-le, neg-lt}
 use Rattle.float32.proofs.Rounding.{Rounded, rounded-mono, div-rounded, mul-rounded, mul-neg, positive-not-zero}
 use Rattle.float32.proofs.Exactness.{self-rounded}
 use Rattle.float32.proofs.RoundError.{Relative, div-relative}
@@ -87,6 +88,23 @@ infinite f (numbers {x = x} {y = y} p q h) =
 
 pub vertexOf-infinite : (f : Format) (x y : Float) → T (le x y) → T (leZ (vertexOf (mul f x (inf false))) (vertexOf (mul f y (inf false))))
 vertexOf-infinite f x y h = infinite f (le→ordered x y h)
+
+-- from -0 to 0 there are only zeros, and the node value of their product is 0 too
+no-size : (d : Float) → Cross (fin true 0 (pos 0)) d → Cross d (fin false 0 (pos 0)) → (over d ≡ 0) × (under d ≡ 0)
+no-size nan h k = (refl, refl)
+no-size (inf s) h k = (refl, refl)
+no-size (fin true m e) h k = (refl, omega arith)
+no-size (fin false m e) h k = (omega arith, refl)
+
+shortOf-nan : shortOf nan ≡ pos 0
+unfolding shortOf toSigned
+shortOf-nan = refl
+
+pub node-is-vertex-infinite : (f : Format) (d : Float) → T (le (fin true 0 (pos 0)) d) → T (le d (fin false 0 (pos 0))) → shortOf (mul f d (inf false)) ≡ vertexOf (mul f d (inf false))
+node-is-vertex-infinite f d h k =
+    let p = finite-between (fin true 0 (pos 0)) d (fin false 0 (pos 0)) tt tt h k in
+    let z = no-size d (Order.le→cross (fin true 0 (pos 0)) d tt p h) (Order.le→cross d (fin false 0 (pos 0)) p tt k) in
+    rw (zero-inf f d p (z .0) (z .1), shortOf-nan, vertexOf-nan)
 
 -- ---- U / D is (a / c) / 32767 and I / J is D / U, each up to 2 ^ -24 of it: then (a / c) * (I / J) is at most 32767.5
 three : (a c U D I J : ℕ) → 0 < D → 16777216 * (a * 1 * D) ≤ 16777216 * (U * (32767 * c)) + a * 1 * D → 16777216 * (I * (U * 1)) ≤ 16777216 * (1 * D * J) + 1 * D * J → 2 * (a * I) ≤ 65535 * (c * J)

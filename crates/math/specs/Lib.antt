@@ -1,3 +1,4 @@
+pub mod Axes
 pub mod Stored
 pub mod Transform
 pub mod Vec3s

@@ -1,3 +1,4 @@
+pub mod AxisLaws
 pub mod Examples
 mod Fields
 pub mod Fitting

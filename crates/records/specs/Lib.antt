@@ -1,3 +1,4 @@
+pub mod Axis
 pub mod Header
 pub mod LittleEndian
 pub mod Quantise

@@ -1,6 +1,7 @@
 mod BoxOrder
 mod Counting
 pub mod DivideLaws
+pub mod FoldLaws
 mod Parting
 mod Places
 mod Rotated

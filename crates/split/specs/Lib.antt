@@ -1,4 +1,5 @@
 pub mod Boxes
+pub mod Ends
 pub mod Folding
 pub mod Groups
 pub mod Lists

@@ -1,5 +1,5 @@
 -- Lists of places. Definitions only.
-use Prim.Native.Nat.{ℕ, _+_, _*_, _≤_}
+use Prim.Native.Nat.{ℕ, _+_, _*_, _≤_, _<_}
 use mathlib.Core.Bool.{Bool, true, false}
 use mathlib.Core.List.{List, [], _∷_}
 use mathlib.Core.Path.{_≡_}
@@ -28,6 +28,10 @@ Within size (x ∷ xs) = (7 * x + 7 ≤ size) × Within size xs
 -- how often a place stands in a list
 abbrev pub occurrences : ℕ → List ℕ → ℕ
 occurrences p ps = length (sift (λ q. eqb q p) ps)
+
+-- The place stands in the list.
+abbrev pub Among : ℕ → List ℕ → Type 0
+Among p ps = 0 < occurrences p ps
 
 -- Each place stands as often in the one list as in the other: none is lost, and none doubled.
 abbrev pub Permutes : List ℕ → List ℕ → Type 0
