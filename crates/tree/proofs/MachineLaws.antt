@@ -13,6 +13,7 @@ use lib.ListN.{length, take, drop, length-append, take-append-drop}
 use lib.Seq.{drop-at, drop-drop}
 use lib.Signed.{ltZ}
 use Rattle.records.specs.declared.BvhNode.{BvhNode}
+use Rattle.records.specs.declared.BvhTree.{BvhTree}
 use Rattle.records.specs.declared.scale.Scale.{Scale}
 use Rattle.records.specs.Quantise.{quantiseOf}
 use Rattle.records.specs.Records.{nodeAt, treeAt}
@@ -27,7 +28,7 @@ use Rattle.bvh.specs.Tree.{Node, leaf, inner, boxOf, leafOrder, size}
 use Rattle.bvh.proofs.TreeLaws.{length-rows}
 use Rattle.walk.specs.Boxes.{meets}
 use Rattle.walk.specs.Refusals.{whole, badRange, badNode}
-use Rattle.walk.specs.Step.{Lent, Turn, more, stepOf, atNode, atTree, handing, quiet, onward, entering, passing, strideOf}
+use Rattle.walk.specs.Step.{Lent, Turn, more, stepOf, atNode, atTree, handing, quiet, onward, entering, passing, strideOf, started}
 use Rattle.walk.specs.Step as W
 use Rattle.walk.specs.Walks.{joined, walkFrom}
 use Rattle.walk.specs.declared.boxes.Query.{Query}
@@ -39,7 +40,7 @@ use Rattle.walk.proofs.StepLaws.{step-node, step-tree, node-handing, node-onwar
 use Rattle.walk.proofs.WalkLaws.{walk-more, walk-none}
 use Rattle.tree.specs.Visit.{visit, visitReads, visitParts, rangeReads, partReads}
 use Rattle.tree.proofs.ReadLaws.{node-read, tree-read}
-use Rattle.tree.proofs.VisitLaws.{length-up, visit-few}
+use Rattle.tree.proofs.VisitLaws.{length-up, visit-few, parts-few}
 
 -- ---- on from a state
 
@@ -262,3 +263,157 @@ module _ (w : Written) (sound : (r : Row) → List·Memᴰ r (w .nodes) → Soun
   pub walk-node : (t : Node) → Walks t
   walk-node (leaf b ps) = walk-leaf b ps
   walk-node (inner b l₁ l₂) = walk-inner b l₁ l₂ (walk-node l₁) (walk-node l₂)
+
+  -- ---- a tree's ranges
+
+  -- The walk has come to tree j with no node left to read, having handed out `is`.
+  pub record Arrives (s : WalkState) (j reads handed : ℕ) (is : List ℕ) : Type 0 where
+    pub state : WalkState
+    pub way : Leads l s is state
+    pub tree-is : state .tree ≡ j
+    pub idle : state .last ≤ state .at
+    pub reads-are : state .reads ≡ reads
+    pub handed-are : state .handed ≡ handed
+    pub going-on : state .status ≡ Going
+
+  -- what stands before a range's record
+  pub record Waits (j lo : ℕ) (s : WalkState) : Type 0 where
+    pub tree-is : s .tree ≡ j
+    pub idle : s .last ≤ s .at
+    pub going-on : s .status ≡ Going
+    pub few : s .handed ≤ lo
+
+  seen-missed : (lo : ℕ) (t : Node) → hit (boxOf t) ≡ false → seen lo t ≡ []
+  seen-missed lo (leaf b ps) e = rw e
+  seen-missed lo (inner b l₁ l₂) e = rw e
+
+  abbrev rangeAt : ℕ → Node → Range
+  rangeAt k t = record { box = boxOf t; first = k; last = k + size t }
+
+  range-fine : (k : ℕ) (t : Node) → k + size t ≤ w .sizes .nodes → badRange (w .sizes .nodes) (treeRecord (w .scale) (rangeAt k t)) ≡ false
+  unfolding badRange treeRecord
+  range-fine k t h = rw (le-ltb k 0 (omega arith), le-ltb (k + size t) k (omega arith), le-ltb (w .sizes .nodes) (k + size t) h)
+
+  walk-range : (t : Node) (k lo j : ℕ) (after : List Range) (qs : List Row) (s : WalkState) → Fit lo t → drop j (w .trees) ≡ rangeAt k t ∷ after → drop k (w .nodes) ≡ rows lo t ++ qs
+      → k + size t ≤ w .sizes .nodes → w .sizes .nodes ≤ 32767 → lo + length (leafOrder t) ≤ w .sizes .items → j < w .sizes .trees → Waits j lo s
+      → Arrives s (j + 1) (s .reads + rangeReads hit t) (s .handed + length (seen lo t)) (seen lo t)
+  unfolding treeRecord
+  walk-range t k lo j after qs s fit there here room few-nodes items more-trees waits = go (hit (boxOf t)) refl
+    where
+      goes : more (w .sizes .trees) s ≡ true
+      goes = rw (waits .going-on, le-ltb (s .at) (s .last) (waits .idle), lt-ltb (s .tree) (w .sizes .trees) (omega (arith, waits .tree-is)))
+
+      record-is : treeAt (lent w .trees) (16 * s .tree) ≡ treeRecord (w .scale) (rangeAt k t)
+      record-is = ap (λ (n : ℕ). treeAt (lent w .trees) (16 * n)) (waits .tree-is) ∙ tree-read (w .scale) (w .after-trees) (w .trees) j (rangeAt k t) after there (omega arith) (omega arith)
+
+      steps : stepOf l s ≡ quiet (atTree (w .query) (w .sizes .nodes) (treeRecord (w .scale) (rangeAt k t)) s)
+      steps = step-tree l s (waits .idle) ∙ ap (λ (r : BvhTree). quiet (atTree (w .query) (w .sizes .nodes) r s)) record-is
+
+      go-in : hit (boxOf t) ≡ true → Leads l s [] (at-node (s .tree + 1) k (k + size t) (s .reads + 1) (s .handed))
+      go-in e = leads-step l s (at-node (s .tree + 1) k (k + size t) (s .reads + 1) (s .handed)) [] goes (steps ∙ ap quiet (tree-entered (w .query) (w .sizes .nodes) (treeRecord (w .scale) (rangeAt k t)) s (range-fine k t room) e))
+
+      go-past : hit (boxOf t) ≡ false → Leads l s [] (passing s)
+      go-past e = leads-step l s (passing s) [] goes (steps ∙ ap quiet (tree-passed (w .query) (w .sizes .nodes) (treeRecord (w .scale) (rangeAt k t)) s (range-fine k t room) e))
+
+      go : (h : Bool) → hit (boxOf t) ≡ h → Arrives s (j + 1) (s .reads + (1 + cond h (visitReads hit t) 0)) (s .handed + length (seen lo t)) (seen lo t)
+      go true e =
+          record {
+            state = at-node (s .tree + 1) (k + size t) (k + size t) (s .reads + 1 + visitReads hit t) (s .handed + length (seen lo t));
+            way = leads-then l s _ _ [] (seen lo t) (go-in e) (walk-node t k lo qs (s .tree + 1) (k + size t) (s .reads + 1) (s .handed) fit here (omega arith) (waits .few) items);
+            tree-is = ap (λ (n : ℕ). n + 1) (waits .tree-is);
+            idle = omega arith;
+            reads-are = omega arith;
+            handed-are = refl;
+            going-on = refl;
+          }
+      go false e =
+          let none : seen lo t ≡ [] = seen-missed lo t e in
+          record {
+            state = passing s;
+            way = subst (λ (is : List ℕ). Leads l s is (passing s)) (sym none) (go-past e);
+            tree-is = ap (λ (n : ℕ). n + 1) (waits .tree-is);
+            idle = waits .idle;
+            reads-are = refl;
+            handed-are = sym (ap (λ (is : List ℕ). s .handed + length is) none ∙ add-zero (s .handed));
+            going-on = refl;
+          }
+
+  abbrev seenIn : ℕ → Node → List ℕ
+  seenIn lo t = visitParts hit (w .threshold) (w .order) lo t
+
+  -- From the number of the first range of a tree on, what the ranges hand out, and behind the last of them.
+  abbrev WalksIn : Node → Type 0
+  WalksIn t =
+      (k lo j : ℕ) (after : List Range) (qs : List Row) (s : WalkState) → Fit lo t → drop j (w .trees) ≡ ranges k t ++ after → drop k (w .nodes) ≡ rows lo t ++ qs
+      → k + size t ≤ w .sizes .nodes → w .sizes .nodes ≤ 32767 → lo + length (leafOrder t) ≤ w .sizes .items → j + length (ranges k t) ≤ w .sizes .trees → Waits j lo s
+      → Arrives s (j + length (ranges k t)) (s .reads + partReads hit t) (s .handed + length (seenIn lo t)) (seenIn lo t)
+
+  then-arrives : (s : WalkState) (j₁ r₁ h₁ : ℕ) (is : List ℕ) (a : Arrives s j₁ r₁ h₁ is) (j₂ r₂ h₂ j r h : ℕ) (js : List ℕ) → Arrives (a .state) j₂ r₂ h₂ js → j₂ ≡ j → r₂ ≡ r → h₂ ≡ h → Arrives s j r h (is ++ js)
+  then-arrives s j₁ r₁ h₁ is a j₂ r₂ h₂ j r h js b e₁ e₂ e₃ =
+      record {
+        state = b .state;
+        way = leads-then l s (a .state) (b .state) is js (a .way) (b .way);
+        tree-is = b .tree-is ∙ e₁;
+        idle = b .idle;
+        reads-are = b .reads-are ∙ e₂;
+        handed-are = b .handed-are ∙ e₃;
+        going-on = b .going-on;
+      }
+
+  walk-both : (b : BoxWords) (l₁ l₂ : Node) → WalksIn l₁ → WalksIn l₂ → (q : Bool) → leb (size (inner b l₁ l₂)) 127 ≡ q
+      → (k lo j : ℕ) (after : List Range) (qs : List Row) (s : WalkState) → Fit lo (inner b l₁ l₂)
+      → drop j (w .trees) ≡ pickRanges q (rangeAt k (inner b l₁ l₂) ∷ []) (ranges (k + 1) l₁ ++ ranges (k + 1 + size l₁) l₂) ++ after
+      → drop k (w .nodes) ≡ rows lo (inner b l₁ l₂) ++ qs
+      → k + size (inner b l₁ l₂) ≤ w .sizes .nodes → w .sizes .nodes ≤ 32767 → lo + length (leafOrder (inner b l₁ l₂)) ≤ w .sizes .items
+      → j + length (pickRanges q (rangeAt k (inner b l₁ l₂) ∷ []) (ranges (k + 1) l₁ ++ ranges (k + 1 + size l₁) l₂)) ≤ w .sizes .trees → Waits j lo s
+      → Arrives s (j + length (pickRanges q (rangeAt k (inner b l₁ l₂) ∷ []) (ranges (k + 1) l₁ ++ ranges (k + 1 + size l₁) l₂)))
+      (s .reads + cond q (rangeReads hit (inner b l₁ l₂)) (partReads hit l₁ + partReads hit l₂))
+      (s .handed + length (pick q (seen lo (inner b l₁ l₂)) (seenIn lo l₁ ++ seenIn (lo + length (leafOrder l₁)) l₂)))
+      (pick q (seen lo (inner b l₁ l₂)) (seenIn lo l₁ ++ seenIn (lo + length (leafOrder l₁)) l₂))
+  walk-both b l₁ l₂ one two true e k lo j after qs s fit there here room few items trees waits = walk-range (inner b l₁ l₂) k lo j after qs s fit there here room few items (omega arith) waits
+  walk-both b l₁ l₂ one two false e k lo j after qs s fit there here room few items trees waits =
+      let lo₂ = lo + length (leafOrder l₁) in
+      let k₂ = k + 1 + size l₁ in
+      let n₁ = length (ranges (k + 1) l₁) in
+      let both = length-append (leafOrder l₁) (leafOrder l₂) in
+      let parts = length-append (ranges (k + 1) l₁) (ranges k₂ l₂) in
+      let few₁ : length (seenIn lo l₁) ≤ length (leafOrder l₁) = parts-few hit (w .threshold) (w .order) lo l₁ in
+      let there₁ : drop j (w .trees) ≡ ranges (k + 1) l₁ ++ (ranges k₂ l₂ ++ after) = there ∙ append-assoc (ranges (k + 1) l₁) (ranges k₂ l₂) after in
+      let there₂ : drop (j + n₁) (w .trees) ≡ ranges k₂ l₂ ++ after = sym (drop-drop n₁ j (w .trees)) ∙ ap (drop n₁) there₁ ∙ drop-at (ranges (k + 1) l₁) (ranges k₂ l₂ ++ after) n₁ refl in
+      let here₁ : drop (k + 1) (w .nodes) ≡ rows lo l₁ ++ (rows lo₂ l₂ ++ qs) = sym (drop-drop 1 k (w .nodes)) ∙ ap (drop 1) here ∙ append-assoc (rows lo l₁) (rows lo₂ l₂) qs in
+      let here₂ : drop k₂ (w .nodes) ≡ rows lo₂ l₂ ++ qs = sym (drop-drop (size l₁) (k + 1) (w .nodes)) ∙ ap (drop (size l₁)) here₁ ∙ drop-at (rows lo l₁) (rows lo₂ l₂ ++ qs) (size l₁) (length-rows lo l₁) in
+      let a : Arrives s (j + n₁) (s .reads + partReads hit l₁) (s .handed + length (seenIn lo l₁)) (seenIn lo l₁) =
+      one (k + 1) lo j (ranges k₂ l₂ ++ after) (rows lo₂ l₂ ++ qs) s (fit .0) there₁ here₁ (omega arith) few (omega arith) (omega arith) waits in
+      let waits₂ : Waits (j + n₁) lo₂ (a .state) = record { tree-is = a .tree-is; idle = a .idle; going-on = a .going-on; few = omega (arith, a .handed-are, waits .few) } in
+      then-arrives s _ _ _ (seenIn lo l₁) a _ _ _ _ _ _ (seenIn lo₂ l₂)
+      (two k₂ lo₂ (j + n₁) after qs (a .state) (fit .1) there₂ here₂ (omega arith) few (omega arith) (omega arith) waits₂)
+      (omega arith) (omega (arith, a .reads-are)) (omega (arith, a .handed-are, length-append (seenIn lo l₁) (seenIn lo₂ l₂)))
+
+  pub walk-parts : (t : Node) → WalksIn t
+  walk-parts (leaf b ps) k lo j after qs s fit there here room few items trees waits = walk-range (leaf b ps) k lo j after qs s fit there here room few items (omega arith) waits
+  walk-parts (inner b l₁ l₂) k lo j after qs s fit there here room few items trees waits =
+      walk-both b l₁ l₂ (walk-parts l₁) (walk-parts l₂) (leb (size (inner b l₁ l₂)) 127) refl k lo j after qs s fit there here room few items trees waits
+
+  -- ---- the whole walk
+
+  -- What the walk over the records of the tree t comes to.
+  pub record Covers (t : Node) : Type 0 where
+    pub given-are : walkFrom l started .given ≡ seenIn 0 t
+    pub reads-are : walkFrom l started .state .reads ≡ partReads hit t
+    pub handed-are : walkFrom l started .state .handed ≡ length (seenIn 0 t)
+    pub going-on : walkFrom l started .state .status ≡ Going
+
+  pub walk-covers : (t : Node) → Fit 0 t → w .nodes ≡ rows 0 t → w .trees ≡ ranges 0 t → w .sizes .nodes ≡ size t → size t ≤ 32767 → w .sizes .trees ≡ length (ranges 0 t) → length (leafOrder t) ≤ w .sizes .items → Covers t
+  walk-covers t fit en et sn few st items =
+      let a : Arrives started (0 + length (ranges 0 t)) (0 + partReads hit t) (0 + length (seenIn 0 t)) (seenIn 0 t) =
+      walk-parts t 0 0 0 [] [] started fit (et ∙ sym (append-nil (ranges 0 t))) (en ∙ sym (append-nil (rows 0 t))) (omega arith) (omega arith) (omega arith) (omega arith)
+      (record { tree-is = refl; idle = omega arith; going-on = refl; few = omega arith }) in
+      let s = a .state in
+      let done : more (w .sizes .trees) s ≡ false = rw (a .going-on, le-ltb (s .at) (s .last) (a .idle), le-ltb (s .tree) (w .sizes .trees) (omega (arith, a .tree-is))) in
+      let end : walkFrom l started ≡ behind (seenIn 0 t) (quiet s) = a .way .goes ∙ ap (behind (seenIn 0 t)) (walk-none l s done) in
+      record {
+        given-are = ap (λ (u : Turn). u .given) end ∙ append-nil (seenIn 0 t);
+        reads-are = ap (λ (u : Turn). u .state .reads) end ∙ a .reads-are ∙ zero-add (partReads hit t);
+        handed-are = ap (λ (u : Turn). u .state .handed) end ∙ a .handed-are ∙ zero-add (length (seenIn 0 t));
+        going-on = ap (λ (u : Turn). u .state .status) end ∙ a .going-on;
+      }
