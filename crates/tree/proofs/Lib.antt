@@ -1,4 +1,5 @@
 pub mod HitLaws
 pub mod MachineLaws
+pub mod MeetLaws
 pub mod ReadLaws
 pub mod VisitLaws
