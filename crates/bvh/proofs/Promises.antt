@@ -82,7 +82,7 @@ rows-items th order lo (inner b l r) rest most e =
 
 -- ---- no row over the threshold
 
-rows-at-most : (th lo : ℕ) (t : Node) → AtMost th t → (r : Row) → List·Memᴰ r (rows lo t) → r .count ≤ th
+pub rows-at-most : (th lo : ℕ) (t : Node) → AtMost th t → (r : Row) → List·Memᴰ r (rows lo t) → r .count ≤ th
 rows-at-most th lo (leaf b ps) most r m = rw (List·Memᴰ·eq-of-singleton m) most
 rows-at-most th lo (inner b l r₂) most r m =
     ⊎-elim (λ e. rw e (omega arith))
