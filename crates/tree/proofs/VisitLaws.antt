@@ -174,13 +174,13 @@ module _ (hit : BoxWords → Bool) (th : ℕ) (order : List ℕ) where
   parts-at-most p =
       parts-induction (λ lo t is. (rest : List ℕ) → AtMost th t → drop lo order ≡ leafOrder t ++ rest → occurrences p (items is) ≤ occurrences p (leafOrder t)) (visit-at-most p)
       (λ lo b l r xs ys h k rest most e.
-        sum-at-most true p xs ys (leafOrder l) (leafOrder r) (h (leafOrder r ++ rest) (most .0) (first-order order lo l r rest e)) (k rest (most .1) (second-order order lo l r rest e)))
+      sum-at-most true p xs ys (leafOrder l) (leafOrder r) (h (leafOrder r ++ rest) (most .0) (first-order order lo l r rest e)) (k rest (most .1) (second-order order lo l r rest e)))
 
   pub parts-all : (p lo : ℕ) (t : Node) (rest : List ℕ) → Hits hit p t → AtMost th t → drop lo order ≡ leafOrder t ++ rest → occurrences p (leafOrder t) ≤ occurrences p (items (visitParts hit th order lo t))
   parts-all p =
       parts-induction (λ lo t is. (rest : List ℕ) → Hits hit p t → AtMost th t → drop lo order ≡ leafOrder t ++ rest → occurrences p (leafOrder t) ≤ occurrences p (items is)) (visit-all p)
       (λ lo b l r xs ys h k rest hits most e.
-        sum-all true p xs ys (leafOrder l) (leafOrder r) (λ some. refl) (h (leafOrder r ++ rest) (hits .1) (most .0) (first-order order lo l r rest e)) (k rest (hits .2) (most .1) (second-order order lo l r rest e)))
+      sum-all true p xs ys (leafOrder l) (leafOrder r) (λ some. refl) (h (leafOrder r ++ rest) (hits .1) (most .0) (first-order order lo l r rest e)) (k rest (hits .2) (most .1) (second-order order lo l r rest e)))
 
   pub parts-from : (lo : ℕ) (t : Node) (i : ℕ) → List·Memᴰ i (visitParts hit th order lo t) → FromHit hit th order (rows lo t) i
   parts-from =

@@ -1,13 +1,13 @@
 -- Point 3 of the request, as one statement about a build and the walk over its records. Definitions only.
 use Prim.Native.Nat.{ℕ, _+_, _≤_}
-use mathlib.Core.Bool.{Bool, true, not, cond}
+use mathlib.Core.Bool.{Bool, true, cond}
 use mathlib.Core.List.{List, map, List·Memᴰ}
 use mathlib.Core.Logic.{_⊎_}
 use mathlib.Core.Path.{_≡_}
 use lib.Dec.{T, eqb}
-use lib.Ieee.{Float, isNan, le, eq}
+use lib.Ieee.{Float, le, eq}
 use lib.ListN.{length}
-use Rattle.math.specs.Axes.{Axis, coordinate}
+use Rattle.math.specs.Axes.{Axis}
 use Rattle.math.specs.Stored.{valuesOf}
 use Rattle.math.specs.declared.aabb.Aabb.{Aabb}
 use Rattle.records.specs.Axis.{extent, largest, smallest, nought}
@@ -54,11 +54,6 @@ pub record Ordinary (e : Entries) : Type 0 where
   pub bounded : (a : Axis) → Each (e .at) (Bounded largest a) (e .places)
   pub extents : (a : Axis) → T (eq (extentOn a (foldBox (e .at) (e .places))) nought) ⊎ T (le smallest (extentOn a (foldBox (e .at) (e .places))))
 
--- Point 3: a query free of NaN. Infinite and inverted boxes are.
-pub record NanFree (q : Aabb) : Type 0 where
-  pub min-numbers : (a : Axis) → T (not (isNan (coordinate a (q .min))))
-  pub max-numbers : (a : Axis) → T (not (isNan (coordinate a (q .max))))
-
 -- ---- the promises
 
 -- a stored box as floats
@@ -81,8 +76,8 @@ itemsHanded e th given = map (itemAt th (leafOrder (treeOf e th))) given
 pub record Delivered (e : Entries) (th : ℕ) (query : Aabb) (o : Outcome) : Type 0 where
   -- it is refused only with 2
   pub refused-only-with-2 : (o .number ≡ 0) ⊎ (o .number ≡ 2)
-  -- otherwise it hands out every present item whose box meets the query as floats
-  pub every-item-that-meets : o .number ≡ 0 → (p : ℕ) → List·Memᴰ p (e .places) → meetsBox (boxValues (e .at p)) query ≡ true → occurrences p (itemsHanded e th (o .given)) ≡ 1
+  -- otherwise it hands out every present item whose box meets the query as floats. A query with a NaN meets none, so nothing is asked of the query.
+  pub every-item-that-meets : Ordinary e → o .number ≡ 0 → (p : ℕ) → List·Memᴰ p (e .places) → meetsBox (boxValues (e .at p)) query ≡ true → occurrences p (itemsHanded e th (o .given)) ≡ 1
   -- no item twice, and only present ones
   pub none-twice : (p : ℕ) → occurrences p (itemsHanded e th (o .given)) ≤ 1
   pub only-present : (p : ℕ) → occurrences p (itemsHanded e th (o .given)) ≤ occurrences p (e .places)
