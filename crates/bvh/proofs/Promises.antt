@@ -10,7 +10,7 @@ use borrow.Author.Tests.{eq-eqb, ne-eqb, eqb-true}
 use lib.Dec.{eqb}
 use lib.ListN.{length, getD, drop}
 use lib.Seq.{drop-at, drop-drop, getD-drop}
-use Rattle.split.specs.Lists.{occurrences}
+use Rattle.split.specs.Lists.{occurrences, sift, pick}
 use Rattle.split.specs.declared.boxes.BoxWords.{BoxWords}
 use Rattle.bvh.specs.Build.{Entries, treeOf}
 use Rattle.bvh.specs.Decode.{Rising}
@@ -45,6 +45,15 @@ rising-once lo p (x ∷ xs) hs m =
     (λ m′. rw (ne-eqb x p (λ e. omega (arith, none-above (x + 1) p xs (hs .1) m′))) (rising-once (x + 1) p xs (hs .1) m′))
     (List·Memᴰ·cases-cons m)
 
+-- and nothing more than once
+pub rising-at-most : (lo p : ℕ) (xs : List ℕ) → Rising lo xs → occurrences p xs ≤ 1
+rising-at-most lo p [] hs = omega arith
+rising-at-most lo p (x ∷ xs) hs = by (eqb x p) refl (rising-at-most (x + 1) p xs (hs .1))
+  where
+    by : (q : Bool) → eqb x p ≡ q → occurrences p xs ≤ 1 → length (pick q (x ∷ sift (λ y. eqb y p) xs) (sift (λ y. eqb y p) xs)) ≤ 1
+    by true e h = omega (arith, none-below (x + 1) p xs (hs .1) (let same : x ≡ p = eqb-true x p e in omega arith))
+    by false e h = h
+
 -- ---- the items of a leaf
 
 head-is : (order : List ℕ) (lo p : ℕ) (rest : List ℕ) → drop lo order ≡ p ∷ rest → getD order lo 0 ≡ p
@@ -63,7 +72,7 @@ items-by true th order lo (p ∷ []) rest t most e = ap (λ (x : ℕ). x ∷ [])
 items-by true th order lo (p ∷ p₂ ∷ ps) rest t most e = absurd (omega (arith, eqb-true th 1 t))
 items-by false th order lo (p ∷ ps) rest t most e = rw (ne-eqb (length (p ∷ ps)) 0 (λ n. omega arith)) (slice-is order lo (p ∷ ps) rest e)
 
-leaf-items : (th : ℕ) (order : List ℕ) (lo : ℕ) (b : BoxWords) (ps rest : List ℕ) → length ps ≤ th → drop lo order ≡ ps ++ rest
+pub leaf-items : (th : ℕ) (order : List ℕ) (lo : ℕ) (b : BoxWords) (ps rest : List ℕ) → length ps ≤ th → drop lo order ≡ ps ++ rest
     → itemsIn th order (record { box = b; head = lo; count = length ps }) ≡ ps
 leaf-items th order lo b ps rest most e = items-by (eqb th 1) th order lo ps rest refl most e
 
@@ -82,7 +91,7 @@ rows-items th order lo (inner b l r) rest most e =
 
 -- ---- no row over the threshold
 
-rows-at-most : (th lo : ℕ) (t : Node) → AtMost th t → (r : Row) → List·Memᴰ r (rows lo t) → r .count ≤ th
+pub rows-at-most : (th lo : ℕ) (t : Node) → AtMost th t → (r : Row) → List·Memᴰ r (rows lo t) → r .count ≤ th
 rows-at-most th lo (leaf b ps) most r m = rw (List·Memᴰ·eq-of-singleton m) most
 rows-at-most th lo (inner b l r₂) most r m =
     ⊎-elim (λ e. rw e (omega arith))

@@ -1,0 +1,6 @@
+pub mod HitLaws
+pub mod MachineLaws
+pub mod MeetLaws
+pub mod PairLaws
+pub mod ReadLaws
+pub mod VisitLaws

@@ -1,0 +1,1 @@
+// A build and the walk over its records: the two as one.
