@@ -1,2 +1,3 @@
 mod BuildLaws
 mod Read
+mod WalkLaws

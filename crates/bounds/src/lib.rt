@@ -11,10 +11,13 @@ use math::words3::Words3;
 use records::header::Bvh;
 use records::header::Header;
 use records::scale::Scale;
+use walk::core::Counts;
+use walk::core::Walk;
+use walk::state::Sizes;
 ghost use mathlib.Core.Path.{_≡_};
 ghost use Prim.Native.Nat.{_+_, _*_};
 ghost use lib.Ieee.{binary32, ofBits, toBits};
-ghost use lib.ListN.{take};
+ghost use lib.ListN.{length, take};
 ghost use Rattle.float32.specs.Casts.{castI32, low16, shortOf, vertexOf};
 ghost use Rattle.float32.specs.Comparison.{relationOf};
 ghost use Rattle.float32.specs.Counts.{ofCount};
@@ -27,7 +30,9 @@ ghost use Rattle.math.specs.Vec3s.{addOf, subOf, scaleOf, negOf, absOf, dotOf, 
 ghost use Rattle.records.specs.Header.{headerNumber, headerAnswer, headerExit};
 ghost use Rattle.bvh.specs.Entry.{entriesIn, lengthsOf};
 ghost use Rattle.bounds.specs.Numbers.{relationNumber, orderingNumber};
+ghost use Rattle.walk.specs.Walks.{walkOf};
 ghost use Rattle.bounds.specs.Trees.{refusedBy, treeValues, buildAnswer, Answers, HeaderWritten};
+ghost use Rattle.bounds.specs.WalkAnswers.{counted, walkAnswer, WalkAnswered};
 
 // ---- words and floats
 
@@ -457,4 +462,72 @@ pub extern "C" fn bounds_tree_header(out: &mut [u8], bvh: Bvh) -> u32
     ensures { λ r. ⌜ HeaderWritten bvh (now (out .entry)) (now (out .exit)) r ⌝ }
 {
     header_number(records::header::tree_header(out, bvh))
+}
+
+// ---- walks
+
+// What a walk answers: 01's number, 0 where it is not refused, the records read and the positions handed out.
+#[repr(C)]
+pub struct WalkAnswer {
+    pub refusal: u32,
+    pub reads: usize,
+    pub handed: usize,
+}
+
+fn with_counts(number: u32, c: Counts) -> WalkAnswer
+    ensures { λ r. ⌜ r ≡ counted number c ⌝ }
+{
+    WalkAnswer {
+        refusal: number,
+        reads: c.reads,
+        handed: c.handed,
+    }
+}
+
+fn walk_answer(w: Walk) -> WalkAnswer
+    ensures { λ r. ⌜ r ≡ walkAnswer w ⌝ }
+{
+    match w {
+        Walk::Walked(c) => with_counts(0, c),
+        Walk::TooMany => with_counts(
+            1,
+            Counts {
+                reads: 0,
+                handed: 0,
+            },
+        ),
+        Walk::BufferTooShort => with_counts(
+            2,
+            Counts {
+                reads: 0,
+                handed: 0,
+            },
+        ),
+        Walk::TreeRange(c) => with_counts(9, c),
+        Walk::NodeRecord(c) => with_counts(10, c),
+        Walk::TooManyHandedOut(c) => with_counts(11, c),
+    }
+}
+
+// The positions of the items whose records meet the query.
+#[no_mangle]
+pub extern "C" fn bounds_walk(
+    query: Aabb,
+    cen: Vec3,
+    inverse: Vec3,
+    nodes: &[u8],
+    node_count: usize,
+    trees: &[u8],
+    tree_count: usize,
+    item_count: usize,
+    out: &mut [u16],
+) -> WalkAnswer
+    ensures { λ r. ⌜ WalkAnswered (walkOf query cen inverse (record { nodes = «node_count»; trees = «tree_count»; items = «item_count» }) (now (nodes .entry)) (now (trees .entry)) (length (now (out .entry)))) (now (out .entry)) (now (out .exit)) r ⌝ }
+{
+    let sizes = Sizes {
+        nodes: node_count,
+        trees: tree_count,
+        items: item_count,
+    };
+    walk_answer(walk::entry::walk_bvh(query, cen, inverse, sizes, nodes, trees, out))
 }

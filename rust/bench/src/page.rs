@@ -10,7 +10,8 @@ pub fn page(series: &[Series], samples: usize, seed: u64) -> String {
          10 seconds. The ratio is the library's time by the reference's: below 1 the library is faster. A step of the\n\
          library is a call into it; the reference's is compiled into the loop. A build of the library is a call of\n\
          `bounds::build_bvh`, from floats to records in bytes; the reference's is its `build_bvh`, up to records that\n\
-         are not yet bytes.\n\n\
+         are not yet bytes. Of the walk there is no reference: beside it stands the plain Rust one of rust/compare, and\n\
+         what is counted are the records that it reads.\n\n\
          Made by `cargo run --release -p bench -- --write` in rust/, on: {}.\n\n\
          ![Time over size](bench.svg)\n\n{}\n{BUILD}",
         processor(),

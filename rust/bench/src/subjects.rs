@@ -4,6 +4,9 @@ use bounds::bvh::{build_bvh, records_len, work_len, BvhItem};
 use bounds::{float, math, Mat4, Vec3};
 use compare::deep;
 use compare::random::Random;
+use compare::records::Records;
+use compare::walk::{Walk, Walked};
+use compare::walks;
 use oracle::{float as source, math as reference, tree, Aabb};
 use std::hint::black_box;
 
@@ -91,6 +94,30 @@ fn hostile(n: usize) -> Vec<Aabb> {
     deep::corners(n, false).iter().map(at).collect()
 }
 
+/// Queries over one tree of 8,000 leaves, until they have read about so many records: the proved walk, and the plain Rust
+/// one.
+fn queries(reads: usize, seed: u64) -> [Pass; 2] {
+    let mut case = Records::new(seed).whole(8_000);
+    let mut tame = Tame(Random::new(seed));
+    let mut out = vec![0; case.out];
+    let (mut boxes, mut sum) = (Vec::new(), 0);
+    while sum < reads {
+        let min = tame.point().map(|x| x * 0.75);
+        case.query = Aabb { min, max: min.map(|low| low + tame.float().abs() / 5.0) };
+        sum += case.walk().run(&mut out).reads;
+        boxes.push(case.query);
+    }
+    let pass = |walk: fn(&Walk, &mut [u16]) -> Walked| -> Pass {
+        let (case, boxes, mut out) = (case.clone(), boxes.clone(), out.clone());
+        Box::new(move || {
+            for &query in &boxes {
+                black_box(walk(&Walk { query, ..case.walk() }, black_box(&mut out)));
+            }
+        })
+    };
+    [pass(walks::proved), pass(|walk, out| walk.run(out))]
+}
+
 pub fn all() -> Vec<Subject> {
     let step = |name, passes| Subject { name, unit: "calls", sizes: STEPS, passes };
     let build = |name, sizes, passes| Subject { name, unit: "boxes", sizes, passes };
@@ -101,6 +128,7 @@ pub fn all() -> Vec<Subject> {
             builds(vec![Aabb { min: [1.0; 3], max: [2.0; 3] }; n], 4)
         }),
         build("build, hostile list, threshold 1", &[1_000, 4_000, 16_384], |n, _| builds(hostile(n), 1)),
+        Subject { name: "walk", unit: "records read", sizes: &[10_000, 100_000, 1_000_000], passes: queries },
         step("to_short", |n, seed| {
             let x = inputs(n, seed, Tame::float);
             [each(&x, float::to_short), each(&x, source::to_short)]

@@ -125,6 +125,24 @@ bounds_build_answer bounds_build_bvh(size_t entries, uint32_t threshold,
 /* Writes the 128 bytes of a tree's header. Refusals 1 (over 65,535 trees), 2 (under 128 bytes), in this order. */
 uint32_t bounds_tree_header(uint8_t *out, size_t out_len, bounds_bvh bvh);
 
+/* ---- the walk over a tree's records ----
+ *
+ * Refusals 1 (over 65,535 nodes, trees or items), 2 (fewer bytes than 16 for each record, or an output shorter than the
+ * item count) before anything is read; 9 (tree range), 10 (node record), 11 (more handed out than items) as records are
+ * read. Those keep what was handed out before, and the counts so far, the refused record being one of those read.
+ */
+
+typedef struct {
+    uint32_t refusal;
+    size_t reads, handed;  /* records read; positions at the start of the output */
+} bounds_walk_answer;
+
+/* Hands out the positions of the items in leaves whose boxes meet the query. Any bytes will do. */
+bounds_walk_answer bounds_walk(bounds_aabb query, bounds_vec3 cen, bounds_vec3 inverse,
+                               const uint8_t *nodes, size_t nodes_len, size_t node_count,
+                               const uint8_t *trees, size_t trees_len, size_t tree_count, size_t item_count,
+                               uint16_t *out, size_t out_len);
+
 #ifdef __cplusplus
 }
 #endif

@@ -7,6 +7,7 @@
 #![allow(unsafe_code)]
 
 use crate::math::{Mat4, Vec3, Vec4};
+use crate::walk::Records;
 
 /// `bounds_aabb`.
 #[derive(Clone, Copy)]
@@ -60,6 +61,15 @@ pub struct Bvh {
     pub scale: Scale,
     pub trees_address: u64,
     pub trees_count: u32,
+}
+
+/// `bounds_walk_answer`.
+#[derive(Clone, Copy)]
+#[repr(C)]
+pub struct WalkAnswer {
+    pub refusal: u32,
+    pub reads: usize,
+    pub handed: usize,
 }
 
 unsafe extern "C" {
@@ -134,6 +144,20 @@ unsafe extern "C" {
         boxes_len: usize,
     ) -> BuildAnswer;
     fn bounds_tree_header(out: *mut u8, out_len: usize, bvh: Bvh) -> u32;
+    fn bounds_walk(
+        query: Aabb,
+        cen: Vec3,
+        inverse: Vec3,
+        nodes: *const u8,
+        nodes_len: usize,
+        node_count: usize,
+        trees: *const u8,
+        trees_len: usize,
+        tree_count: usize,
+        item_count: usize,
+        out: *mut u16,
+        out_len: usize,
+    ) -> WalkAnswer;
 }
 
 /// `bounds_build_bvh`; the work buffer is lent in its seven parts.
@@ -182,6 +206,30 @@ pub fn tree_header(out: &mut [u8], bvh: Bvh) -> u32 {
     unsafe { bounds_tree_header(out.as_mut_ptr(), out.len(), bvh) }
 }
 
+/// `bounds_walk`.
+pub fn walk(query: Aabb, cen: Vec3, inverse: Vec3, records: &Records, out: &mut [u16]) -> WalkAnswer {
+    let &Records { nodes, nodes_count, trees, trees_count, items_count } = records;
+    // SAFETY: each pointer comes from a slice and goes with that slice's length; the output, an exclusive borrow,
+    // overlaps neither of the others, which are only read. Counts and floats may be any: the library reads records only
+    // where it found the slices long enough for them.
+    unsafe {
+        bounds_walk(
+            query,
+            cen,
+            inverse,
+            nodes.as_ptr(),
+            nodes.len(),
+            nodes_count,
+            trees.as_ptr(),
+            trees.len(),
+            trees_count,
+            items_count,
+            out.as_mut_ptr(),
+            out.len(),
+        )
+    }
+}
+
 // The layouts that the header gives: a change of a struct stops the build here.
 const _: () = {
     assert!(size_of::<Vec3>() == 12 && align_of::<Vec3>() == 4);
@@ -191,6 +239,7 @@ const _: () = {
     assert!(size_of::<Words3>() == 12 && align_of::<Words3>() == 4);
     assert!(size_of::<Scale>() == 36 && align_of::<Scale>() == 4);
     assert!(size_of::<BuildAnswer>() == 104 && align_of::<BuildAnswer>() == 8);
+    assert!(size_of::<WalkAnswer>() == 24 && align_of::<WalkAnswer>() == 8);
     assert!(size_of::<Bvh>() == 96 && align_of::<Bvh>() == 8);
 };
 

@@ -39,6 +39,10 @@ impl Case {
 /// Box, then the two numbers.
 type Record = [i16; 8];
 
+fn bytes(records: &[Record]) -> Vec<u8> {
+    records.iter().flat_map(|r| r.map(i16::to_le_bytes)).flatten().collect()
+}
+
 /// Random cases.
 pub struct Records {
     random: Random,
@@ -65,23 +69,39 @@ impl Records {
             self.scattered(&mut nodes, &mut trees, &mut items);
         } else {
             for _ in 0..self.random.pick(&[0, 1, 1, 1, 2, 3, 5]) {
-                self.tree(&mut nodes, &mut trees, &mut items);
+                let most = self.random.pick(&[1, 4, 12, 40, 200, 300]);
+                let (leaves, limit) = (1 + self.random.below(most), self.random.pick(&[RANGE, RANGE, 3, 9]));
+                self.tree(&mut nodes, &mut trees, &mut items, leaves, limit);
             }
             self.damage(&mut nodes, &mut trees, &mut items);
         }
         self.lent(nodes, trees, items)
     }
 
-    /// A whole tree at the end of the nodes, and its ranges: the node and all below it, or where they are too many for
-    /// one range, those of its children.
-    fn tree(&mut self, nodes: &mut Vec<Record>, trees: &mut Vec<Record>, items: &mut usize) {
-        let most = self.random.pick(&[1, 4, 12, 40, 200, 300]);
+    /// A tree of so many leaves, undamaged, in buffers of exact length.
+    pub fn whole(&mut self, leaves: usize) -> Case {
+        let (mut nodes, mut trees, mut items) = (Vec::new(), Vec::new(), 0);
+        self.tree(&mut nodes, &mut trees, &mut items, leaves, RANGE);
+        let (query, cen, inverse) = (Aabb { min: [0.0; 3], max: [0.0; 3] }, [0.0; 3], [1.0; 3]);
+        let (node_count, tree_count) = (nodes.len(), trees.len());
+        let (nodes, trees) = (bytes(&nodes), bytes(&trees));
+        Case { query, cen, inverse, nodes, node_count, trees, tree_count, item_count: items, out: items }
+    }
+
+    /// A tree at the end of the nodes, and its ranges: the node and all below it, or where they are over `limit`, those
+    /// of its children.
+    fn tree(
+        &mut self,
+        nodes: &mut Vec<Record>,
+        trees: &mut Vec<Record>,
+        items: &mut usize,
+        leaves: usize,
+        limit: usize,
+    ) {
         let within = self.span([-32_767; 3], [32_767; 3]);
-        let leaves = 1 + self.random.below(most);
         let first = nodes.len();
         self.node(nodes, items, within, leaves);
         let (mut at, end) = (first, nodes.len());
-        let limit = self.random.pick(&[RANGE, RANGE, 3, 9]);
         while at < end {
             let node = nodes[at];
             let size = if node[7] == 0 { node[6] as usize } else { 1 };
@@ -188,16 +208,14 @@ impl Records {
     }
 
     fn lent(&mut self, nodes: Vec<Record>, trees: Vec<Record>, items: usize) -> Case {
-        let bytes = |records: &[Record]| records.iter().flat_map(|r| r.map(i16::to_le_bytes)).flatten().collect();
-        let (node_bytes, tree_bytes): (Vec<u8>, Vec<u8>) = (bytes(&nodes), bytes(&trees));
         let (query, cen, inverse) = self.query();
         let mut case = Case {
             query,
             cen,
             inverse,
-            nodes: node_bytes,
+            nodes: bytes(&nodes),
             node_count: nodes.len(),
-            trees: tree_bytes,
+            trees: bytes(&trees),
             tree_count: trees.len(),
             item_count: items,
             out: items,

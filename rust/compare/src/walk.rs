@@ -41,7 +41,8 @@ struct Record {
 
 impl Record {
     fn read(bytes: &[u8], at: usize) -> Record {
-        let short = |i: usize| i16::from_le_bytes([bytes[16 * at + 2 * i], bytes[16 * at + 2 * i + 1]]);
+        let bytes = &bytes[16 * at..][..16];
+        let short = |i: usize| i16::from_le_bytes([bytes[2 * i], bytes[2 * i + 1]]);
         Record {
             min: [short(0), short(1), short(2)],
             max: [short(3), short(4), short(5)],

@@ -1,9 +1,12 @@
-//! Walks over records: a walk and the plain Rust one over the same records, every count, refusal and place compared.
+//! Walks over records: the proved walk and the plain Rust one over the same records, every count, refusal and place
+//! compared.
 
 use crate::lent::Lent;
 use crate::records::{Case, Records};
 use crate::report::{Line, Progress};
 use crate::walk::{Walk, Walked};
+use bounds::walk as proved;
+use bounds::Vec3;
 
 /// How often each refusal was reached, and what was read and handed out in all.
 #[derive(Default)]
@@ -26,6 +29,24 @@ impl Reached {
         let sums = format!("records read: {}; positions handed out: {}", self.reads, self.handed);
         refused.into_iter().chain([walked, sums]).collect()
     }
+}
+
+/// The proved library's walk.
+pub fn proved(walk: &Walk, out: &mut [u16]) -> Walked {
+    let vec3 = |p: [f32; 3]| Vec3::new(p[0], p[1], p[2]);
+    let records = proved::Records {
+        nodes: walk.nodes,
+        nodes_count: walk.node_count,
+        trees: walk.trees,
+        trees_count: walk.tree_count,
+        items_count: walk.item_count,
+    };
+    let (min, max, cen, inverse) = (vec3(walk.query.min), vec3(walk.query.max), vec3(walk.cen), vec3(walk.inverse));
+    let (refusal, counts) = match proved::walk(min, max, cen, inverse, &records, out) {
+        Ok(counts) => (0, counts),
+        Err(refused) => (refused.refusal.number(), refused.counts),
+    };
+    Walked { refusal, reads: counts.reads, handed: counts.handed }
 }
 
 /// `cases` walks by `ours`, which answers for a walk and the output that it is lent.
@@ -84,6 +105,11 @@ mod tests {
         let line = run(1, 20_000, |walk, out| walk.run(out));
         assert_eq!((line.mismatches, line.smallest), (0, None));
         assert!(line.reached.iter().all(|what| !what.ends_with(": 0")), "{:?}", line.reached);
+    }
+
+    #[test]
+    fn the_proved_walk_matches() {
+        assert_eq!(run(3, 20_000, proved).smallest, None);
     }
 
     #[test]

@@ -1,0 +1,92 @@
+//! The walk over a tree's records: which items' boxes a query meets.
+//!
+//! ```
+//! use bounds::walk::{walk, Records};
+//! use bounds::Vec3;
+//!
+//! // A range of one leaf, with the items at positions 0 and 1, in a box from 0 to 10 on each axis.
+//! let record = |a: i16, b: i16| [0, 0, 0, 10, 10, 10, a, b].map(i16::to_le_bytes).concat();
+//! let (nodes, trees) = (record(0, 2), record(0, 1));
+//! let records = Records { nodes: &nodes, nodes_count: 1, trees: &trees, trees_count: 1, items_count: 2 };
+//! let (center, inverse) = (Vec3::ZERO, Vec3::new(1.0, 1.0, 1.0));
+//! let mut out = [0; 2];
+//! let query = (Vec3::new(9.0, 9.0, 9.0), Vec3::new(20.0, 20.0, 20.0));
+//! let counts = walk(query.0, query.1, center, inverse, &records, &mut out)?;
+//! assert_eq!((counts.reads, counts.handed, out), (2, 2, [0, 1]));
+//! # Ok::<(), bounds::walk::Refused>(())
+//! ```
+
+use crate::ffi;
+use crate::{Refusal, Vec3};
+use std::fmt;
+
+/// The records that are walked over. Any bytes will do: damaged ones are refused where they are read.
+#[derive(Clone, Copy, Debug)]
+pub struct Records<'a> {
+    /// Node records, 16 bytes each, in preorder.
+    pub nodes: &'a [u8],
+    /// Nodes, without the padding.
+    pub nodes_count: usize,
+    /// Tree records, 16 bytes each.
+    pub trees: &'a [u8],
+    /// Trees.
+    pub trees_count: usize,
+    /// Positions that leaves may name: the entries of the list at threshold 1, else the present items.
+    pub items_count: usize,
+}
+
+/// What a walk came to.
+#[derive(Clone, Copy, Debug, Default, PartialEq, Eq)]
+pub struct Counts {
+    /// Tree and node records read.
+    pub reads: usize,
+    /// Positions handed out: those at the start of the output.
+    pub handed: usize,
+}
+
+/// A walk that was refused, and how far it had come: what it had handed out is in the output.
+#[derive(Clone, Copy, Debug, PartialEq, Eq)]
+pub struct Refused {
+    /// Why.
+    pub refusal: Refusal,
+    /// With the refused record, where one was read.
+    pub counts: Counts,
+}
+
+/// ```
+/// # use bounds::{walk::{Counts, Refused}, Refusal};
+/// let refused = Refused { refusal: Refusal::NodeRecord, counts: Counts { reads: 3, handed: 0 } };
+/// assert!(refused.to_string().starts_with("refused 10:"));
+/// ```
+impl fmt::Display for Refused {
+    fn fmt(&self, f: &mut fmt::Formatter) -> fmt::Result {
+        let Counts { reads, handed } = self.counts;
+        write!(f, "{} ({reads} records read, {handed} positions handed out)", self.refusal)
+    }
+}
+
+impl std::error::Error for Refused {}
+
+/// Hands out the positions of the items in leaves whose boxes meet the query; those behind stay as they were.
+///
+/// Corners may be infinite; a NaN stands for the centre.
+///
+/// # Errors
+///
+/// Refusals 1 (over 65,535 nodes, trees or items) and 2 (fewer bytes than records, or an output shorter than the item
+/// count) before anything is read; 9, 10 and 11 as records are read.
+pub fn walk(
+    min: Vec3,
+    max: Vec3,
+    bb_center: Vec3,
+    quantum_inverse: Vec3,
+    records: &Records,
+    out: &mut [u16],
+) -> Result<Counts, Refused> {
+    let answer = ffi::walk(ffi::Aabb { min, max }, bb_center, quantum_inverse, records, out);
+    let counts = Counts { reads: answer.reads, handed: answer.handed };
+    match Refusal::from_number(answer.refusal) {
+        Some(refusal) => Err(Refused { refusal, counts }),
+        None => Ok(counts),
+    }
+}
