@@ -1,14 +1,13 @@
 -- Every node that holds an item is hit, where the fold of any places among which the item is, is hit: a node's box is the fold of the places below it. By induction over how a tree grows.
-use Prim.Native.Nat.{ℕ, _+_, _≤_, _<_}
+use Prim.Native.Nat.{ℕ, _+_, _<_}
 use native.Mathlib.Omega.{arith}
 use mathlib.Core.Bool.{Bool, true}
 use mathlib.Core.List.{List, _++_}
 use mathlib.Core.Path.{_≡_, refl, sym, ap₂, _∙_}
-use lib.ListN.{length}
 use Rattle.split.specs.Folding.{foldBox}
 use Rattle.split.specs.Lists.{occurrences, Permutes}
 use Rattle.split.specs.declared.boxes.BoxWords.{BoxWords}
-use Rattle.bvh.specs.Tree.{Node, leaf, inner, Builder, builder, grow, leafOrder}
+use Rattle.bvh.specs.Tree.{Node, inner, Builder, builder, grow, leafOrder}
 use Rattle.bvh.proofs.Lawful.{Lawful, lawful}
 use Rattle.bvh.proofs.Places.{occurrences-append}
 use Rattle.bvh.proofs.TreeLaws.{grow-induction}

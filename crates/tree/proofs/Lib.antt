@@ -1,3 +1,4 @@
+pub mod AnswerLaws
 pub mod HitLaws
 pub mod MachineLaws
 pub mod MeetLaws

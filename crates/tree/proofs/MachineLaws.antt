@@ -1,14 +1,13 @@
 -- The walk over the records of a tree is the visit of the tree: from the number of a node's record on, the machine hands out what the visit does, reads as much, and stands behind the node's last record. By induction over the tree, and over its ranges.
 use Prim.Native.Nat.{ℕ, zero, suc, _+_, _-_, _*_, _≤_, _<_, min, max}
 use native.Mathlib.Omega.{arith}
-use native.Mathlib.Nat.{add-zero, zero-add, add-assoc}
+use native.Mathlib.Nat.{add-zero, zero-add}
 use mathlib.Core.Bool.{Bool, true, false, cond, _||_}
-use mathlib.Core.List.{List, [], _∷_, _++_, append-assoc, append-nil, List·Memᴰ, List·Memᴰ·head, List·Memᴰ·tail, Memᴰ·append-left, Memᴰ·append-right}
-use mathlib.Core.Logic.{⊎-elim}
-use mathlib.Core.Path.{_≡_, refl, sym, ap, ap₂, _∙_, subst}
+use mathlib.Core.List.{List, [], _∷_, _++_, append-assoc, append-nil, List·Memᴰ, List·Memᴰ·head, Memᴰ·append-right}
+use mathlib.Core.Path.{_≡_, refl, sym, ap, _∙_, subst}
 use borrow.Author.Tests.{lt-ltb, le-ltb, eq-eqb, ne-eqb, eqb-true, eqb-false}
 use lib.Dec.{leb, ltb, eqb}
-use lib.IntN.{ℤ, pos}
+use lib.IntN.{pos}
 use lib.ListN.{length, take, drop, length-append, take-append-drop}
 use lib.Seq.{drop-at, drop-drop}
 use lib.Signed.{ltZ}
@@ -16,7 +15,7 @@ use Rattle.records.specs.declared.BvhNode.{BvhNode}
 use Rattle.records.specs.declared.BvhTree.{BvhTree}
 use Rattle.records.specs.declared.scale.Scale.{Scale}
 use Rattle.records.specs.Quantise.{quantiseOf}
-use Rattle.records.specs.Records.{nodeAt, treeAt}
+use Rattle.records.specs.Records.{treeAt}
 use Rattle.split.specs.Lists.{pick}
 use Rattle.split.specs.declared.boxes.BoxWords.{BoxWords}
 use Rattle.bvh.specs.Decode.{Small}
@@ -28,7 +27,7 @@ use Rattle.bvh.specs.Tree.{Node, leaf, inner, boxOf, leafOrder, size}
 use Rattle.bvh.proofs.TreeLaws.{length-rows}
 use Rattle.walk.specs.Boxes.{meets}
 use Rattle.walk.specs.Refusals.{whole, badRange, badNode}
-use Rattle.walk.specs.Step.{Lent, Turn, more, stepOf, atNode, atTree, handing, quiet, onward, entering, passing, strideOf, started}
+use Rattle.walk.specs.Step.{Lent, Turn, more, stepOf, atNode, atTree, handing, quiet, onward, passing, strideOf, started}
 use Rattle.walk.specs.Step as W
 use Rattle.walk.specs.Walks.{joined, walkFrom}
 use Rattle.walk.specs.declared.boxes.Query.{Query}

@@ -3,9 +3,9 @@ use Prim.Native.Nat.{ℕ, _<_}
 use native.Mathlib.Omega.{arith}
 use mathlib.Core.Bool.{Bool, true, false, _&&_}
 use mathlib.Core.List.{List, [], _∷_}
-use mathlib.Core.Path.{_≡_, refl, sym, ap, ap₂, _∙_, subst}
+use mathlib.Core.Path.{_≡_, refl, sym, ap₂, subst}
 use lib.Dec.{T}
-use lib.Ieee.{Float, le}
+use lib.Ieee.{le}
 use lib.ListN.{length}
 use lib.Signed.{leZ}
 use Rattle.math.specs.Axes.{Axis, alongX, alongY, alongZ, coordinate}
@@ -13,9 +13,9 @@ use Rattle.math.specs.declared.aabb.Aabb.{Aabb}
 use Rattle.records.specs.Axis.{unitOn, Measured}
 use Rattle.records.specs.declared.BoundVertex.{BoundVertex}
 use Rattle.records.specs.Scale.{scaleOfBox}
-use Rattle.split.specs.Ends.{low, high, Each}
+use Rattle.split.specs.Ends.{low, high}
 use Rattle.split.specs.Folding.{foldBox}
-use Rattle.split.specs.Lists.{occurrences, Among}
+use Rattle.split.specs.Lists.{Among}
 use Rattle.split.specs.declared.boxes.BoxWords.{BoxWords}
 use Rattle.bvh.proofs.MeetLaws.{all-measured, part-below, part-above}
 use Rattle.bvh.specs.Build.{Entries}

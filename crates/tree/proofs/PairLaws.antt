@@ -1,25 +1,24 @@
 -- Point 3 of the request: a walk over a build's records is refused only with 2, and otherwise hands out every present item that meets the query, none twice, none from a leaf that misses it, within the bound on the readings. The walk is the visit (MachineLaws), and the visit has these properties (VisitLaws, HitLaws, MeetLaws).
-use Prim.Native.Nat.{ℕ, zero, suc, _+_, _-_, _*_, _≤_, _<_}
+use Prim.Native.Nat.{ℕ, _+_, _-_, _*_, _≤_, _<_}
 use native.Mathlib.Omega.{arith}
-use native.Mathlib.Nat.{add-zero, zero-add}
-use mathlib.Core.Bool.{Bool, true, false, cond, _||_}
+use mathlib.Core.Bool.{Bool, true, false, cond}
 use mathlib.Core.List.{List, [], _∷_, _++_, map, append-assoc, append-nil, List·Memᴰ, List·Memᴰ·not-nil, List·Memᴰ·cases-cons, List·Memᴰ·append-cases, List·Memᴰ·eq-of-singleton}
 use mathlib.Core.Logic.{⊎-elim, inl, inr}
-use mathlib.Core.Path.{_≡_, refl, sym, ap, ap₂, _∙_, subst}
-use borrow.Author.Tests.{lt-ltb, le-ltb, ltb-false, eq-eqb, ne-eqb, eqb-true, eqb-false}
-use lib.Dec.{ltb, eqb, T}
+use mathlib.Core.Path.{_≡_, refl, sym, ap, _∙_, subst}
+use borrow.Author.Tests.{le-ltb, ne-eqb, eqb-true}
+use lib.Dec.{ltb, eqb}
 use lib.ListN.{length, getD, drop, length-append}
 use Rattle.math.specs.declared.aabb.Aabb.{Aabb}
 use Rattle.math.specs.declared.vec3.Vec3.{Vec3}
 use Rattle.records.specs.declared.scale.Scale.{Scale}
 use Rattle.records.specs.Scale.{scaleOfBox}
 use Rattle.split.specs.Folding.{foldBox}
-use Rattle.split.specs.Lists.{occurrences, Within, Among}
+use Rattle.split.specs.Lists.{occurrences, Among}
 use Rattle.split.specs.declared.boxes.BoxWords.{BoxWords}
 use Rattle.bvh.specs.Build.{Entries, treeOf, scaleIn, nodesWritten, treesWritten}
 use Rattle.bvh.specs.Decode.{Below, Rising, Small, SmallRows}
 use Rattle.bvh.specs.Flat.{Full, Filled}
-use Rattle.bvh.specs.Output.{over, idOf, nodesBytes, padBytes, treesBytes, capacityOf}
+use Rattle.bvh.specs.Output.{over, nodesBytes, padBytes, treesBytes, capacityOf}
 use Rattle.bvh.specs.Promises.{itemAt}
 use Rattle.bvh.specs.Ranges.{ranges}
 use Rattle.bvh.specs.Rows.{Row, rows}
@@ -33,11 +32,11 @@ use Rattle.bvh.proofs.RowsInLaws.{small-rows}
 use Rattle.bvh.proofs.TreeLaws.{AtMost, grow-induction, grow-at-most, grow-full, leaf-order-permutes, leaf-order-length, leaf-order-within, length-rows}
 use Rattle.bvh.proofs.WordLaws.{below-within, within-below, below-wider, below-at}
 use Rattle.walk.specs.Boxes.{queryOf, meetsBox}
-use Rattle.walk.specs.Step.{Lent, Turn, started}
-use Rattle.walk.specs.Walks.{Outcome, walkOf, walkFrom, ended, statusNumber, tooMany, tooShort, unread, pickOutcome}
+use Rattle.walk.specs.Step.{Lent, started}
+use Rattle.walk.specs.Walks.{Outcome, walkOf, walkFrom, ended, statusNumber, unread, pickOutcome}
 use Rattle.walk.specs.declared.state.Sizes.{Sizes}
-use Rattle.tree.specs.Pair.{itemCount, sizesOf, outcomeOf, Ordinary, boxValues, hitIn, itemsHanded, Delivered}
-use Rattle.tree.specs.Visit.{visitParts, partReads, Hits, FromHit}
+use Rattle.tree.specs.Pair.{sizesOf, outcomeOf, Ordinary, boxValues, hitIn, itemsHanded, Delivered}
+use Rattle.tree.specs.Visit.{visitParts, partReads, Hits}
 use Rattle.tree.proofs.HitLaws.{grown-hits}
 use Rattle.tree.proofs.MachineLaws.{Fit, Written, lent, Sound, Covers, walk-covers}
 use Rattle.tree.proofs.MeetLaws.{part-hit}

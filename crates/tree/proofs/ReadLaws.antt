@@ -1,20 +1,18 @@
 -- What a build wrote is what the walk reads: the record at a number is that of the row, or of the range, with that number.
-use Prim.Native.Nat.{ℕ, zero, suc, _+_, _*_, _≤_, _<_}
+use Prim.Native.Nat.{ℕ, suc, _+_, _*_, _<_}
 use native.Mathlib.Omega.{arith}
-use mathlib.Core.List.{List, [], _∷_, _++_, append-assoc}
-use mathlib.Core.Path.{_≡_, refl, sym, ap, ap₂, _∙_, subst}
-use lib.IntN.{ℤ, pos}
-use lib.ListN.{length, take, drop, take-append-drop, length-append, length-drop}
+use mathlib.Core.List.{List, _∷_, _++_, append-assoc}
+use mathlib.Core.Path.{_≡_, sym, ap, _∙_}
+use lib.IntN.{pos}
+use lib.ListN.{length, take, drop, take-append-drop, length-drop}
 use lib.Seq.{length-take-le}
 use mir.Syntax.{w16}
 use mir.Val.{SFits}
-use Rattle.records.specs.declared.BvhNode.{BvhNode}
-use Rattle.records.specs.declared.BvhTree.{BvhTree}
 use Rattle.records.specs.declared.scale.Scale.{Scale}
 use Rattle.records.specs.Records.{nodeBytes, treeBytes, nodeAt, treeAt, NodeFits, TreeFits}
 use Rattle.records.proofs.Fitting.{quantise-fits}
 use Rattle.records.proofs.ReadBack.{node-back, tree-back}
-use Rattle.bvh.specs.Decode.{Small, SmallRows}
+use Rattle.bvh.specs.Decode.{Small}
 use Rattle.bvh.specs.Output.{nodeOf, nodesBytes, treeRecord, treesBytes}
 use Rattle.bvh.specs.Ranges.{Range}
 use Rattle.bvh.specs.Rows.{Row}

@@ -17,22 +17,32 @@ use Rattle.split.specs.Ends.{low, high, Proper, Bounded, Each}
 use Rattle.split.specs.Folding.{foldBox}
 use Rattle.split.specs.Lists.{occurrences}
 use Rattle.split.specs.declared.boxes.BoxWords.{BoxWords}
-use Rattle.bvh.specs.Build.{Entries, treeOf, scaleIn}
-use Rattle.bvh.specs.Promises.{itemAt}
+use Rattle.bvh.specs.declared.core.Build.{Build}
+use Rattle.bvh.specs.declared.core.Build.the-variants.{Built, TooManyEntries, ThresholdOutside, BufferTooShort, TooManyNodes}
+use Rattle.bvh.specs.declared.core.Lengths.{Lengths}
+use Rattle.bvh.specs.Build.{Entries, treeOf, scaleIn, numberOf}
+use Rattle.bvh.specs.Entry.{Answered}
+use Rattle.bvh.specs.Promises.{itemAt, WellFormed}
 use Rattle.bvh.specs.Ranges.{ranges}
 use Rattle.bvh.specs.Rows.{rows}
 use Rattle.bvh.specs.Tree.{leafOrder, size}
 use Rattle.walk.specs.Boxes.{queryOf, meetsBox, meets}
-use Rattle.walk.specs.Walks.{Outcome, walkOf}
+use Rattle.walk.specs.Walks.{Outcome, walkOf, unread, Promise}
+use Rattle.walk.specs.declared.core.Walk.{Walk}
+use Rattle.walk.specs.declared.core.Walk.the-variants.{Walked}
 use Rattle.walk.specs.declared.boxes.Query.{Query}
 use Rattle.walk.specs.declared.state.Sizes.{Sizes}
+use Rattle.tree.specs.declared.pair.Found.{Found}
 use Rattle.tree.specs.Visit.{FromHit}
 
 -- ---- what the walk is given
 
 -- 01, Walk: as item count the entries at threshold 1, else the present items.
+abbrev pub countFor : ℕ → ℕ → ℕ → ℕ
+countFor th entries present = cond (eqb th 1) entries present
+
 abbrev pub itemCount : Entries → ℕ → ℕ
-itemCount e th = cond (eqb th 1) (e .number) (length (e .places))
+itemCount e th = countFor th (e .number) (length (e .places))
 
 -- 01, Walk: the build's node and tree counts without padding.
 unfoldable pub sizesOf : Entries → ℕ → Sizes
@@ -87,3 +97,24 @@ pub record Delivered (e : Entries) (th : ℕ) (query : Aabb) (o : Outcome) : Typ
   pub count-is : o .counts .handed ≡ length (o .given)
   -- its count of records read is at most nodes plus trees
   pub reads-at-most : o .counts .reads ≤ size (treeOf e th) + length (ranges 0 (treeOf e th))
+
+-- ---- the statement
+
+-- a walk that did not take place: nothing read, nothing handed out
+abbrev pub unwalked : Walk
+unwalked = Walked (record { reads = 0; handed = 0 })
+
+-- the walk after a build: none where it is refused
+abbrev pub walkAfter : Build → Outcome → Outcome
+walkAfter (Built b) o = o
+walkAfter TooManyEntries o = unread 0
+walkAfter ThresholdOutside o = unread 0
+walkAfter BufferTooShort o = unread 0
+walkAfter TooManyNodes o = unread 0
+
+-- Rule P5 (request, point 3), whole, of a build that answers r .build and the walk over its records: what each of the two is; and, if the build is not refused, that its tree is well formed whatever the boxes, and what the walk delivers.
+pub record Paired (e : Entries) (th : ℕ) (l : Lengths) (query : Aabb) (nodes trees order out nodes′ trees′ order′ out′ : List ℕ) (r : Found) : Type 0 where
+  pub build-is : Answered e th l (r .build) nodes trees order nodes′ trees′ order′
+  pub walk-is : Promise (walkAfter (r .build) (outcomeOf e th query nodes′ trees′ (length out))) out out′ (r .walk)
+  pub well-formed : numberOf (r .build) ≡ 0 → WellFormed e th
+  pub delivers : numberOf (r .build) ≡ 0 → Delivered e th query (outcomeOf e th query nodes′ trees′ (length out))

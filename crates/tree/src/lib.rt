@@ -1,1 +1,2 @@
-// A build and the walk over its records: the two as one.
+// A build and the walk over its records, as one.
+pub mod pair;

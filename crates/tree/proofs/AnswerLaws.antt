@@ -1,0 +1,81 @@
+-- What a build that answers Built was, by its definition: nothing refused it, and its values are the tree's. So it stands, as the walk over its records asks.
+use Prim.Native.Nat.{ℕ, zero, suc, _+_, _*_, _≤_, _<_}
+use native.Mathlib.Omega.{arith}
+use native.Mathlib.Nat.{zero-add}
+use mathlib.Core.Bool.{Bool, true, false, _||_}
+use mathlib.Core.List.{List, _∷_}
+use mathlib.Core.Path.{_≡_, refl, ap, subst}
+use borrow.Author.Tests.{ltb-false}
+use lib.Dec.{ltb, T}
+use lib.ListN.{length, getD}
+use Rattle.split.specs.Lists.{pick}
+use Rattle.bvh.specs.declared.core.Build.{Build}
+use Rattle.bvh.specs.declared.core.Build.the-variants.{Built, TooManyEntries, ThresholdOutside, BufferTooShort, TooManyNodes}
+use Rattle.bvh.specs.declared.core.BuiltTree.{BuiltTree}
+use Rattle.bvh.specs.declared.core.Lengths.{Lengths}
+use Rattle.bvh.specs.Build.{Entries, treeOf, builtOf, pickBuild, numberOf, short, answerOf}
+use Rattle.bvh.specs.Decode.{isMarked, marked, Below}
+use Rattle.bvh.specs.Entry.{entriesIn}
+use Rattle.bvh.specs.Tree.{size}
+use Rattle.bvh.proofs.MarkedLaws.{marked-below, marked-rising}
+use Rattle.tree.proofs.PairLaws.{Stands}
+
+-- the values of an answer, or these where it is refused
+abbrev valuesOr : BuiltTree → Build → BuiltTree
+valuesOr d (Built b) = b
+valuesOr d TooManyEntries = d
+valuesOr d ThresholdOutside = d
+valuesOr d BufferTooShort = d
+valuesOr d TooManyNodes = d
+
+-- a test that was passed: it does not hold, and the answer is that of the tests behind it
+passed : (q : Bool) (refusal rest r : Build) → numberOf r ≡ 0 → 0 < numberOf refusal → r ≡ pickBuild q refusal rest → (q ≡ false) × (r ≡ rest)
+passed true refusal rest r z h e = absurd (let n : numberOf r ≡ numberOf refusal = ap numberOf e in omega arith)
+passed false refusal rest r z h e = (refl, e)
+
+neither : (a b : Bool) → (a || b) ≡ false → (a ≡ false) × (b ≡ false)
+neither false b e = (refl, e)
+neither true b e = absurd (subst T e tt)
+
+pub record Passed (e : Entries) (th : ℕ) (b : BuiltTree) : Type 0 where
+  pub few : e .number ≤ 32767
+  pub threshold : 0 < th
+  pub nodes-few : size (treeOf e th) ≤ 32767
+  pub values : b ≡ builtOf e th (treeOf e th)
+
+pub built-passed : (e : Entries) (th : ℕ) (l : Lengths) (b : BuiltTree) → Built b ≡ answerOf e th l → Passed e th b
+unfolding answerOf
+built-passed e th l b a =
+    let t = treeOf e th in
+    let c₁ = passed (ltb 32767 (e .number)) TooManyEntries _ (Built b) refl (omega arith) a in
+    let c₂ = passed (ltb th 1 || ltb 32767 th) ThresholdOutside _ (Built b) refl (omega arith) (c₁ .1) in
+    let c₃ = passed (short (e .number) l) BufferTooShort _ (Built b) refl (omega arith) (c₂ .1) in
+    let c₄ = passed (ltb 32767 (size t)) TooManyNodes (Built (builtOf e th t)) (Built b) refl (omega arith) (c₃ .1) in
+    record {
+      few = ltb-false _ _ (c₁ .0);
+      threshold = ltb-false th 1 (neither (ltb th 1) (ltb 32767 th) (c₂ .0) .0);
+      nodes-few = ltb-false _ _ (c₄ .0);
+      values = ap (valuesOr b) (c₄ .1);
+    }
+
+-- ---- entries in words
+
+marked-few : (at n : ℕ) (ws : List ℕ) → length (marked at n ws) ≤ n
+marked-few at zero ws = omega arith
+marked-few at (suc n) ws = by (isMarked (getD ws (7 * at) 0)) (marked-few (at + 1) n ws)
+  where
+    by : (q : Bool) → length (marked (at + 1) n ws) ≤ n → length (pick q (at ∷ marked (at + 1) n ws) (marked (at + 1) n ws)) ≤ suc n
+    by true h = omega arith
+    by false h = omega arith
+
+pub words-stand : (n th : ℕ) (ws : List ℕ) (b : BuiltTree) → Passed (entriesIn n ws) th b → Stands (entriesIn n ws) th
+unfolding entriesIn
+words-stand n th ws b p =
+    record {
+      few = p .few;
+      threshold = p .threshold;
+      nodes-few = p .nodes-few;
+      rising = marked-rising 0 n ws;
+      below = subst (λ (k : ℕ). Below k (marked 0 n ws)) (zero-add n) (marked-below 0 n ws);
+      present = marked-few 0 n ws;
+    }

@@ -1,0 +1,86 @@
+// Builds a tree and walks it. The contract is what a server may rely on (point 3 of the request).
+use bvh::core::Build;
+use math::aabb::Aabb;
+use walk::core::Counts;
+use walk::core::Walk;
+use walk::state::Sizes;
+ghost use mathlib.Core.Path.{_≡_};
+ghost use Prim.Native.Nat.{_*_};
+ghost use lib.ListN.{length, take};
+ghost use Rattle.bvh.specs.Entry.{entriesIn, lengthsOf};
+ghost use Rattle.tree.specs.Pair.{countFor, unwalked, Paired};
+
+// How a build ended, and the walk over its records.
+pub struct Found {
+    pub build: Build,
+    pub walk: Walk,
+}
+
+// As item count the entries at threshold 1, else the present items.
+fn item_count(threshold: u32, entries: usize, present: usize) -> usize
+    ensures { λ r. ⌜ r ≡ countFor threshold entries present ⌝ }
+{
+    if threshold == 1 { entries } else { present }
+}
+
+// A build that is refused leaves nothing to walk.
+fn not_walked(build: Build) -> Found
+    ensures { λ r. ⌜ (r .build ≡ build) × (r .walk ≡ unwalked) ⌝ }
+{
+    Found {
+        build: build,
+        walk: Walk::Walked(Counts {
+            reads: 0,
+            handed: 0,
+        }),
+    }
+}
+
+// The tree of the present ones among n entries, seven words each, and which positions of its order the query may meet, into the first places of `out`.
+pub fn build_and_walk(
+    n: usize,
+    threshold: u32,
+    query: Aabb,
+    nodes: &mut [u8],
+    trees: &mut [u8],
+    order: &mut [u16],
+    words: &mut [u32],
+    places: &mut [u32],
+    temp: &mut [u32],
+    stack: &mut [u32],
+    first: &mut [u32],
+    count: &mut [u32],
+    boxes: &mut [u32],
+    out: &mut [u16],
+) -> Found
+    ensures { λ r. ⌜ Paired (entriesIn n (take (7 * n) (now (words .entry)))) threshold (lengthsOf (now (nodes .entry)) (now (trees .entry)) (now (order .entry)) (now (words .entry)) (now (places .entry)) (now (temp .entry)) (now (stack .entry)) (now (first .entry)) (now (count .entry)) (now (boxes .entry))) query (now (nodes .entry)) (now (trees .entry)) (now (order .entry)) (now (out .entry)) (now (nodes .exit)) (now (trees .exit)) (now (order .exit)) (now (out .exit)) r ⌝ }
+{
+    let built = bvh::core::build_core(
+        n,
+        threshold,
+        nodes,
+        trees,
+        order,
+        words,
+        places,
+        temp,
+        stack,
+        first,
+        count,
+        boxes,
+    );
+    let Build::Built(tree) = built else {
+        return not_walked(built);
+    };
+    let sizes = Sizes {
+        nodes: tree.nodes,
+        trees: tree.trees,
+        items: item_count(threshold, n, tree.present),
+    };
+    let scale = tree.scale;
+    let walked = walk::entry::walk_bvh(query, scale.cen, scale.inverse, sizes, nodes, trees, out);
+    Found {
+        build: Build::Built(tree),
+        walk: walked,
+    }
+}
