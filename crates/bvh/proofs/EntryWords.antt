@@ -5,21 +5,21 @@ use native.Mathlib.Omega.{arith}
 use mathlib.Core.Path.{_≡_, refl, sym, ap, _∙_, subst}
 use mathlib.Core.Logic.{_⊎_, inl, inr, ⊎-elim}
 use mathlib.Core.Bool.{Bool, true, false, cond, _&&_, _||_, or-true}
-use mathlib.Core.List.{List, [], _∷_, _++_, append-assoc}
+use mathlib.Core.List.{List, [], _∷_, _++_, append-nil}
 use lib.Dec.{leb, ltb}
-use lib.ListN.{length, getD, take, drop, length-append}
-use lib.Seq.{take-at, getD-at, getD-append-add}
+use lib.ListN.{length, getD, take, drop}
+use lib.Seq.{take-at, getD-append-add}
 use borrow.Author.Tests.{lt-ltb, leb-true, leb-false}
-use Rattle.split.specs.declared.boxes.BoxWords.{BoxWords}
 use Rattle.bvh.specs.declared.core.Build.{Build}
 use Rattle.bvh.specs.declared.core.Build.the-variants.{TooManyEntries, ThresholdOutside, BufferTooShort}
 use Rattle.bvh.specs.declared.core.Lengths.{Lengths}
 use Rattle.bvh.specs.declared.items.BvhItem.{BvhItem}
 use Rattle.bvh.specs.Build.{Entries, short, pickBuild, answerOf, kept, nodesWritten, treesWritten, orderWritten}
-use Rattle.bvh.specs.Decode.{isMarked, marked}
+use Rattle.bvh.specs.Decode.{marked}
 use Rattle.split.specs.Boxes.{boxFrom}
 use Rattle.bvh.specs.Entry.{entriesOf, entriesIn, takenOf, lengthsOf, Answered}
 use Rattle.bvh.specs.Items.{itemWords, wordsOf, boxIn, present}
+use Rattle.bvh.proofs.MarkedLaws.{marked-present}
 use Rattle.bvh.proofs.ItemWords.{length-words, apart, apart-all, length-apart}
 
 -- ---- the entries that the words hold
@@ -37,25 +37,14 @@ box-is (i ∷ is) (suc p) =
     let far : 7 * suc p + 1 ≡ 7 + (7 * p + 1) = omega arith in
     rw far (next-box i (wordsOf is) (7 * p + 1) ∙ box-is is p)
 
-mark-of : (b : Bool) → isMarked (cond b 1 0) ≡ b
-mark-of true = refl
-mark-of false = refl
-
--- the words before those of the items are an earlier entry's
-marked-is : (items : List BvhItem) (at : ℕ) (before : List ℕ) → length before ≡ 7 * at → marked at (length items) (before ++ wordsOf items) ≡ present at items
-marked-is [] at before h = refl
-marked-is (i ∷ is) at before h =
-    let mark : getD (before ++ wordsOf (i ∷ is)) (7 * at) 0 ≡ cond (i .present) 1 0 = getD-at before _ _ 0 (7 * at) h in
-    let more : length (before ++ itemWords i) ≡ 7 * (at + 1) = simp length-append (omega arith) in
-    let rest : marked (at + 1) (length is) (before ++ wordsOf (i ∷ is)) ≡ present (at + 1) is =
-    rw (← append-assoc before (itemWords i) (wordsOf is)) (marked-is is (at + 1) (before ++ itemWords i) more) in
-    simp (mark, rest, mark-of)
+marks-are : (items : List BvhItem) → marked 0 (length items) (wordsOf items) ≡ present 0 items
+marks-are items = ap (marked 0 (length items)) (sym (append-nil (wordsOf items))) ∙ marked-present items []
 
 pub entries-in : (items : List BvhItem) (rest : List ℕ) → entriesIn (length items) (take (7 * length items) (wordsOf items ++ rest)) ≡ entriesOf items
 unfolding entriesIn entriesOf
 entries-in items rest =
     rw (take-at (wordsOf items) rest (7 * length items) (length-words items))
-    (λ j. record { number = length items; at = λ p. box-is items p j; places = marked-is items 0 [] refl j })
+    (λ j. record { number = length items; at = λ p. box-is items p j; places = marks-are items j })
 
 -- ---- the build that is refused before it reads an entry
 short-words : (n : ℕ) (l : Lengths) → l .words < 7 * n → short n l ≡ true

@@ -12,6 +12,7 @@ use borrow.Author.Tests.{leb-true, leb-false, le-leb, lt-leb, lt-ltb, le-ltb}
 use Rattle.split.specs.declared.boxes.BoxWords.{BoxWords}
 use Rattle.split.specs.Boxes.{boxWords}
 use Rattle.split.specs.Lists.{Within, Permutes}
+use Rattle.bvh.specs.Flat.{Full}
 use Rattle.bvh.specs.Rows.{Row, rows, heads, counts, words}
 use Rattle.bvh.specs.Tree.{Node, leaf, inner, Builder, growF, grow, leafOrder, size}
 use Rattle.split.proofs.WithinLaws.{within-append}
@@ -91,11 +92,6 @@ module _ (b : Builder) (law : Lawful b) (th : ℕ) (pos : 0 < th) (P : List ℕ 
   grow-induction ps = inductionF (length ps) ps (omega arith)
 
 -- ---- what the leaves hold
-
--- every leaf has an item
-abbrev pub Full : Node → Type 0
-Full (leaf b ps) = 0 < length ps
-Full (inner b l r) = Full l × Full r
 
 -- no leaf has more than th
 abbrev pub AtMost : ℕ → Node → Type 0

@@ -27,7 +27,7 @@ pub fn put_order(order: &mut [u16], places: &[u32])
 }
 
 // The box whose six words stand from `at` on.
-fn box_from(boxes: &[u32], at: usize) -> BoxWords
+pub fn box_from(boxes: &[u32], at: usize) -> BoxWords
     requires { ⌜ at + 6 ≤ length (now boxes) ⌝ }
     ensures { λ r. ⌜ r ≡ boxFrom (now (boxes .entry)) at ⌝ }
 {

@@ -1,5 +1,4 @@
 // The ranges that a tree's nodes are cut into, found by one scan of its rows.
-use math::words3::Words3;
 use records::BvhTree;
 use records::scale::Scale;
 use split::boxes::BoxWords;
@@ -18,19 +17,7 @@ pub fn row_box(boxes: &[u32], i: usize) -> BoxWords
     requires { ⌜ 6 * i + 6 ≤ length (now boxes) ⌝ }
     ensures { λ r. ⌜ r ≡ rowBox (now (boxes .entry)) i ⌝ }
 {
-    let at = 6 * i;
-    BoxWords {
-        min: Words3 {
-            x: boxes[at],
-            y: boxes[at + 1],
-            z: boxes[at + 2],
-        },
-        max: Words3 {
-            x: boxes[at + 3],
-            y: boxes[at + 4],
-            z: boxes[at + 5],
-        },
-    }
+    crate::emit::box_from(boxes, 6 * i)
 }
 
 // The record of the tree at row `first`, whose nodes end before `last`.

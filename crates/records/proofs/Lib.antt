@@ -2,6 +2,7 @@ pub mod AxisLaws
 pub mod Examples
 mod Fields
 pub mod Fitting
+pub mod HandWalk
 pub mod LittleEndian
 pub mod ReadBack
 pub mod Sizes

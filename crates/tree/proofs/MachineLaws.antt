@@ -14,7 +14,6 @@ use lib.Signed.{ltZ}
 use Rattle.records.specs.declared.BvhNode.{BvhNode}
 use Rattle.records.specs.declared.BvhTree.{BvhTree}
 use Rattle.records.specs.declared.scale.Scale.{Scale}
-use Rattle.records.specs.Quantise.{quantiseOf}
 use Rattle.records.specs.Records.{treeAt}
 use Rattle.split.specs.Lists.{pick}
 use Rattle.split.specs.declared.boxes.BoxWords.{BoxWords}
@@ -25,7 +24,6 @@ use Rattle.bvh.specs.Ranges.{Range, ranges, pickRanges}
 use Rattle.bvh.specs.Rows.{Row, rows}
 use Rattle.bvh.specs.Tree.{Node, leaf, inner, boxOf, leafOrder, size}
 use Rattle.bvh.proofs.TreeLaws.{length-rows}
-use Rattle.walk.specs.Boxes.{meets}
 use Rattle.walk.specs.Refusals.{whole, badRange, badNode}
 use Rattle.walk.specs.Step.{Lent, Turn, more, stepOf, atNode, atTree, handing, quiet, onward, passing, strideOf, started}
 use Rattle.walk.specs.Step as W
@@ -37,6 +35,7 @@ use Rattle.walk.specs.declared.state.Status.the-variants.{Going}
 use Rattle.walk.specs.declared.state.WalkState.{WalkState}
 use Rattle.walk.proofs.StepLaws.{step-node, step-tree, node-handing, node-onward, tree-entered, tree-passed}
 use Rattle.walk.proofs.WalkLaws.{walk-more, walk-none}
+use Rattle.tree.specs.Pair.{hitBy}
 use Rattle.tree.specs.Visit.{visit, visitReads, visitParts, rangeReads, partReads}
 use Rattle.tree.proofs.ReadLaws.{node-read, tree-read}
 use Rattle.tree.proofs.VisitLaws.{length-up, visit-few, parts-few}
@@ -121,10 +120,6 @@ lent w =
       nodes = nodesBytes (w .scale) (w .threshold) (w .order) (w .nodes) ++ w .after-nodes;
       trees = treesBytes (w .scale) (w .trees) ++ w .after-trees;
     }
-
--- whether a record with this box meets the query
-abbrev pub hitBy : Query → Scale → BoxWords → Bool
-hitBy q s b = meets q (quantiseOf (b .min) (s .cen) (s .inverse)) (quantiseOf (b .max) (s .cen) (s .inverse))
 
 -- A row's numbers fit its record, and its positions lie within the items.
 pub record Sound (w : Written) (r : Row) : Type 0 where

@@ -2,7 +2,6 @@ mod Answers
 mod Choices
 pub mod Examples
 mod Given
-mod HandWalk
 pub mod Handing
 pub mod OutcomeLaws
 pub mod QueryLaws

@@ -11,7 +11,8 @@ use borrow.Author.Tests.{ne-eqb}
 use Rattle.bvh.specs.Rows.{Row, rows, heads, counts, words}
 use Rattle.bvh.specs.Sizes.{bareRows, sizeAt, sized}
 use Rattle.bvh.specs.Tree.{Node, leaf, inner, leafOrder, size}
-use Rattle.bvh.proofs.TreeLaws.{Full, heads-append, counts-append, words-append, length-rows}
+use Rattle.bvh.specs.Flat.{Full}
+use Rattle.bvh.proofs.TreeLaws.{heads-append, counts-append, words-append, length-rows}
 
 -- ---- by place
 

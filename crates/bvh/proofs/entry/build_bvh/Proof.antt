@@ -56,7 +56,8 @@ use Rattle.bvh.specs.Entry.{entriesIn, takenOf, lengthsOf, Answered}
 use Rattle.bvh.specs.Items.{absent, itemWords}
 use Rattle.bvh.proofs.ItemWords.{apart, length-apart, apart-next}
 use Rattle.bvh.proofs.EntryWords.{taken-fits, answers}
-use Rattle.bvh.proofs.HandWalk.{all-passed, all-go, packs, unpacks, room, full, cells, freed}
+use Rattle.records.proofs.HandWalk.{all-passed, all-go}
+use Rattle.bvh.proofs.HandWalk.{packs, unpacks, room, full, cells, freed}
 use Rattle.bvh.proofs.core.Build as B
 use Rattle.bvh.proofs.core.Build.Laws as B′
 use Rattle.bvh.proofs.items.BvhItem as T

@@ -43,7 +43,7 @@ use Rattle.records.specs.declared.BvhNode.{BvhNode}
 use Rattle.records.proofs.BvhNode as S
 use Rattle.records.proofs.BvhNode.Laws as S′
 use Rattle.walk.specs.declared.reader.NodeReader.{NodeReader}
-use Rattle.walk.proofs.HandWalk.{all-passed, all-go}
+use Rattle.records.proofs.HandWalk.{all-passed, all-go}
 use Rattle.walk.proofs.reader.NodeReader as T
 use Rattle.walk.proofs.reader.NodeReader.Laws as T′
 use Rattle.walk.proofs.reader.node_numbered as g

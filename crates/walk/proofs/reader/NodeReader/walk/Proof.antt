@@ -48,7 +48,7 @@ use Rattle.walk.specs.Walks as walks
 use Rattle.walk.specs.declared.core.Walk.{Walk}
 use Rattle.walk.specs.declared.reader.NodeReader.{NodeReader}
 use Rattle.walk.specs.declared.state.Sizes.{Sizes}
-use Rattle.walk.proofs.HandWalk.{all-passed, all-go}
+use Rattle.records.proofs.HandWalk.{all-passed, all-go}
 use Rattle.walk.proofs.core.Walk as B
 use Rattle.walk.proofs.core.Walk.Laws as B′
 use Rattle.walk.proofs.state.Sizes as Z
