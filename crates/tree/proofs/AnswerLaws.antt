@@ -3,7 +3,7 @@ use Prim.Native.Nat.{ℕ, zero, suc, _+_, _*_, _≤_, _<_}
 use native.Mathlib.Omega.{arith}
 use native.Mathlib.Nat.{zero-add}
 use mathlib.Core.Bool.{Bool, true, false, _||_}
-use mathlib.Core.List.{List, _∷_}
+use mathlib.Core.List.{List, [], _∷_, _++_}
 use mathlib.Core.Path.{_≡_, refl, ap, subst}
 use borrow.Author.Tests.{ltb-false}
 use lib.Dec.{ltb, T}
@@ -14,10 +14,12 @@ use Rattle.bvh.specs.declared.core.Build.the-variants.{Built, TooManyEntries, T
 use Rattle.bvh.specs.declared.core.BuiltTree.{BuiltTree}
 use Rattle.bvh.specs.declared.core.Lengths.{Lengths}
 use Rattle.bvh.specs.Build.{Entries, treeOf, builtOf, pickBuild, numberOf, short, answerOf}
-use Rattle.bvh.specs.Decode.{isMarked, marked, Below}
-use Rattle.bvh.specs.Entry.{entriesIn}
+use Rattle.bvh.specs.declared.items.BvhItem.{BvhItem}
+use Rattle.bvh.specs.Decode.{isMarked, marked, Below, Rising}
+use Rattle.bvh.specs.Entry.{entriesIn, entriesOf}
+use Rattle.bvh.specs.Items.{wordsOf, present}
 use Rattle.bvh.specs.Tree.{size}
-use Rattle.bvh.proofs.MarkedLaws.{marked-below, marked-rising}
+use Rattle.bvh.proofs.MarkedLaws.{marked-present, marked-below, marked-rising}
 use Rattle.tree.proofs.PairLaws.{Stands}
 
 -- the values of an answer, or these where it is refused
@@ -58,7 +60,13 @@ built-passed e th l b a =
       values = ap (valuesOr b) (c₄ .1);
     }
 
--- ---- entries in words
+-- ---- the places of the present entries
+
+-- They rise, lie within the list, and are at most as many as it has entries.
+pub record Listed (e : Entries) : Type 0 where
+  pub rising : Rising 0 (e .places)
+  pub below : Below (e .number) (e .places)
+  pub present : length (e .places) ≤ e .number
 
 marked-few : (at n : ℕ) (ws : List ℕ) → length (marked at n ws) ≤ n
 marked-few at zero ws = omega arith
@@ -68,14 +76,19 @@ marked-few at (suc n) ws = by (isMarked (getD ws (7 * at) 0)) (marked-few (at + 
     by true h = omega arith
     by false h = omega arith
 
-pub words-stand : (n th : ℕ) (ws : List ℕ) (b : BuiltTree) → Passed (entriesIn n ws) th b → Stands (entriesIn n ws) th
+-- of entries in words
+pub words-listed : (n : ℕ) (ws : List ℕ) → Listed (entriesIn n ws)
 unfolding entriesIn
-words-stand n th ws b p =
-    record {
-      few = p .few;
-      threshold = p .threshold;
-      nodes-few = p .nodes-few;
-      rising = marked-rising 0 n ws;
-      below = subst (λ (k : ℕ). Below k (marked 0 n ws)) (zero-add n) (marked-below 0 n ws);
-      present = marked-few 0 n ws;
-    }
+words-listed n ws =
+    record { rising = marked-rising 0 n ws; below = subst (λ (k : ℕ). Below k (marked 0 n ws)) (zero-add n) (marked-below 0 n ws); present = marked-few 0 n ws }
+
+-- of a list of items
+pub items-listed : (items : List BvhItem) → Listed (entriesOf items)
+unfolding entriesOf entriesIn
+items-listed items =
+    let l = words-listed (length items) (wordsOf items ++ []) in
+    let same : marked 0 (length items) (wordsOf items ++ []) ≡ present 0 items = marked-present items [] in
+    record { rising = subst (Rising 0) same (l .rising); below = subst (Below (length items)) same (l .below); present = subst (λ (ps : List ℕ). length ps ≤ length items) same (l .present) }
+
+pub stands : (e : Entries) (th : ℕ) (b : BuiltTree) → Listed e → Passed e th b → Stands e th
+stands e th b l p = record { few = p .few; threshold = p .threshold; nodes-few = p .nodes-few; rising = l .rising; below = l .below; present = l .present }

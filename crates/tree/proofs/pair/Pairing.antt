@@ -14,13 +14,12 @@ use Rattle.bvh.specs.declared.core.Lengths.{Lengths}
 use Rattle.bvh.specs.Build.{Entries}
 use Rattle.bvh.specs.Entry.{entriesIn, Answered}
 use Rattle.bvh.proofs.core.Build.{the-type}
-use Rattle.bvh.proofs.Promises.{words-well-formed}
 use Rattle.walk.specs.Walks.{walkOf, unread, Promise}
 use Rattle.walk.specs.declared.core.Walk.{Walk}
 use Rattle.tree.specs.declared.pair.Found.{Found}
-use Rattle.tree.specs.Pair.{countFor, sizesOf, outcomeOf, Delivered, unwalked, Paired}
-use Rattle.tree.proofs.AnswerLaws.{built-passed, words-stand}
-use Rattle.tree.proofs.PairLaws.{delivered}
+use Rattle.tree.specs.Pair.{countFor, sizesOf, outcomeOf, unwalked, Paired}
+use Rattle.tree.proofs.AnswerLaws.{built-passed, words-listed}
+use Rattle.tree.proofs.PointThree.{tree-well-formed, walk-delivers}
 
 module _ (n th : ℕ) (ws : List ℕ) (l : Lengths) (query : Aabb) (nodes trees order out nodes′ trees′ order′ : List ℕ) (b : BuiltTree)
     (build : Answered (entriesIn n ws) th l (Built b) nodes trees order nodes′ trees′ order′) where
@@ -32,19 +31,14 @@ module _ (n th : ℕ) (ws : List ℕ) (l : Lengths) (query : Aabb) (nodes trees 
       let values = built-passed (entriesIn n ws) th l b (build .answer) .values in
       ap (λ (x : BuiltTree). walkOf query (x .scale .cen) (x .scale .inverse) (record { nodes = x .nodes; trees = x .trees; items = countFor th n (x .present) }) nodes′ trees′ (length out)) values
 
-  delivers : Delivered (entriesIn n ws) th query (outcomeOf (entriesIn n ws) th query nodes′ trees′ (length out))
-  delivers =
-      let stands = words-stand n th ws b (built-passed (entriesIn n ws) th l b (build .answer)) in
-      rw (build .nodes-are, build .trees-are) (delivered (entriesIn n ws) th stands query nodes trees (length out))
-
   walked : (out′ : List ℕ) (w : Walk) → Promise (walkOf query (b .scale .cen) (b .scale .inverse) (record { nodes = b .nodes; trees = b .trees; items = countFor th n (b .present) }) nodes′ trees′ (length out)) out out′ w
       → Paired (entriesIn n ws) th l query nodes trees order out nodes′ trees′ order′ out′ (record { build = Built b; walk = w })
   walked out′ w walk =
       record {
         build-is = build;
         walk-is = subst (λ o. Promise o out out′ w) same-walk walk;
-        well-formed = λ z. words-well-formed n th ws (built-passed (entriesIn n ws) th l b (build .answer) .threshold);
-        delivers = λ z. delivers;
+        well-formed = λ z. tree-well-formed (entriesIn n ws) (words-listed n ws) th l nodes trees order nodes′ trees′ order′ b build;
+        delivers = λ z. walk-delivers (entriesIn n ws) (words-listed n ws) th l nodes trees order nodes′ trees′ order′ b build query (length out);
       }
 
 pub paired : (n th : ℕ) (ws : List ℕ) (l : Lengths) (query : Aabb) (nodes trees order out nodes′ trees′ order′ out′ : List ℕ) (r : Build) (b : BuiltTree) (items : ℕ) (w : Walk)

@@ -1,0 +1,27 @@
+-- Point 3 of the request, from the contract of a build alone: whatever answers a build that is not refused, by the definition and with its bytes, has a well formed tree, and the walk over those bytes delivers. What a crate above needs; it holds for entries in words (`words-listed`) and for a list of items (`items-listed`).
+use Prim.Native.Nat.{ℕ}
+use mathlib.Core.List.{List}
+use Rattle.math.specs.declared.aabb.Aabb.{Aabb}
+use Rattle.bvh.specs.declared.core.Build.the-variants.{Built}
+use Rattle.bvh.specs.declared.core.BuiltTree.{BuiltTree}
+use Rattle.bvh.specs.declared.core.Lengths.{Lengths}
+use Rattle.bvh.specs.Build.{Entries}
+use Rattle.bvh.specs.Entry.{Answered}
+use Rattle.bvh.specs.Promises.{WellFormed}
+use Rattle.bvh.proofs.Promises.{well-formed}
+use Rattle.tree.specs.Pair.{outcomeOf, Delivered}
+use Rattle.tree.proofs.AnswerLaws.{Passed, built-passed, Listed, stands}
+use Rattle.tree.proofs.PairLaws.{delivered}
+
+module _ (e : Entries) (listed : Listed e) (th : ℕ) (l : Lengths) (nodes trees order nodes′ trees′ order′ : List ℕ) (b : BuiltTree)
+    (build : Answered e th l (Built b) nodes trees order nodes′ trees′ order′) where
+  passed : Passed e th b
+  passed = built-passed e th l b (build .answer)
+
+  -- whatever the boxes
+  pub tree-well-formed : WellFormed e th
+  tree-well-formed = well-formed e th (passed .threshold) (listed .rising)
+
+  -- whatever the query and the length of the output
+  pub walk-delivers : (query : Aabb) (room : ℕ) → Delivered e th query (outcomeOf e th query nodes′ trees′ room)
+  walk-delivers query room = rw (build .nodes-are, build .trees-are) (delivered e th (stands e th b listed passed) query nodes trees room)
