@@ -1,4 +1,5 @@
 // The tree of a list of places, laid out as rows in preorder. Segment after segment is taken from a stack, since hostile boxes make trees too deep to recurse.
+use split::boxes::BoxWords;
 ghost use mathlib.Core.Path.{_≡_};
 ghost use Prim.Native.Nat.{_+_, _-_, _*_, _≤_, _<_};
 ghost use lib.ListN.{length, set};
@@ -8,6 +9,24 @@ ghost use Rattle.split.specs.Lists.{Within};
 ghost use Rattle.bvh.specs.Laid.{RowPut, InnerPut, Laid};
 ghost use Rattle.bvh.specs.Rows.{Room, Grown};
 ghost use Rattle.bvh.specs.Tree.{builder};
+
+// Row m: a box, a head and a count.
+fn set_row(
+    first: &mut [u32],
+    count: &mut [u32],
+    nodes: &mut [u32],
+    m: usize,
+    around: BoxWords,
+    head: usize,
+    items: usize,
+)
+    requires { ⌜ (m < length (now first)) × (m < length (now count)) × (6 * m + 6 ≤ length (now nodes)) × (head < 65536) × (items < 65536) ⌝ }
+    ensures { λ _. ⌜ RowPut m (record { box = around; head = head; count = items }) (now (first .entry)) (now (count .entry)) (now (nodes .entry)) (now (first .exit)) (now (count .exit)) (now (nodes .exit)) ⌝ }
+{
+    first[m] = head as u32;
+    count[m] = items as u32;
+    split::boxes::put_box(nodes, 6 * m, around);
+}
 
 // Row m: the box of some places, a head and a count.
 fn put_row(
@@ -23,12 +42,11 @@ fn put_row(
     requires { ⌜ (m < length (now first)) × (m < length (now count)) × (6 * m + 6 ≤ length (now nodes)) × (Within (length (now boxes)) (now places)) × (head < 65536) × (items < 65536) ⌝ }
     ensures { λ _. ⌜ RowPut m (record { box = foldBox (boxAt (now (boxes .entry))) (now (places .entry)); head = head; count = items }) (now (first .entry)) (now (count .entry)) (now (nodes .entry)) (now (first .exit)) (now (count .exit)) (now (nodes .exit)) ⌝ }
 {
-    first[m] = head as u32;
-    count[m] = items as u32;
-    split::boxes::put_box(nodes, 6 * m, split::fold::fold_box(boxes, places));
+    let around = split::fold::fold_box(boxes, places);
+    set_row(first, count, nodes, m, around, head, items);
 }
 
-// Row m of an inner node, whose places are split. Their box is folded first: a split permutes them, and with a NaN the order decides.
+// Row m of an inner node, whose places are split. Their box is that of before the split, which permutes them: with a NaN the order decides.
 fn put_inner(
     places: &mut [u32],
     temp: &mut [u32],
@@ -41,8 +59,10 @@ fn put_inner(
     requires { ⌜ (m < length (now first)) × (m < length (now count)) × (6 * m + 6 ≤ length (now nodes)) × (2 ≤ length (now places)) × (length (now places) < 32768) × (length (now places) ≤ length (now temp)) × (Within (length (now boxes)) (now places)) ⌝ }
     ensures { λ r. ⌜ InnerPut (builder (boxAt (now (boxes .entry)))) m (now (places .entry)) (now (places .exit)) (now (first .entry)) (now (count .entry)) (now (nodes .entry)) (now (first .exit)) (now (count .exit)) (now (nodes .exit)) r ⌝ }
 {
-    put_row(first, count, nodes, m, boxes, places, 0, 0);
-    split::divide::divide(places, temp, boxes)
+    let cut = split::divide::divide(places, temp, boxes);
+    let around = cut.around;
+    set_row(first, count, nodes, m, around, 0, 0);
+    cut.first
 }
 
 // Two lengths in the place of the one at `sp`: the stack grows down.

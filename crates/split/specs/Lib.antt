@@ -5,3 +5,4 @@ pub mod Groups
 pub mod Lists
 pub mod Rule
 pub mod Sorted
+pub mod Totals
