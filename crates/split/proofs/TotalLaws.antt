@@ -19,21 +19,22 @@ use Rattle.split.specs.declared.boxes.BoxWords.{BoxWords}
 use Rattle.split.specs.declared.totals.Totals.{Totals}
 use Rattle.split.specs.Boxes.{boxAt, pointAt}
 use Rattle.split.specs.Folding.{startBox, foldStep, foldFrom, foldBox}
+use Rattle.split.specs.Plain.{cornersOf}
 use Rattle.split.specs.Rule.{origin, sumFrom}
 use Rattle.split.specs.Totals.{totalsOf, totalStep, anyNan}
 
 -- ---- by value
 abbrev pub totalsFrom : (ℕ → BoxWords) → Totals → List ℕ → Totals
 totalsFrom at t [] = t
-totalsFrom at t (p ∷ ps) = totalsFrom at (totalStep t (at p)) ps
+totalsFrom at t (p ∷ ps) = totalsFrom at (totalStep t (cornersOf (at p))) ps
 
-min-values : (a b : Words3) → valuesOf (vminWordsOf a b) ≡ totalStep (totalsOf (record { min = a; max = a }) origin) (record { min = b; max = b }) .low
+min-values : (a b : Words3) → valuesOf (vminWordsOf a b) ≡ totalStep (totalsOf (record { min = a; max = a }) origin) (cornersOf (record { min = b; max = b })) .low
 min-values a b = λ i. record { x = vminWord-value (a .x) (b .x) i; y = vminWord-value (a .y) (b .y) i; z = vminWord-value (a .z) (b .z) i }
 
-max-values : (a b : Words3) → valuesOf (vmaxWordsOf a b) ≡ totalStep (totalsOf (record { min = a; max = a }) origin) (record { min = b; max = b }) .high
+max-values : (a b : Words3) → valuesOf (vmaxWordsOf a b) ≡ totalStep (totalsOf (record { min = a; max = a }) origin) (cornersOf (record { min = b; max = b })) .high
 max-values a b = λ i. record { x = vmaxWord-value (a .x) (b .x) i; y = vmaxWord-value (a .y) (b .y) i; z = vmaxWord-value (a .z) (b .z) i }
 
-step-is : (acc b : BoxWords) (s : Vec3) → totalsOf (foldStep acc b) (addOf (addOf s (valuesOf (b .min))) (valuesOf (b .max))) ≡ totalStep (totalsOf acc s) b
+step-is : (acc b : BoxWords) (s : Vec3) → totalsOf (foldStep acc b) (addOf (addOf s (valuesOf (b .min))) (valuesOf (b .max))) ≡ totalStep (totalsOf acc s) (cornersOf b)
 step-is acc b s =
     λ i. record { low = min-values (acc .min) (b .min) i; high = max-values (acc .max) (b .max) i; sum = addOf (addOf s (valuesOf (b .min))) (valuesOf (b .max)) }
 

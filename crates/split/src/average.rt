@@ -1,13 +1,15 @@
 // The average of a node's boxes, and the axis that is split.
 use crate::boxes::BoxWords;
+use crate::boxes::Corners;
 use math::vec3::Vec3;
 ghost use mathlib.Core.Path.{_≡_};
 ghost use Prim.Native.Nat.{_≤_, _<_};
 ghost use lib.ListN.{length};
-ghost use Rattle.split.specs.Boxes.{boxAt, centreOf};
+ghost use Rattle.split.specs.Boxes.{boxAt};
 ghost use Rattle.split.specs.Lists.{Within};
+ghost use Rattle.split.specs.Plain.{Plain};
 ghost use Rattle.float32.specs.Counts.{ofCount};
-ghost use Rattle.math.specs.Vec3s.{_⊘_, scaleOf};
+ghost use Rattle.math.specs.Vec3s.{_⊘_, addOf, scaleOf};
 ghost use Rattle.math.specs.Transform.{half};
 ghost use Rattle.split.specs.Folding.{foldBox};
 ghost use Rattle.split.specs.Rule.{along, averageOf};
@@ -18,12 +20,10 @@ pub enum Axis {
     Z,
 }
 
-pub fn centre(b: BoxWords) -> Vec3
-    ensures { λ r. ⌜ r ≡ centreOf b ⌝ }
+pub fn centre(b: Corners) -> Vec3
+    ensures { λ r. ⌜ r ≡ scaleOf (addOf (b .low) (b .high)) half ⌝ }
 {
-    math::words3::values(b.min)
-        .add(math::words3::values(b.max))
-        .scale(0.5)
+    b.low.add(b.high).scale(0.5)
 }
 
 pub fn along(a: Axis, v: Vec3) -> f32
@@ -51,11 +51,11 @@ fn average(sum: Vec3, n: usize) -> Vec3
 }
 
 // The fold and the average of the places' boxes, in their order.
-pub fn measure(boxes: &[u32], places: &[u32]) -> Measured
-    requires { ⌜ (Within (length (now boxes)) (now places)) × (length (now places) < 65536) ⌝ }
+pub fn measure(boxes: &[u32], places: &[u32], plain: bool) -> Measured
+    requires { ⌜ (Within (length (now boxes)) (now places)) × (length (now places) < 65536) × (Plain plain (now boxes)) ⌝ }
     ensures { λ r. ⌜ (r .around ≡ foldBox (boxAt (now (boxes .entry))) (now (places .entry))) × (r .average ≡ averageOf (boxAt (now (boxes .entry))) (now (places .entry))) ⌝ }
 {
-    let t = crate::totals::total(boxes, places);
+    let t = crate::totals::total(boxes, places, plain);
     Measured {
         around: crate::fold::fold_by_value(boxes, places, t.low, t.high),
         average: average(t.sum, places.len()),

@@ -6,6 +6,7 @@ ghost use Prim.Native.Nat.{_/_, _≤_, _<_};
 ghost use lib.ListN.{length};
 ghost use Rattle.split.specs.Boxes.{boxAt};
 ghost use Rattle.split.specs.Lists.{Within};
+ghost use Rattle.split.specs.Plain.{Plain};
 ghost use Rattle.split.specs.Folding.{foldBox};
 ghost use Rattle.split.specs.Rule.{averageOf, Divided};
 ghost use Rattle.split.specs.Groups.{Settled};
@@ -37,26 +38,26 @@ pub struct Cut {
 }
 
 // The first group, then the second, in place of the places of `a`, by their average, with `t` to work in; how many the first has.
-fn divide_by(a: &mut [u32], t: &mut [u32], boxes: &[u32], avg: Vec3) -> usize
-    requires { ⌜ (2 ≤ length (now a)) × (length (now a) < 32768) × (length (now a) ≤ length (now t)) × (Within (length (now boxes)) (now a)) × (avg ≡ averageOf (boxAt (now boxes)) (now a)) ⌝ }
+fn divide_by(a: &mut [u32], t: &mut [u32], boxes: &[u32], avg: Vec3, plain: bool) -> usize
+    requires { ⌜ (2 ≤ length (now a)) × (length (now a) < 32768) × (length (now a) ≤ length (now t)) × (Within (length (now boxes)) (now a)) × (avg ≡ averageOf (boxAt (now boxes)) (now a)) × (Plain plain (now boxes)) ⌝ }
     ensures { λ r. ⌜ Divided (boxAt (now (boxes .entry))) (now (a .entry)) (now (a .exit)) r ⌝ }
 {
-    let counts = crate::groups::count_below(boxes, a, avg);
+    let counts = crate::groups::count_below(boxes, a, avg, plain);
     let axis = crate::groups::choose_axis(a.len() as u32, counts);
-    let k = crate::groups::partition(a, t, boxes, avg, axis);
+    let k = crate::groups::partition(a, t, boxes, avg, axis, plain);
     let h = settle(a, t, boxes, k);
     crate::groups::larger_first(a, t, h)
 }
 
 // The first group, then the second, in place of the places of `a`, with `t` to work in; their box, and how many the first has.
-pub fn divide(a: &mut [u32], t: &mut [u32], boxes: &[u32]) -> Cut
-    requires { ⌜ (2 ≤ length (now a)) × (length (now a) < 32768) × (length (now a) ≤ length (now t)) × (Within (length (now boxes)) (now a)) ⌝ }
+pub fn divide(a: &mut [u32], t: &mut [u32], boxes: &[u32], plain: bool) -> Cut
+    requires { ⌜ (2 ≤ length (now a)) × (length (now a) < 32768) × (length (now a) ≤ length (now t)) × (Within (length (now boxes)) (now a)) × (Plain plain (now boxes)) ⌝ }
     ensures { λ r. ⌜ (Divided (boxAt (now (boxes .entry))) (now (a .entry)) (now (a .exit)) (r .first)) × (r .around ≡ foldBox (boxAt (now (boxes .entry))) (now (a .entry))) ⌝ }
 {
-    let m = crate::average::measure(boxes, a);
+    let m = crate::average::measure(boxes, a, plain);
     let around = m.around;
     Cut {
         around: around,
-        first: divide_by(a, t, boxes, m.average),
+        first: divide_by(a, t, boxes, m.average, plain),
     }
 }

@@ -10,6 +10,7 @@ ghost use Rattle.split.specs.Boxes.{boxAt};
 ghost use Rattle.split.specs.Folding.{startBox, foldStep, foldBox};
 ghost use Rattle.math.specs.Stored.{valuesOf};
 ghost use Rattle.split.specs.Lists.{Within};
+ghost use Rattle.split.specs.Plain.{Plain};
 ghost use Rattle.split.specs.Totals.{anyNan};
 
 pub fn start_box() -> BoxWords
@@ -88,10 +89,10 @@ pub fn fold_by_value(boxes: &[u32], places: &[u32], low: Vec3, high: Vec3) -> Bo
 }
 
 // The fold of the places' boxes, in their order.
-pub fn fold_box(boxes: &[u32], places: &[u32]) -> BoxWords
-    requires { ⌜ Within (length (now boxes)) (now places) ⌝ }
+pub fn fold_box(boxes: &[u32], places: &[u32], plain: bool) -> BoxWords
+    requires { ⌜ (Within (length (now boxes)) (now places)) × (Plain plain (now boxes)) ⌝ }
     ensures { λ r. ⌜ r ≡ foldBox (boxAt (now (boxes .entry))) (now (places .entry)) ⌝ }
 {
-    let t = crate::totals::total(boxes, places);
+    let t = crate::totals::total(boxes, places, plain);
     fold_by_value(boxes, places, t.low, t.high)
 }

@@ -1,6 +1,6 @@
 // The fold of a node's boxes and their sum, in one pass over the boxes. The fold is by value: that takes no branch and no copy
 // of a word, and tells each word but a NaN's.
-use crate::boxes::BoxWords;
+use crate::boxes::Corners;
 use crate::boxes::Place;
 use math::vec3::Vec3;
 ghost use mathlib.Core.Path.{_≡_};
@@ -8,6 +8,7 @@ ghost use lib.ListN.{length};
 ghost use Rattle.split.specs.Boxes.{boxAt};
 ghost use Rattle.split.specs.Folding.{startBox, foldBox};
 ghost use Rattle.split.specs.Lists.{Within};
+ghost use Rattle.split.specs.Plain.{Plain};
 ghost use Rattle.split.specs.Rule.{origin, sumFrom};
 ghost use Rattle.split.specs.Totals.{totalsOf, totalStep};
 
@@ -33,27 +34,25 @@ fn no_totals() -> Totals
     }
 }
 
-fn total_step(t: Totals, b: BoxWords) -> Totals
+fn total_step(t: Totals, b: Corners) -> Totals
     ensures { λ r. ⌜ r ≡ totalStep t b ⌝ }
 {
-    let low = math::words3::values(b.min);
-    let high = math::words3::values(b.max);
     Totals {
-        low: math::vec3::vmin(t.low, low),
-        high: math::vec3::vmax(t.high, high),
-        sum: t.sum.add(low).add(high),
+        low: math::vec3::vmin(t.low, b.low),
+        high: math::vec3::vmax(t.high, b.high),
+        sum: t.sum.add(b.low).add(b.high),
     }
 }
 
 // The totals of the places' boxes, in their order.
-pub fn total(boxes: &[u32], places: &[u32]) -> Totals
-    requires { ⌜ Within (length (now boxes)) (now places) ⌝ }
+pub fn total(boxes: &[u32], places: &[u32], plain: bool) -> Totals
+    requires { ⌜ (Within (length (now boxes)) (now places)) × (Plain plain (now boxes)) ⌝ }
     ensures { λ r. ⌜ r ≡ totalsOf (foldBox (boxAt (now (boxes .entry))) (now (places .entry))) (sumFrom (boxAt (now (boxes .entry))) origin (now (places .entry))) ⌝ }
 {
     let mut t = no_totals();
     let mut i = 0;
     while i < places.len() {
-        t = total_step(t, crate::boxes::box_at(boxes, Place(places[i])));
+        t = total_step(t, crate::boxes::corners_at(boxes, Place(places[i]), plain));
         i += 1;
     }
     t

@@ -11,7 +11,7 @@ total-requires c κs = search needs
 fold-by-value-requires : tie.Need-fold-by-value-requires
 fold-by-value-requires c κs =
     let e = c .total .ensures in
-    (c .before .before .before .pre, ap (λ (t : Totals). t .low) e, ap (λ (t : Totals). t .high) e)
+    (c .before .before .before .pre .0, ap (λ (t : Totals). t .low) e, ap (λ (t : Totals). t .high) e)
 
 returns : tie.Need-returns
 returns c = search needs

@@ -15,10 +15,10 @@ use native.Mathlib.Omega.{arith}
 use borrow.Author.Needs.{needs}
 
 abbrev Inv-loop : tie.InvT-loop
-Inv-loop boxes places t₀ i₀ t i = Pass (totalsFrom (boxAt boxes)) (length boxes) places (totalsOf startBox origin) t i
+Inv-loop boxes places plain t₀ i₀ t i = Pass (totalsFrom (boxAt boxes)) (length boxes) places (totalsOf startBox origin) t i
 
 abbrev μ-loop : tie.MeasureT-loop
-μ-loop boxes places t₀ i₀ t i = length places - i
+μ-loop boxes places plain t₀ i₀ t i = length places - i
 
 no-totals-requires : tie.Need-no-totals-requires Inv-loop μ-loop
 no-totals-requires c κs = search needs
@@ -28,18 +28,19 @@ loop-holds c =
     let g = c .before .before .before in
     let at = boxAt (g .args .boxes .now) in
     let ps = g .args .places .now in
-    subst (λ (s : Totals). Pass (totalsFrom at) (length (g .args .boxes .now)) ps (totalsOf startBox origin) s 0) (sym (c .no-totals .ensures)) (begin (totalsFrom at) _ ps (totalsOf startBox origin) (g .pre))
+    subst (λ (s : Totals). Pass (totalsFrom at) (length (g .args .boxes .now)) ps (totalsOf startBox origin) s 0) (sym (c .no-totals .ensures)) (begin (totalsFrom at) _ ps (totalsOf startBox origin) (g .pre .0))
 
-mul-t5 : tie.Need-mul-t5 Inv-loop μ-loop
-mul-t5 c = search needs
+mul-t6 : tie.Need-mul-t6 Inv-loop μ-loop
+mul-t6 c = search needs
 
-shared-slice-read-t9 : tie.Need-shared-slice-read-t9 Inv-loop μ-loop
-shared-slice-read-t9 c = search needs
+shared-slice-read-t10 : tie.Need-shared-slice-read-t10 Inv-loop μ-loop
+shared-slice-read-t10 c = search needs
 
-box-at-requires : tie.Need-box-at-requires Inv-loop μ-loop
-box-at-requires c κs =
+corners-at-requires : tie.Need-corners-at-requires Inv-loop μ-loop
+corners-at-requires c κs =
     let l = c .before .before .loop in
-    next-within _ _ (c .before .before .before .before .before .before .args .places .now) _ (l .t) (l .i) (l .inv) (omega arith)
+    let g = c .before .before .before .before .before .before in
+    (next-within _ _ (g .args .places .now) _ (l .t) (l .i) (l .inv) (omega arith), g .pre .1)
 
 total-step-requires : tie.Need-total-step-requires Inv-loop μ-loop
 total-step-requires c κs = search needs
@@ -55,7 +56,7 @@ loop-again c =
     let l = c .before .before .before .before .loop in
     let at = boxAt (c .before .before .before .before .before .before .before .before .args .boxes .now) in
     let ps = c .before .before .before .before .before .before .before .before .args .places .now in
-    let step = c .total-step .ensures ∙ ap (totalStep (l .t)) (c .before .box-at .ensures) in
+    let step = c .total-step .ensures ∙ ap (totalStep (l .t)) (c .before .corners-at .ensures) in
     taken (totalsFrom at) _ ps (totalsOf startBox origin) (l .t) _ (l .i) (l .inv) (omega arith) (ap (λ (s : Totals). totalsFrom at s (drop (l .i + 1) ps)) step)
 
 returns : tie.Need-returns Inv-loop μ-loop
@@ -72,9 +73,9 @@ total-spec =
     μ-loop
     no-totals-requires
     loop-holds
-    mul-t5
-    shared-slice-read-t9
-    box-at-requires
+    mul-t6
+    shared-slice-read-t10
+    corners-at-requires
     total-step-requires
     add-i
     loop-less
