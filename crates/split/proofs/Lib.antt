@@ -8,4 +8,5 @@ mod Rotated
 mod Sifting
 pub mod SortLaws
 mod Steps
+mod TotalLaws
 pub mod WithinLaws

@@ -1,10 +1,15 @@
 // A place in the list of entries, and the box that is kept for it.
+use math::vec3::Vec3;
 use math::words3::Words3;
+ghost use mathlib.Core.Bool.{true};
 ghost use mathlib.Core.Path.{_≡_};
 ghost use mathlib.Core.List.{_++_};
 ghost use Prim.Native.Nat.{_+_, _*_, _≤_};
 ghost use lib.ListN.{length, take, drop};
+ghost use lib.Ieee.{binary32, ofBits};
+ghost use Rattle.math.specs.Stored.{valuesOf};
 ghost use Rattle.split.specs.Boxes.{boxAt, boxWords};
+ghost use Rattle.split.specs.Plain.{Number, Plain, cornersOf};
 
 // A place in the list of entries. A position in the leaf order is another number.
 pub struct Place(pub u32);
@@ -33,6 +38,68 @@ pub fn box_at(boxes: &[u32], place: Place) -> BoxWords
             z: boxes[at + 5],
         },
     }
+}
+
+// The float of a word. Where it is known that no word is a NaN's, no word is tested: a loop is then compiled without the
+// test, and takes half the time.
+pub fn value(word: u32, plain: bool) -> f32
+    requires { ⌜ (plain ≡ true → Number word) ⌝ }
+    ensures { λ r. ⌜ r ≡ ofBits binary32 word ⌝ }
+{
+    if plain {
+        f32::from_bits(word)
+    } else {
+        float32::words::value(word)
+    }
+}
+
+fn values(w: Words3, plain: bool) -> Vec3
+    requires { ⌜ (plain ≡ true → Number (w .x) × Number (w .y) × Number (w .z)) ⌝ }
+    ensures { λ r. ⌜ r ≡ valuesOf w ⌝ }
+{
+    Vec3 {
+        x: value(w.x, plain),
+        y: value(w.y, plain),
+        z: value(w.z, plain),
+    }
+}
+
+// A box by its floats.
+pub struct Corners {
+    pub low: Vec3,
+    pub high: Vec3,
+}
+
+// The floats of the box at a place.
+pub fn corners_at(boxes: &[u32], place: Place, plain: bool) -> Corners
+    requires { ⌜ (7 * place .0 + 7 ≤ length (now boxes)) × (Plain plain (now boxes)) ⌝ }
+    ensures { λ r. ⌜ r ≡ cornersOf (boxAt (now (boxes .entry)) (place .0)) ⌝ }
+{
+    let b = box_at(boxes, place);
+    Corners {
+        low: values(b.min, plain),
+        high: values(b.max, plain),
+    }
+}
+
+// The greater of two, or either of two that are equal.
+fn greater(a: u32, b: u32) -> u32
+    ensures { λ r. ⌜ (a ≤ r) × (b ≤ r) ⌝ }
+{
+    if a < b { b } else { a }
+}
+
+// Whether no word is a NaN's: none is above infinity's but for its sign.
+pub fn all_numbers(words: &[u32]) -> bool
+    ensures { λ r. ⌜ Plain r (now (words .entry)) ⌝ }
+{
+    let mut most = 0;
+    let mut i = 0;
+    while i < words.len() {
+        most = greater(most, words[i] % 0x8000_0000);
+        i += 1;
+    }
+    most <= 0x7f80_0000
 }
 
 // A box's six words, from `at` on.

@@ -1,10 +1,14 @@
 // A node's items split in two.
+use crate::boxes::BoxWords;
+use math::vec3::Vec3;
 ghost use mathlib.Core.Path.{_≡_};
 ghost use Prim.Native.Nat.{_/_, _≤_, _<_};
 ghost use lib.ListN.{length};
 ghost use Rattle.split.specs.Boxes.{boxAt};
 ghost use Rattle.split.specs.Lists.{Within};
-ghost use Rattle.split.specs.Rule.{Divided};
+ghost use Rattle.split.specs.Plain.{Plain};
+ghost use Rattle.split.specs.Folding.{foldBox};
+ghost use Rattle.split.specs.Rule.{averageOf, Divided};
 ghost use Rattle.split.specs.Groups.{Settled};
 
 // Where n sorted items are cut.
@@ -27,15 +31,33 @@ fn settle(a: &mut [u32], t: &mut [u32], boxes: &[u32], k: usize) -> usize
     k
 }
 
-// The first group, then the second, in place of the places of `a`, with `t` to work in; how many the first has.
-pub fn divide(a: &mut [u32], t: &mut [u32], boxes: &[u32]) -> usize
-    requires { ⌜ (2 ≤ length (now a)) × (length (now a) < 32768) × (length (now a) ≤ length (now t)) × (Within (length (now boxes)) (now a)) ⌝ }
+// The box around the places, folded before they are moved, since with a NaN the order decides; and how many the first group has.
+pub struct Cut {
+    pub around: BoxWords,
+    pub first: usize,
+}
+
+// The first group, then the second, in place of the places of `a`, by their average, with `t` to work in; how many the first has.
+fn divide_by(a: &mut [u32], t: &mut [u32], boxes: &[u32], avg: Vec3, plain: bool) -> usize
+    requires { ⌜ (2 ≤ length (now a)) × (length (now a) < 32768) × (length (now a) ≤ length (now t)) × (Within (length (now boxes)) (now a)) × (avg ≡ averageOf (boxAt (now boxes)) (now a)) × (Plain plain (now boxes)) ⌝ }
     ensures { λ r. ⌜ Divided (boxAt (now (boxes .entry))) (now (a .entry)) (now (a .exit)) r ⌝ }
 {
-    let avg = crate::average::average(boxes, a);
-    let counts = crate::groups::count_below(boxes, a, avg);
+    let counts = crate::groups::count_below(boxes, a, avg, plain);
     let axis = crate::groups::choose_axis(a.len() as u32, counts);
-    let k = crate::groups::partition(a, t, boxes, avg, axis);
+    let k = crate::groups::partition(a, t, boxes, avg, axis, plain);
     let h = settle(a, t, boxes, k);
     crate::groups::larger_first(a, t, h)
+}
+
+// The first group, then the second, in place of the places of `a`, with `t` to work in; their box, and how many the first has.
+pub fn divide(a: &mut [u32], t: &mut [u32], boxes: &[u32], plain: bool) -> Cut
+    requires { ⌜ (2 ≤ length (now a)) × (length (now a) < 32768) × (length (now a) ≤ length (now t)) × (Within (length (now boxes)) (now a)) × (Plain plain (now boxes)) ⌝ }
+    ensures { λ r. ⌜ (Divided (boxAt (now (boxes .entry))) (now (a .entry)) (now (a .exit)) (r .first)) × (r .around ≡ foldBox (boxAt (now (boxes .entry))) (now (a .entry))) ⌝ }
+{
+    let m = crate::average::measure(boxes, a, plain);
+    let around = m.around;
+    Cut {
+        around: around,
+        first: divide_by(a, t, boxes, m.average, plain),
+    }
 }

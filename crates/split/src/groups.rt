@@ -10,6 +10,7 @@ ghost use lib.Seq.{paste};
 ghost use lib.Ieee.{lt};
 ghost use Rattle.split.specs.Boxes.{boxAt};
 ghost use Rattle.split.specs.Lists.{oneIf, Within};
+ghost use Rattle.split.specs.Plain.{Plain};
 ghost use Rattle.split.specs.Rule.{above, offset};
 ghost use Rattle.split.specs.Groups.{countsOf, axisBy, stepOf, passes, Parted, LargerFirst};
 
@@ -28,14 +29,14 @@ fn one_if_below(a: f32, b: f32) -> u32
 }
 
 // The counts on the three axes, in one pass.
-pub fn count_below(boxes: &[u32], places: &[u32], avg: Vec3) -> Counts
-    requires { ⌜ (Within (length (now boxes)) (now places)) × (length (now places) < 65536) ⌝ }
+pub fn count_below(boxes: &[u32], places: &[u32], avg: Vec3, plain: bool) -> Counts
+    requires { ⌜ (Within (length (now boxes)) (now places)) × (length (now places) < 65536) × (Plain plain (now boxes)) ⌝ }
     ensures { λ r. ⌜ r ≡ countsOf (boxAt (now (boxes .entry))) avg (now (places .entry)) ⌝ }
 {
     let mut counts = Counts { x: 0, y: 0, z: 0 };
     let mut i = 0;
     while i < places.len() {
-        let c = crate::average::centre(crate::boxes::box_at(boxes, Place(places[i])));
+        let c = crate::average::centre(crate::boxes::corners_at(boxes, Place(places[i]), plain));
         counts = Counts {
             x: counts.x + one_if_below(c.x, avg.x),
             y: counts.y + one_if_below(c.y, avg.y),
@@ -83,13 +84,13 @@ fn step_of(a: Axis) -> usize
 }
 
 // 1 where the place's centre is above the cut, else 0, on the axis that comes `step` words after x. Only that axis is read.
-fn one_if_above(boxes: &[u32], place: Place, step: usize, cut: f32) -> usize
-    requires { ⌜ (7 * place .0 + 7 ≤ length (now boxes)) × (step < 3) ⌝ }
+fn one_if_above(boxes: &[u32], place: Place, step: usize, cut: f32, plain: bool) -> usize
+    requires { ⌜ (7 * place .0 + 7 ≤ length (now boxes)) × (step < 3) × (Plain plain (now boxes)) ⌝ }
     ensures { λ r. ⌜ r ≡ oneIf (passes (now (boxes .entry)) step cut (place .0)) ⌝ }
 {
     let at = 7 * (place.0 as usize) + 1 + step;
-    let low = float32::words::value(boxes[at]);
-    let high = float32::words::value(boxes[at + 3]);
+    let low = crate::boxes::value(boxes[at], plain);
+    let high = crate::boxes::value(boxes[at + 3], plain);
     if (low + high) * 0.5 > cut { 1 } else { 0 }
 }
 
@@ -107,8 +108,15 @@ pub fn paste(dst: &mut [u32], at: usize, src: &[u32], n: usize)
 
 // The places whose centre is above the average on the axis, then the others, in their order; how many are above.
 // Each place is stored at both ends, so that no branch waits for the comparison.
-pub fn partition(a: &mut [u32], t: &mut [u32], boxes: &[u32], avg: Vec3, axis: Axis) -> usize
-    requires { ⌜ (length (now a) ≤ length (now t)) × (Within (length (now boxes)) (now a)) ⌝ }
+pub fn partition(
+    a: &mut [u32],
+    t: &mut [u32],
+    boxes: &[u32],
+    avg: Vec3,
+    axis: Axis,
+    plain: bool,
+) -> usize
+    requires { ⌜ (length (now a) ≤ length (now t)) × (Within (length (now boxes)) (now a)) × (Plain plain (now boxes)) ⌝ }
     ensures { λ r. ⌜ Parted (above (boxAt (now (boxes .entry))) avg axis) (now (a .entry)) (now (a .exit)) r ⌝ }
 {
     let n = a.len();
@@ -120,7 +128,7 @@ pub fn partition(a: &mut [u32], t: &mut [u32], boxes: &[u32], avg: Vec3, axis: A
         let p = a[i];
         a[k] = p;
         t[i - k] = p;
-        k += one_if_above(boxes, Place(p), step, cut);
+        k += one_if_above(boxes, Place(p), step, cut, plain);
         i += 1;
     }
     paste(a, k, t, n - k);

@@ -5,3 +5,4 @@ pub mod divide;
 pub mod fold;
 pub mod groups;
 pub mod merging;
+pub mod totals;

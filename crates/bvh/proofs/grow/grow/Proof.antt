@@ -15,10 +15,10 @@ use Rattle.split.proofs.WithinLaws.{within-take, within-drop}
 use Rattle.bvh.proofs.grow.Going.{Slices, Going, Top, top, start, ended, leaf-turn, inner-turn, segment-length, room-set}
 
 abbrev Inv-loop : tie.InvT-loop
-Inv-loop order₀ temp₀ boxes stack₀ first₀ count₀ nodes₀ threshold n sp₀ lo₀ m₀ order temp stack first count nodes sp lo m = (Going (builder (boxAt boxes)) threshold boxes (record { order = order₀; temp = temp₀; stack = stack₀; first = first₀; count = count₀; nodes = nodes₀ }) (record { order = order; temp = temp; stack = stack; first = first; count = count; nodes = nodes }) sp lo m) × (n ≡ length order₀)
+Inv-loop order₀ temp₀ boxes stack₀ first₀ count₀ nodes₀ threshold plain n sp₀ lo₀ m₀ order temp stack first count nodes sp lo m = (Going (builder (boxAt boxes)) threshold boxes (record { order = order₀; temp = temp₀; stack = stack₀; first = first₀; count = count₀; nodes = nodes₀ }) (record { order = order; temp = temp; stack = stack; first = first; count = count; nodes = nodes }) sp lo m) × (n ≡ length order₀)
 
 abbrev μ-loop : tie.MeasureT-loop
-μ-loop order₀ temp₀ boxes stack₀ first₀ count₀ nodes₀ threshold n sp₀ lo₀ m₀ order temp stack first count nodes sp lo m = 2 * n - m
+μ-loop order₀ temp₀ boxes stack₀ first₀ count₀ nodes₀ threshold plain n sp₀ lo₀ m₀ order temp stack first count nodes sp lo m = 2 * n - m
 
 -- the entry of the function that a turn is in
 abbrev entry : tie.In-loop Inv-loop μ-loop → tie.Start Inv-loop μ-loop
@@ -122,7 +122,7 @@ part-put-row-end c = turn (c .before .before .before .before .before .before) .i
 put-row-requires : tie.Need-put-row-requires Inv-loop μ-loop
 put-row-requires c κs =
     let t = turn (c .before .before .before .before .before .before .before) in
-    (t .in-first, t .in-count, t .in-nodes, segment-within (c .before .before .before .before .before .before .before), omega (arith, t .few), omega (arith, t .few))
+    (t .in-first, t .in-count, t .in-nodes, segment-within (c .before .before .before .before .before .before .before), omega (arith, t .few), omega (arith, t .few), entry (c .before .before .before .before .before .before .before) .pre .2)
 
 add-sp : tie.Need-add-sp Inv-loop μ-loop
 add-sp c =
@@ -165,7 +165,7 @@ put-inner-requires : tie.Need-put-inner-requires Inv-loop μ-loop
 put-inner-requires c κs =
     let t = turn (c .before .before .before .before .before .before .before) in
     let l = segment-long (c .before .before .before .before .before .before .before) in
-    (t .in-first, t .in-count, t .in-nodes, omega (arith, entry (c .before .before .before .before .before .before .before) .pre .1 .threshold, c .before .before .before .before .before .if1 .left), omega (arith, t .few), omega (arith, t .in-temp), segment-within (c .before .before .before .before .before .before .before))
+    (t .in-first, t .in-count, t .in-nodes, omega (arith, entry (c .before .before .before .before .before .before .before) .pre .1 .threshold, c .before .before .before .before .before .if1 .left), omega (arith, t .few), omega (arith, t .in-temp), segment-within (c .before .before .before .before .before .before .before), entry (c .before .before .before .before .before .before .before) .pre .2)
 
 sub-push-two : tie.Need-sub-push-two Inv-loop μ-loop
 sub-push-two c =

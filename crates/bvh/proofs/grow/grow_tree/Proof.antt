@@ -4,7 +4,8 @@ use Rattle.bvh.proofs.grow.grow_tree.Statement.{statement}
 use Rattle.bvh.proofs.grow.grow_tree.Tie as tie
 use Prim.Native.Nat.{_<_}
 use native.Mathlib.Omega.{arith}
-use mathlib.Core.Path.{_≡_, sym, _∙_}
+use mathlib.Core.Path.{_≡_, sym, subst, _∙_}
+use lib.Dec.{T}
 use lib.ListN.{length, take}
 use lib.Seq.{length-take-le}
 use Rattle.split.specs.Boxes.{boxAt}
@@ -13,13 +14,13 @@ use Rattle.bvh.proofs.grow.Finished.{empty, finished}
 
 -- the function's entry, and where `grow` returned before the sizes are put in
 abbrev entry : tie.After-grow → tie.Start
-entry c = c .before .before .before .before .before .before .before .before .before .before .before .before .before .before .before
+entry c = c .before .before .before .before .before .before .before .before .before .before .before .before .before .before .before .before
 
 abbrev laid : tie.After-fill-sizes-arg2 → tie.After-grow
 laid c = c .before .before .before .before .before .before .before .before .before .before .before .before .before .before
 
 some : (c : tie.After-grow) → 0 < length (entry c .args .order .now)
-some c = let z = c .before .before .before .before .before .before .before .if1 .left in omega arith
+some c = let z = c .before .before .before .before .before .before .before .before .if1 .left in omega arith
 
 first-long : (c : tie.After-grow) → length (take (c .grow .result) (c .grow .last .1 .1 .1 .1 .0)) ≡ c .grow .result
 first-long c = length-take-le (c .grow .result) (c .grow .last .1 .1 .1 .1 .0) (omega (arith, c .grow .kept .1 .1 .1 .1 .0, c .grow .ensures .most, entry c .pre .first-room))
@@ -30,7 +31,7 @@ count-long c = length-take-le (c .grow .result) (c .grow .last .1 .1 .1 .1 .1 .0
 put-row-requires : tie.Need-put-row-requires
 put-row-requires c κs =
     let p = c .before .before .before .before .before .before .before .before .before .before .before .before .pre in
-    (omega (arith, p .first-room), omega (arith, p .count-room), omega (arith, p .nodes-room), p .places, omega arith, omega arith)
+    (omega (arith, p .first-room), omega (arith, p .count-room), omega (arith, p .nodes-room), p .places, omega arith, omega arith, record { numbers = λ e. absurd (subst T (sym e) tt) })
 
 same-length : tie.Need-same-length
 same-length c = search needs
@@ -51,8 +52,11 @@ returns c =
     let a = s .args in
     empty _ _ (a .order .now) (a .first .now) (a .count .now) (a .nodes .now) _ _ _ (c .before .before .before .before .before .before .before .before .before .before .before .if1 .taken) (omega (arith, p .first-room)) (omega (arith, p .count-room)) (omega (arith, p .nodes-room)) (c .before .before .before .before .before .before .put-row .ensures)
 
+all-numbers-requires : tie.Need-all-numbers-requires
+all-numbers-requires c κs = search needs
+
 grow-requires : tie.Need-grow-requires
-grow-requires c κs = (let z = c .before .before .before .before .before .before .if1 .left in omega arith, c .before .before .before .before .before .before .before .before .before .before .before .before .before .before .pre)
+grow-requires c κs = (let z = c .before .before .before .before .before .before .before .if1 .left in omega arith, c .before .before .before .before .before .before .before .before .before .before .before .before .before .before .before .pre, c .before .before .before .before .before .before .all-numbers .ensures)
 
 slice-relend-prefix-fill-sizes : tie.Need-slice-relend-prefix-fill-sizes
 slice-relend-prefix-fill-sizes c = search needs
@@ -105,6 +109,7 @@ grow-tree-spec =
     same-length-3
     same-length-4
     returns
+    all-numbers-requires
     grow-requires
     slice-relend-prefix-fill-sizes
     slice-aggregate-fill-sizes

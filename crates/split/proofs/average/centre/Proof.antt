@@ -2,16 +2,10 @@
 use borrow.Author.Needs.{needs}
 use Rattle.split.proofs.average.centre.Statement.{statement}
 use Rattle.split.proofs.average.centre.Tie as tie
-use mathlib.Core.Path.{_≡_, ap, ap₂, _∙_}
+use mathlib.Core.Path.{_≡_, ap, _∙_}
 use Rattle.math.specs.declared.vec3.Vec3.{Vec3}
-use Rattle.math.specs.Vec3s.{addOf, scaleOf}
+use Rattle.math.specs.Vec3s.{scaleOf}
 use Rattle.math.specs.Transform.{half}
-
-values-requires : tie.Need-values-requires
-values-requires c κs = search needs
-
-values-requires-2 : tie.Need-values-requires-2
-values-requires-2 c κs = search needs
 
 add-requires : tie.Need-add-requires
 add-requires c κs = search needs
@@ -20,8 +14,7 @@ scale-requires : tie.Need-scale-requires
 scale-requires c κs = search needs
 
 returns : tie.Need-returns
-returns c = c .scale .ensures ∙ ap (λ (v : Vec3). scaleOf v half) (c .before .add .ensures ∙ ap₂ addOf (c .before .before .before .values .ensures) (c .before .before .values2 .ensures))
+returns c = c .scale .ensures ∙ ap (λ (v : Vec3). scaleOf v half) (c .before .add .ensures)
 
 pub centre-spec : {M : Type 1} → statement M
-centre-spec =
-    tie.close (tie.spec values-requires values-requires-2 add-requires scale-requires returns)
+centre-spec = tie.close (tie.spec add-requires scale-requires returns)

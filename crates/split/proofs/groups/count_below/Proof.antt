@@ -7,7 +7,10 @@ use lib.ListN.{length, getD, drop}
 use lib.Ieee.{lt}
 use Rattle.math.specs.declared.vec3.Vec3.{Vec3}
 use Rattle.split.specs.declared.groups.Counts.{Counts}
-use Rattle.split.specs.Boxes.{boxAt, centreOf}
+use Rattle.math.specs.Vec3s.{addOf, scaleOf}
+use Rattle.math.specs.Transform.{half}
+use Rattle.split.specs.declared.boxes.Corners.{Corners}
+use Rattle.split.specs.Boxes.{boxAt}
 use Rattle.split.specs.Lists.{oneIf}
 use Rattle.split.specs.Rule.{below}
 use Rattle.split.specs.Groups.{countMore}
@@ -18,26 +21,27 @@ use native.Mathlib.Omega.{arith}
 use borrow.Author.Needs.{needs}
 
 abbrev Inv-loop : tie.InvT-loop
-Inv-loop boxes places avg counts₀ i₀ counts i = Pass (onto (boxAt boxes) avg) (length boxes) places (none (boxAt boxes) avg) counts i
+Inv-loop boxes places avg plain counts₀ i₀ counts i = Pass (onto (boxAt boxes) avg) (length boxes) places (none (boxAt boxes) avg) counts i
 
 abbrev μ-loop : tie.MeasureT-loop
-μ-loop boxes places avg counts₀ i₀ counts i = length places - i
+μ-loop boxes places avg plain counts₀ i₀ counts i = length places - i
 
 loop-holds : tie.Need-loop-holds Inv-loop μ-loop
 loop-holds c =
     let at = boxAt (c .before .before .args .boxes .now) in
     begin (onto at (c .before .before .args .avg)) _ (c .before .before .args .places .now) (none at (c .before .before .args .avg)) (c .before .before .pre .0)
 
-mul-t7 : tie.Need-mul-t7 Inv-loop μ-loop
-mul-t7 c = search needs
+mul-t8 : tie.Need-mul-t8 Inv-loop μ-loop
+mul-t8 c = search needs
 
-shared-slice-read-t11 : tie.Need-shared-slice-read-t11 Inv-loop μ-loop
-shared-slice-read-t11 c = search needs
+shared-slice-read-t12 : tie.Need-shared-slice-read-t12 Inv-loop μ-loop
+shared-slice-read-t12 c = search needs
 
-box-at-requires : tie.Need-box-at-requires Inv-loop μ-loop
-box-at-requires c κs =
+corners-at-requires : tie.Need-corners-at-requires Inv-loop μ-loop
+corners-at-requires c κs =
     let l = c .before .before .loop in
-    next-within _ _ (c .before .before .before .before .before .args .places .now) _ (l .counts) (l .i) (l .inv) (omega arith)
+    let g = c .before .before .before .before .before in
+    (next-within _ _ (g .args .places .now) _ (l .counts) (l .i) (l .inv) (omega arith), g .pre .2)
 
 centre-requires : tie.Need-centre-requires Inv-loop μ-loop
 centre-requires c κs = search needs
@@ -45,24 +49,24 @@ centre-requires c κs = search needs
 one-if-below-requires : tie.Need-one-if-below-requires Inv-loop μ-loop
 one-if-below-requires c κs = search needs
 
-add-t13 : tie.Need-add-t13 Inv-loop μ-loop
-add-t13 c =
+add-t14 : tie.Need-add-t14 Inv-loop μ-loop
+add-t14 c =
     let g = c .before .before .before .before .before .before .before .before .before .args in
     omega (arith, c .before .one-if-below .ensures, one-or-none (lt (c .before .before .centre .result .x) (g .avg .x)), small (boxAt (g .boxes .now)) (g .avg) _ (g .places .now) _ _ (c .before .before .before .before .before .before .loop .inv) .0)
 
 one-if-below-requires-2 : tie.Need-one-if-below-requires-2 Inv-loop μ-loop
 one-if-below-requires-2 c κs = search needs
 
-add-t15 : tie.Need-add-t15 Inv-loop μ-loop
-add-t15 c =
+add-t16 : tie.Need-add-t16 Inv-loop μ-loop
+add-t16 c =
     let g = c .before .before .before .before .before .before .before .before .before .before .before .args in
     omega (arith, c .before .one-if-below2 .ensures, one-or-none (lt (c .before .before .before .before .centre .result .y) (g .avg .y)), small (boxAt (g .boxes .now)) (g .avg) _ (g .places .now) _ _ (c .before .before .before .before .before .before .before .before .loop .inv) .1)
 
 one-if-below-requires-3 : tie.Need-one-if-below-requires-3 Inv-loop μ-loop
 one-if-below-requires-3 c κs = search needs
 
-add-t17 : tie.Need-add-t17 Inv-loop μ-loop
-add-t17 c =
+add-t18 : tie.Need-add-t18 Inv-loop μ-loop
+add-t18 c =
     let g = c .before .before .before .before .before .before .before .before .before .before .before .before .before .args in
     omega (arith, c .before .one-if-below3 .ensures, one-or-none (lt (c .before .before .before .before .before .before .centre .result .z) (g .avg .z)), small (boxAt (g .boxes .now)) (g .avg) _ (g .places .now) _ _ (c .before .before .before .before .before .before .before .before .before .before .loop .inv) .2)
 
@@ -80,7 +84,7 @@ loop-again c =
     let at = boxAt (g .boxes .now) in
     let ps = g .places .now in
     let n = l .counts in
-    let centre = c .before .before .before .before .before .before .centre .ensures ∙ ap centreOf (c .before .before .before .before .before .before .before .box-at .ensures) in
+    let centre = c .before .before .before .before .before .before .centre .ensures ∙ ap (λ (e : Corners). scaleOf (addOf (e .low) (e .high)) half) (c .before .before .before .before .before .before .before .corners-at .ensures) in
     let x = c .before .before .before .before .before .one-if-below .ensures ∙ ap (λ (v : Vec3). oneIf (lt (v .x) (g .avg .x))) centre in
     let y = c .before .before .before .one-if-below2 .ensures ∙ ap (λ (v : Vec3). oneIf (lt (v .y) (g .avg .y))) centre in
     let z = c .before .one-if-below3 .ensures ∙ ap (λ (v : Vec3). oneIf (lt (v .z) (g .avg .z))) centre in
@@ -102,16 +106,16 @@ count-below-spec =
     Inv-loop
     μ-loop
     loop-holds
-    mul-t7
-    shared-slice-read-t11
-    box-at-requires
+    mul-t8
+    shared-slice-read-t12
+    corners-at-requires
     centre-requires
     one-if-below-requires
-    add-t13
+    add-t14
     one-if-below-requires-2
-    add-t15
+    add-t16
     one-if-below-requires-3
-    add-t17
+    add-t18
     add-i
     loop-less
     loop-again

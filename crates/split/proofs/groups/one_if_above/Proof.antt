@@ -2,6 +2,7 @@
 use borrow.Author.Needs.{needs}
 use Rattle.split.proofs.groups.one_if_above.Statement.{statement}
 use Rattle.split.proofs.groups.one_if_above.Tie as tie
+use Prim.Native.Nat.{_+_, _*_}
 use mathlib.Core.Path.{_≡_, sym, ap, _∙_}
 use lib.Ieee.{lt}
 use Rattle.math.specs.Vec3s.{_⊕_, _⊗_}
@@ -32,7 +33,9 @@ shared-slice-read-value : tie.Need-shared-slice-read-value
 shared-slice-read-value c = search needs
 
 value-requires : tie.Need-value-requires
-value-requires c κs = search needs
+value-requires c κs =
+    let g = c .before .before .before in
+    λ e. g .pre .2 .numbers e (7 * g .args .place .0 + 1 + g .args .step)
 
 add-value : tie.Need-add-value
 add-value c = search needs
@@ -44,7 +47,9 @@ shared-slice-read-value-2 : tie.Need-shared-slice-read-value-2
 shared-slice-read-value-2 c = search needs
 
 value-requires-2 : tie.Need-value-requires-2
-value-requires-2 c κs = search needs
+value-requires-2 c κs =
+    let g = c .before .before .before .before .before in
+    λ e. g .pre .2 .numbers e (7 * g .args .place .0 + 1 + g .args .step + 3)
 
 returns : tie.Need-returns
 returns c = sym (ap oneIf (sym (test-is (c .before)) ∙ c .if1 .taken))

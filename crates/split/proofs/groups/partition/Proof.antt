@@ -28,10 +28,10 @@ use Rattle.split.proofs.Sifting.{one-or-none}
 use Rattle.split.proofs.Parting.{Parting, begin, next-same, turn, parted, passes-above, step-small}
 
 abbrev Inv-loop : tie.InvT-loop
-Inv-loop a₀ t₀ boxes n step cut k₀ i₀ a t k i = Parting (passes boxes step cut) a₀ t₀ a t k i
+Inv-loop a₀ t₀ boxes plain n step cut k₀ i₀ a t k i = Parting (passes boxes step cut) a₀ t₀ a t k i
 
 abbrev μ-loop : tie.MeasureT-loop
-μ-loop a₀ t₀ boxes n step cut k₀ i₀ a t k i = n - i
+μ-loop a₀ t₀ boxes plain n step cut k₀ i₀ a t k i = n - i
 
 step-of-requires : tie.Need-step-of-requires Inv-loop μ-loop
 step-of-requires c κs = search needs
@@ -68,7 +68,7 @@ one-if-above-requires c κs =
     let l = c .before .before .loop in
     let g = c .before .before .before .before .before .before .before .before in
     let e = next-same _ (g .args .a .now) (g .args .t .now) (l .a) (l .t) (l .k) (l .i) (l .inv) (omega arith) in
-    (rw e (within-at _ (g .args .a .now) (l .i) (g .pre .1) (omega arith)), omega (arith, c .before .before .before .before .step-of .ensures, step-small (g .args .axis)))
+    (rw e (within-at _ (g .args .a .now) (l .i) (g .pre .1) (omega arith)), omega (arith, c .before .before .before .before .step-of .ensures, step-small (g .args .axis)), g .pre .2)
 
 add-k : tie.Need-add-k Inv-loop μ-loop
 add-k c =

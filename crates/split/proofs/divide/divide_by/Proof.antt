@@ -1,7 +1,7 @@
--- `divide::divide` meets its contract: each step by what its call ensures, and the steps by the rule's laws.
+-- `divide::divide_by` meets its contract: each step by what its call ensures, and the steps by the rule's laws.
 use borrow.Author.Needs.{needs}
-use Rattle.split.proofs.divide.divide.Statement.{statement}
-use Rattle.split.proofs.divide.divide.Tie as tie
+use Rattle.split.proofs.divide.divide_by.Statement.{statement}
+use Rattle.split.proofs.divide.divide_by.Tie as tie
 use Prim.Native.Nat.{ℕ}
 use mathlib.Core.Path.{_≡_, subst, ap}
 use mathlib.Core.Bool.{Bool}
@@ -18,7 +18,7 @@ use native.Mathlib.Omega.{arith}
 
 -- the function's entry, from after the partition; and the partition, from after it is settled
 abbrev entry : tie.After-partition → tie.Start
-entry c = c .before .before .before .before .before .before .before .before .before .before .before
+entry c = c .before .before .before .before .before .before .before .before .before
 
 abbrev partition : tie.After-settle → tie.After-partition
 partition c = c .before .before .before .before .before .before .before
@@ -35,9 +35,9 @@ parts : (c : tie.After-partition) → Parted (chosen (boxes-of (entry c)) (place
 parts c =
     let axis = c .before .before .before in
     let counts = c .before .before .before .before in
-    let avg = c .before .before .before .before .before .before in
+    let g = entry c in
     subst (λ (test : ℕ → Bool). Parted test (places-of (entry c)) (c .partition .last .0) (c .partition .result))
-    (chosen-by (boxes-of (entry c)) (places-of (entry c)) (avg .average .result) (counts .count-below .result) (axis .choose-axis .result) (avg .average .ensures) (counts .count-below .ensures) (axis .choose-axis .ensures))
+    (chosen-by (boxes-of (entry c)) (places-of (entry c)) (g .args .avg) (counts .count-below .result) (axis .choose-axis .result) (g .pre .4) (counts .count-below .ensures) (axis .choose-axis .ensures))
     (c .partition .ensures)
 
 -- where the two groups meet
@@ -47,9 +47,6 @@ meets c =
     let p = partition c .partition in
     parted-met (boxes-of (entry (partition c))) (places-of (entry (partition c))) (p .last .0) (c .settle .last .0) (p .result) (c .settle .result) (parts (partition c)) (c .settle .ensures)
 
-average-requires : tie.Need-average-requires
-average-requires c κs = search needs
-
 count-below-requires : tie.Need-count-below-requires
 count-below-requires c κs = search needs
 
@@ -58,8 +55,8 @@ cast-choose-axis c = search needs
 
 choose-axis-requires : tie.Need-choose-axis-requires
 choose-axis-requires c κs =
-    let g = c .before .before .before .before .before .before .before in
-    let avg = c .before .before .average .result in
+    let g = c .before .before .before .before .before in
+    let avg = g .args .avg in
     let e = c .count-below .ensures in (
       omega arith,
       omega (arith, ap (λ (n : Counts). n .x) e, count-le (boxes-of g) avg X (places-of g)),
@@ -97,11 +94,10 @@ returns c =
     let g = entry (partition s) in
     met-divided (boxes-of g) (places-of g) (s .settle .last .0) (f .last .0) (s .settle .result) (f .result) (g .pre .0) (meets s) (f .ensures)
 
-pub divide-spec : {M : Type 1} → statement M
-divide-spec =
+pub divide-by-spec : {M : Type 1} → statement M
+divide-by-spec =
     tie.close
     (tie.spec
-    average-requires
     count-below-requires
     cast-choose-axis
     choose-axis-requires
