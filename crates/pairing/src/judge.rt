@@ -3,7 +3,9 @@ use crate::lists::box_of;
 use crate::lists::is_present;
 use math::aabb::Aabb;
 use std::num::wrapping_add_u64;
+ghost use mathlib.Core.Path.{_≡_};
 ghost use Prim.Native.Nat.{_≤_, _<_};
+ghost use Rattle.bvh.specs.Promises.{itemAt};
 
 // Boxes that meet the query; of those, how many were not handed out; and how many handed out are not present.
 pub struct Met {
@@ -12,20 +14,27 @@ pub struct Met {
     pub stray: u64,
 }
 
-fn wide(x: u16) -> usize {
+fn wide(x: u16) -> usize
+    ensures { λ r. ⌜ r ≡ x ⌝ }
+{
     x as usize
 }
 
-// The item at a position: the place itself at threshold 1, above by the order. One that is in no order is no item.
-fn item_at(threshold: u32, order: &[u16; 700], position: usize) -> usize {
-    if threshold == 1 {
+// The item at a position: the place itself at threshold 1, above by the order.
+fn item_at(threshold: u32, order: &[u16; 700], position: usize) -> usize
+    requires { ⌜ position < 700 ⌝ }
+    ensures { λ r. ⌜ r ≡ itemAt threshold (now (order .entry)) position ⌝ }
+{
+    let ordered = wide(order[position]);
+    if threshold == 1 { position } else { ordered }
+}
+
+// A position that is in no order stands for no item.
+fn item_handed(threshold: u32, order: &[u16; 700], position: usize) -> usize {
+    if position >= 700 {
         return position;
     }
-    if position < 700 {
-        wide(order[position])
-    } else {
-        position
-    }
+    item_at(threshold, order, position)
 }
 
 // 1 where the item had its mark already, or is none.
@@ -51,7 +60,7 @@ pub fn mark_all(
     let mut twice: u64 = 0;
     let mut i = 0;
     while i < handed {
-        let item = item_at(threshold, order, wide(out[i]));
+        let item = item_handed(threshold, order, wide(out[i]));
         twice = wrapping_add_u64(twice, mark(seen, item));
         i += 1;
     }
@@ -63,7 +72,9 @@ fn one_if(yes: bool) -> u64 {
 }
 
 // The entry at a place: whether its box meets the query as floats, and whether it was handed out.
-fn judged(m: Met, list: &[u32; 4900], query: Aabb, place: usize, handed: bool) -> Met {
+fn judged(m: Met, list: &[u32; 4900], query: Aabb, place: usize, handed: bool) -> Met
+    requires { ⌜ place < 700 ⌝ }
+{
     let present = is_present(list, place);
     let meets = present && walk::boxes::meets_box(box_of(list, place), query);
     Met {

@@ -8,8 +8,12 @@ use math::aabb::Aabb;
 use math::vec3::Vec3;
 use split::boxes::BoxWords;
 use split::boxes::Place;
-ghost use Prim.Native.Nat.{_+_, _*_, _≤_};
-ghost use lib.ListN.{length};
+ghost use mathlib.Core.Path.{_≡_};
+ghost use Prim.Native.Nat.{_+_, _*_, _≤_, _<_};
+ghost use lib.ListN.{length, getD};
+ghost use Rattle.split.specs.Boxes.{boxAt};
+ghost use Rattle.bvh.specs.Decode.{isMarked};
+ghost use Rattle.tree.specs.Pair.{boxValues};
 
 // 1 where an entry is present.
 fn presence(s: u32, absent: u32) -> u32 {
@@ -52,25 +56,27 @@ pub fn fill(words: &mut [u32], shape: Shape) -> u32
     s
 }
 
-pub fn is_present(list: &[u32; 4900], place: usize) -> bool {
-    if place < 700 {
-        list[7 * place] != 0
-    } else {
-        false
+pub fn is_present(list: &[u32; 4900], place: usize) -> bool
+    requires { ⌜ place < 700 ⌝ }
+    ensures { λ r. ⌜ r ≡ isMarked (getD (now (list .entry)) (7 * place) 0) ⌝ }
+{
+    list[7 * place] != 0
+}
+
+fn as_floats(b: BoxWords) -> Aabb
+    ensures { λ r. ⌜ r ≡ boxValues b ⌝ }
+{
+    Aabb {
+        min: math::words3::values(b.min),
+        max: math::words3::values(b.max),
     }
 }
 
-// The box at a place; the point 0 where there is none.
-pub fn box_of(list: &[u32; 4900], place: usize) -> Aabb {
-    if place < 700 {
-        let b = split::boxes::box_at(list, Place(place as u32));
-        Aabb {
-            min: math::words3::values(b.min),
-            max: math::words3::values(b.max),
-        }
-    } else {
-        cube(0.0, 0.0)
-    }
+pub fn box_of(list: &[u32; 4900], place: usize) -> Aabb
+    requires { ⌜ place < 700 ⌝ }
+    ensures { λ r. ⌜ r ≡ boxValues (boxAt (now (list .entry)) place) ⌝ }
+{
+    as_floats(split::boxes::box_at(list, Place(place as u32)))
 }
 
 // The same on each axis.

@@ -1,12 +1,12 @@
 // Sixteen queries over a list.
 use crate::draw::Shape;
-use crate::draw::below;
 use crate::draw::drawn_box;
 use crate::draw::next;
 use crate::lists::box_of;
 use crate::lists::cube;
 use math::aabb::Aabb;
 use math::vec3::vadd_f;
+ghost use Prim.Native.Nat.{_≤_, _<_};
 
 // Infinite, inverted and infinite, half infinite, with no number, around all boxes, and beyond them.
 fn wide(k: u32, grain: f32) -> Aabb {
@@ -43,23 +43,31 @@ fn at_box(k: u32, near: Aabb, grain: f32) -> Aabb {
     }
 }
 
+fn upper(s: u32) -> usize {
+    (s / 65536) as usize
+}
+
+// A place in a list of n; 0 where n is 0.
+fn place_of(s: u32, n: usize) -> usize
+    requires { ⌜ n ≤ 700 ⌝ }
+    ensures { λ r. ⌜ r < 700 ⌝ }
+{
+    if n == 0 {
+        return 0;
+    }
+    upper(s) % n
+}
+
 // Query k: from 12 on a box that is drawn as the list's are.
-pub fn query(k: u32, list: &[u32; 4900], shape: Shape, s: u32) -> Aabb {
+pub fn query(k: u32, list: &[u32; 4900], shape: Shape, s: u32) -> Aabb
+    requires { ⌜ shape .entries ≤ 700 ⌝ }
+{
     if k < 6 {
         return wide(k, shape.grain);
     }
     if k < 12 {
-        let place = place_below(next(s), shape.entries);
+        let place = place_of(next(s), shape.entries);
         return at_box(k, box_of(list, place), shape.grain);
     }
     drawn_box(s, shape)
-}
-
-// A number below n; 0 where n is 0.
-fn place_below(s: u32, n: usize) -> usize {
-    if n < 65536 {
-        below(s, n as u32) as usize
-    } else {
-        0
-    }
 }
