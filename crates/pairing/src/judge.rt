@@ -4,7 +4,9 @@ use crate::lists::is_present;
 use math::aabb::Aabb;
 use std::num::wrapping_add_u64;
 ghost use mathlib.Core.Path.{_≡_};
-ghost use Prim.Native.Nat.{_≤_, _<_};
+ghost use mathlib.Core.Bool.{not, _&&_};
+ghost use Prim.Native.Nat.{_+_, _≤_, _<_};
+ghost use Rattle.pairing.specs.Judging.{oneIf, meetsAt, seenAt, Compared};
 ghost use Rattle.bvh.specs.Promises.{itemAt};
 
 // Boxes that meet the query; of those, how many were not handed out; and how many handed out are not present.
@@ -67,25 +69,57 @@ pub fn mark_all(
     twice
 }
 
-fn one_if(yes: bool) -> u64 {
-    if yes { 1 } else { 0 }
+// One more, where it is so.
+fn plus_if(n: u64, yes: bool) -> u64
+    requires { ⌜ n < 700 ⌝ }
+    ensures { λ r. ⌜ r ≡ n + oneIf yes ⌝ }
+{
+    if yes { n + 1 } else { n }
 }
 
-// The entry at a place: whether its box meets the query as floats, and whether it was handed out.
-fn judged(m: Met, list: &[u32; 4900], query: Aabb, place: usize, handed: bool) -> Met
+fn and_not(a: bool, b: bool) -> bool
+    ensures { λ r. ⌜ r ≡ a && not b ⌝ }
+{
+    a && !b
+}
+
+// Whether the entry at a place is present and its box meets the query as floats.
+fn meets_at(list: &[u32; 4900], query: Aabb, place: usize) -> bool
     requires { ⌜ place < 700 ⌝ }
+    ensures { λ r. ⌜ r ≡ meetsAt (now (list .entry)) query place ⌝ }
+{
+    is_present(list, place) && walk::boxes::meets_box(box_of(list, place), query)
+}
+
+fn is_seen(seen: &[u8; 700], place: usize) -> bool
+    requires { ⌜ place < 700 ⌝ }
+    ensures { λ r. ⌜ r ≡ seenAt (now (seen .entry)) place ⌝ }
+{
+    seen[place] != 0
+}
+
+// One more place is compared.
+fn judged(m: Met, list: &[u32; 4900], query: Aabb, seen: &[u8; 700], place: usize) -> Met
+    requires { ⌜ place < 700 ⌝ }
+    requires { ⌜ Compared (now list) query (now seen) place m ⌝ }
+    ensures { λ r. ⌜ Compared (now (list .entry)) query (now (seen .entry)) (place + 1) r ⌝ }
 {
     let present = is_present(list, place);
-    let meets = present && walk::boxes::meets_box(box_of(list, place), query);
+    let meets = meets_at(list, query, place);
+    let handed = is_seen(seen, place);
+    let missed = and_not(meets, handed);
+    let stray = and_not(handed, present);
     Met {
-        meeting: wrapping_add_u64(m.meeting, one_if(meets)),
-        missed: wrapping_add_u64(m.missed, one_if(meets && !handed)),
-        stray: wrapping_add_u64(m.stray, one_if(handed && !present)),
+        meeting: plus_if(m.meeting, meets),
+        missed: plus_if(m.missed, missed),
+        stray: plus_if(m.stray, stray),
     }
 }
 
-// Every place, also those behind the list, which are not present.
-pub fn judge_all(list: &[u32; 4900], query: Aabb, seen: &[u8; 700]) -> Met {
+// Every place is compared, also those behind the list, which are not present.
+pub fn judge_all(list: &[u32; 4900], query: Aabb, seen: &[u8; 700]) -> Met
+    ensures { λ r. ⌜ Compared (now (list .entry)) query (now (seen .entry)) 700 r ⌝ }
+{
     let mut m = Met {
         meeting: 0,
         missed: 0,
@@ -93,7 +127,7 @@ pub fn judge_all(list: &[u32; 4900], query: Aabb, seen: &[u8; 700]) -> Met {
     };
     let mut i = 0;
     while i < 700 {
-        m = judged(m, list, query, i, seen[i] != 0);
+        m = judged(m, list, query, seen, i);
         i += 1;
     }
     m

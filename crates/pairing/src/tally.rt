@@ -1,4 +1,4 @@
-// What is counted, of one query and of many.
+// What is counted, of one query and of many. The sums are proved safe; what they come to is held against the reference's.
 use std::num::wrapping_add_u64;
 
 pub struct Tally {
