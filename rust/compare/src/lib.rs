@@ -4,7 +4,7 @@
 //! - [`inputs`]: hostile and random inputs.
 //! - [`check`]: runs an operation over many inputs and shrinks a mismatch.
 //! - [`build`], [`header`]: trees over lists of boxes, which [`lists`] makes and [`deep`] makes deep.
-//! - [`walks`]: walks over what [`records`] makes, compared with [`walk`], one in plain Rust.
+//! - [`walks`]: walks over what [`records`] makes, compared with [`oracle::walk`], one in plain Rust.
 //! - [`exhaustive`]: operations of one word over all 2^32.
 //! - [`vectors`]: a sample of the reference's answers as a text file.
 //! - [`lent`]: buffers for operations that write into what they are lent.
@@ -22,5 +22,6 @@ pub mod random;
 pub mod records;
 pub mod report;
 pub mod vectors;
-pub mod walk;
 pub mod walks;
+
+pub use oracle::walk;

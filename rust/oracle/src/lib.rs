@@ -31,6 +31,7 @@ pub mod polygon;
 #[cfg(reference)]
 mod reference;
 pub mod tree;
+pub mod walk;
 
 pub type Vec3 = [f32; 3];
 pub type Vec4 = [f32; 4];

@@ -1,11 +1,14 @@
-//! What the proved programs must print: worked out with Rust's own operators and casts, and `boxes` by the reference.
+//! What the proved programs must print: worked out with Rust's own operators and casts, `boxes` and `pairs` by the
+//! reference.
 //!
 //!     table                    the table of hard cases       (crates/hardcases/stdout)
 //!     table --replay           some cases of each operation  (crates/replay/stdin)
 //!     table --count < CASES    those cases counted, with no mismatch  (crates/replay/stdout)
 //!     table --boxes FOLDER     inputs of `boxes`, as files there      (crates/boxes_cases/data, stdout)
+//!     table --pairs            lists built and walked                 (crates/pairs/stdout)
 mod boxes;
 mod cases;
+mod pairs;
 mod replay;
 mod source;
 mod table;
@@ -28,7 +31,11 @@ fn main() -> io::Result<()> {
             (None, _) => fail("--boxes needs a folder for the inputs"),
             (_, Some(missing)) => fail(missing),
         },
-        Some(other) => fail(&format!("unknown word {other}; give none, --replay, --count or --boxes")),
+        Some("--pairs") => match oracle::missing() {
+            None => pairs::print(&mut out)?,
+            Some(missing) => fail(missing),
+        },
+        Some(other) => fail(&format!("unknown word {other}; give none, --replay, --count, --boxes or --pairs")),
     }
     out.flush()
 }

@@ -1,7 +1,7 @@
 //! The walk in plain Rust, written from the scope document's section of that name alone: what the proved walk is
 //! compared with, since the reference has none.
 
-use oracle::{Aabb, Vec3};
+use crate::{Aabb, Vec3};
 
 /// What a walk is given.
 #[derive(Clone, Copy, Debug)]

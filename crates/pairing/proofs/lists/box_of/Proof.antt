@@ -1,0 +1,29 @@
+-- `lists::box_of` meets its contract: the words at the place, as floats.
+use borrow.Author.Needs.{needs}
+use Rattle.pairing.proofs.lists.box_of.Statement.{statement}
+use Rattle.pairing.proofs.lists.box_of.Tie as tie
+use Rattle.pairing.proofs.lists.box_of.Reads as reads
+use Rattle.pairing.proofs.lists.box_of.Lts as lts
+use Rattle.pairing.proofs.lists.as_floats.Reads as as-floats-reads
+use Rattle.split.proofs.boxes.box_at.Reads as box-at-reads
+use mathlib.Core.Path.{ap, _∙_}
+use Rattle.tree.specs.Pair.{boxValues}
+
+-- src/lists.rt:79:48
+cast-t6 : tie.Need-cast-t6
+cast-t6 c = search needs
+
+-- src/lists.rt:79:15
+box-at-requires : tie.Need-box-at-requires
+box-at-requires c κs = search needs
+
+-- src/lists.rt:79:5
+as-floats-requires : tie.Need-as-floats-requires
+as-floats-requires c κs = search needs
+
+-- src/lists.rt:75:1
+returns : tie.Need-returns
+returns c = c .as-floats .ensures ∙ ap boxValues (c .before .box-at .ensures)
+
+pub box-of-spec : {M : Type 1} → statement M
+box-of-spec = tie.close (tie.spec cast-t6 box-at-requires as-floats-requires returns)

@@ -1,0 +1,73 @@
+// Sixteen queries over a list.
+use crate::draw::Shape;
+use crate::draw::drawn_box;
+use crate::draw::next;
+use crate::lists::box_of;
+use crate::lists::cube;
+use math::aabb::Aabb;
+use math::vec3::vadd_f;
+ghost use Prim.Native.Nat.{_≤_, _<_};
+
+// Infinite, inverted and infinite, half infinite, with no number, around all boxes, and beyond them.
+fn wide(k: u32, grain: f32) -> Aabb {
+    let infinity = float32::words::value(0x7f80_0000);
+    let least = float32::words::value(0xff80_0000);
+    let nan = float32::words::value(0x7fc0_0000);
+    match k {
+        0 => cube(least, infinity),
+        1 => cube(infinity, least),
+        2 => cube(least, 0.0),
+        3 => cube(nan, nan),
+        4 => cube(-1000.0 * grain, 100000.0 * grain),
+        _ => cube(100000.0 * grain, 200000.0 * grain),
+    }
+}
+
+// An entry's box itself, one that touches its greatest corner and one that touches its least, the box inverted, and each of the two corners.
+fn at_box(k: u32, near: Aabb, grain: f32) -> Aabb {
+    let min = near.min;
+    let max = near.max;
+    match k {
+        6 => near,
+        7 => Aabb {
+            min: max,
+            max: vadd_f(max, grain),
+        },
+        8 => Aabb {
+            min: vadd_f(min, -grain),
+            max: min,
+        },
+        9 => Aabb { min: max, max: min },
+        10 => Aabb { min: min, max: min },
+        _ => Aabb { min: max, max: max },
+    }
+}
+
+fn upper(s: u32) -> usize {
+    (s / 65536) as usize
+}
+
+// A place in a list of n; 0 where n is 0.
+fn place_of(s: u32, n: usize) -> usize
+    requires { ⌜ n ≤ 700 ⌝ }
+    ensures { λ r. ⌜ r < 700 ⌝ }
+{
+    if n == 0 {
+        return 0;
+    }
+    upper(s) % n
+}
+
+// Query k: from 12 on a box that is drawn as the list's are.
+pub fn query(k: u32, list: &[u32; 4900], shape: Shape, s: u32) -> Aabb
+    requires { ⌜ shape .entries ≤ 700 ⌝ }
+{
+    if k < 6 {
+        return wide(k, shape.grain);
+    }
+    if k < 12 {
+        let place = place_of(next(s), shape.entries);
+        return at_box(k, box_of(list, place), shape.grain);
+    }
+    drawn_box(s, shape)
+}
