@@ -167,7 +167,7 @@ fn pair(case: &Case, seed: u64) -> Result<Option<Pair<'_>>, Wrong> {
 }
 
 /// The library's tree, in buffers that held other bytes.
-fn library(case: &Case, seed: u64) -> Result<Tree<'_>, u32> {
+pub fn library(case: &Case, seed: u64) -> Result<Tree<'_>, u32> {
     let n = case.items.len();
     let behind = seed as u8 | 1;
     let (mut nodes, mut trees) = (vec![behind; records_len(n)], vec![behind; records_len(n)]);
@@ -191,7 +191,7 @@ fn library(case: &Case, seed: u64) -> Result<Tree<'_>, u32> {
 }
 
 /// The reference's tree.
-fn reference(case: &Case) -> Result<Tree<'_>, u32> {
+pub fn reference(case: &Case) -> Result<Tree<'_>, u32> {
     let built = tree::build(&case.items, case.threshold as usize).map_err(|refused| refused.0 as u32)?;
     let xyz = |v: [f32; 4]| [v[0], v[1], v[2]];
     Ok(Tree {

@@ -230,3 +230,48 @@ fn coordinate(r: &mut Random, edge: Edge, base: f32) -> f32 {
         Edge::Flat => base + float(r, 3),
     }
 }
+
+#[cfg(test)]
+mod tests {
+    use super::*;
+    use crate::promises::{broken, meet, without_nan};
+
+    #[test]
+    fn lists_within_the_premises_and_outside_are_frequent() {
+        let mut queries = Queries::new(1);
+        let (mut within, mut outside, mut ones, mut long) = (0, [0; 5], 0, 0);
+        for _ in 0..20_000 {
+            let case = queries.case();
+            match broken(&case.items) {
+                None => within += 1,
+                Some(premise) => outside[premise as usize] += 1,
+            }
+            ones += (case.threshold == 1) as usize;
+            long += (case.items.len() > 64) as usize;
+        }
+        println!("within {within}, outside {outside:?}, threshold 1 {ones}, over 64 entries {long}");
+        assert!(within > 10_000 && outside.iter().all(|&n| n > 200), "{within} {outside:?}");
+        assert!(ones > 5_000 && long > 300, "{ones} {long}");
+    }
+
+    #[test]
+    fn queries_of_every_sort_are_frequent() {
+        let mut queries = Queries::new(1);
+        let items: Vec<_> = (0..9).map(|i| Some(Aabb { min: [i as f32; 3], max: [i as f32 + 0.5; 3] })).collect();
+        let (mut nan, mut infinite, mut inside_out, mut touching, mut meeting) = (0, 0, 0, 0, 0);
+        for _ in 0..10_000 {
+            let query = queries.query(&items);
+            nan += !without_nan(&query) as usize;
+            infinite += query.min.iter().chain(&query.max).any(|x| x.is_infinite()) as usize;
+            inside_out += (0..3).any(|axis| query.min[axis] > query.max[axis]) as usize;
+            let touches =
+                |b: &Aabb| (0..3).any(|axis| query.min[axis] == b.max[axis] || query.max[axis] == b.min[axis]);
+            let mut met = items.iter().flatten().filter(|b| meet(b, &query)).peekable();
+            meeting += met.peek().is_some() as usize;
+            touching += met.any(touches) as usize;
+        }
+        let reached = [nan, infinite, inside_out, touching, meeting];
+        println!("NaN, infinite, inside out, touching, meeting: {reached:?}");
+        assert!(reached.iter().all(|&n| n > 300), "{reached:?}");
+    }
+}
