@@ -25,8 +25,11 @@ const MEETING: [usize; 3] = [1, 10, 100];
 
 const THRESHOLD: u32 = 4;
 
-/// Queries of one pass: few enough that it ends within a moment of the machine.
-const QUERIES: usize = 64;
+/// Queries of one pass: so many that the processor does not learn which way their branches go.
+const QUERIES: usize = 1_024;
+
+/// Of these, those that brute force is timed on, which has no such branches and takes long.
+const BY_FORCE: usize = 64;
 
 /// The queries of one size over one tree. Means of one query, and queries a second by each side.
 pub struct Rates {
@@ -60,7 +63,7 @@ fn rates(boxes: usize, meeting: usize, samples: usize, seed: u64) -> Rates {
         (handed, reads) = (handed + walked.handed, reads + walked.reads);
     }
     let every = {
-        let (queries, mut out) = (queries.clone(), out.clone());
+        let (queries, mut out) = (queries[..BY_FORCE].to_vec(), out.clone());
         move || {
             for query in &queries {
                 black_box(brute_force(black_box(&list), query, black_box(&mut out)));
@@ -70,7 +73,9 @@ fn rates(boxes: usize, meeting: usize, samples: usize, seed: u64) -> Rates {
     let passes =
         [walk(&ours, &queries, walks::proved), walk(&theirs, &queries, |walk, out| walk.run(out)), Box::new(every)];
     let mean = |sum: usize| sum as f64 / QUERIES as f64;
-    let a_second = measure::least(passes, samples).map(|pass| 1e9 * QUERIES as f64 / pass);
+    let times = measure::least(passes, samples);
+    let timed = [QUERIES, QUERIES, BY_FORCE];
+    let a_second = std::array::from_fn(|side| 1e9 * timed[side] as f64 / times[side]);
     Rates { boxes, meeting, trees: ours.tree_count, met: mean(met), handed: mean(handed), reads: mean(reads), a_second }
 }
 

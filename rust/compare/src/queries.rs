@@ -1,4 +1,4 @@
-//! Lists of boxes and queries over them, for builds and walks together: about half of the lists within the premises, many
+//! Lists of boxes and queries over them, for builds and walks together: some seven of ten lists within the premises, many
 //! at their edge.
 
 use crate::inputs::{hard, Input};
@@ -35,7 +35,7 @@ impl Queries {
         Queries { random: Random::new(seed ^ 0x9A12), lists: Lists::new(seed), hard: hard(Input::Float) }
     }
 
-    /// A list and a threshold; buffers as long as they have to be. Most lists are small; one in 30 has over 64 entries
+    /// A list and a threshold; buffers as long as they have to be. Most lists are small; one in 25 has over 64 entries
     /// and may have a split tree, one in 2,500 up to some thousands, one in 50,000 any number.
     pub fn case(&mut self) -> Case {
         let n = self.size();
