@@ -1,21 +1,22 @@
 //! `bench [OP..] [--samples N] [--seed S] [--write]`
 //!
-//! Times the proved library and the reference in one run on the same inputs and prints a table; with `--write` also
-//! into docs/BENCH.md and docs/bench.svg. Exit status 2 where it could not be run.
+//! Times the proved library and the reference in one run on the same inputs and prints a table, and one of `queries`;
+//! with `--write` also into docs/BENCH.md, docs/bench.svg and docs/queries.svg. Exit status 2 where it could not be run.
 
 mod measure;
 mod page;
 mod plot;
+mod queries;
 mod subjects;
 
 use std::path::Path;
 use std::process::ExitCode;
 
 const USAGE: &str = "usage: bench [OP..] [--samples N] [--seed S] [--write]
-  OP            an operation's name (default: all)
+  OP            an operation's name, or queries (default: all)
   --samples N   of each size and side (default 31)
   --seed S      of the inputs (default 1)
-  --write       writes docs/BENCH.md and docs/bench.svg";
+  --write       writes docs/BENCH.md, docs/bench.svg and docs/queries.svg; of queries alone, only their part";
 
 struct Arguments {
     ops: Vec<String>,
@@ -41,25 +42,47 @@ fn arguments(mut words: impl Iterator<Item = String>) -> Result<Arguments, Strin
 
 fn run(a: &Arguments) -> Result<(), String> {
     let subjects = subjects::all();
-    if let Some(op) = a.ops.iter().find(|op| !subjects.iter().any(|s| s.name == **op)) {
+    let asked = |name: &str| a.ops.is_empty() || a.ops.iter().any(|op| op == name);
+    if let Some(op) = a.ops.iter().find(|op| *op != queries::NAME && !subjects.iter().any(|s| s.name == **op)) {
         return Err(format!("{op}: no such operation\n{USAGE}"));
     }
-    let chosen = subjects.iter().filter(|s| a.ops.is_empty() || a.ops.iter().any(|op| op == s.name));
     let mut series = Vec::new();
-    for subject in chosen {
+    for subject in subjects.iter().filter(|s| asked(s.name)) {
         eprintln!("{}", subject.name);
         series.push(measure::series(subject, a.samples, a.seed));
     }
-    print!("{}", page::table(&series));
+    if !series.is_empty() {
+        print!("{}", page::table(&series));
+    }
+    let mut rates = Vec::new();
+    if asked(queries::NAME) {
+        eprintln!("{}", queries::NAME);
+        rates = queries::measured(a.samples, a.seed);
+        print!("{}", queries::table(&rates));
+    }
     if a.write {
-        let docs = Path::new(env!("CARGO_MANIFEST_DIR")).join("../../docs");
-        let put =
-            |name: &str, text: String| std::fs::write(docs.join(name), text).map_err(|e| format!("docs/{name}: {e}"));
-        std::fs::create_dir_all(&docs).map_err(|e| format!("docs: {e}"))?;
-        put("BENCH.md", page::page(&series, a.samples, a.seed))?;
-        put("bench.svg", plot::svg(&series))?;
+        written(a, &series, &rates)?;
     }
     Ok(())
+}
+
+/// What was measured takes the place of what stood in docs.
+fn written(a: &Arguments, series: &[measure::Series], rates: &[queries::Rates]) -> Result<(), String> {
+    let docs = Path::new(env!("CARGO_MANIFEST_DIR")).join("../../docs");
+    let failed = |name: &str, e| format!("docs/{name}: {e}");
+    let put = |name: &str, text: String| std::fs::write(docs.join(name), text).map_err(|e| failed(name, e));
+    std::fs::create_dir_all(&docs).map_err(|e| format!("docs: {e}"))?;
+    let before = std::fs::read_to_string(docs.join("BENCH.md")).unwrap_or_default();
+    let (mut speed, mut query) = page::parts(&before);
+    if !series.is_empty() {
+        speed = page::page(series, a.samples, a.seed);
+        put("bench.svg", plot::svg(&plot::panels(series), &plot::SIDES, plot::time))?;
+    }
+    if !rates.is_empty() {
+        query = page::queries(rates, a.samples, a.seed);
+        put("queries.svg", plot::svg(&queries::panels(rates), &queries::SIDES, plot::count))?;
+    }
+    put("BENCH.md", format!("{}\n\n{query}", speed.trim_end()))
 }
 
 fn main() -> ExitCode {

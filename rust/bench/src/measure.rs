@@ -1,4 +1,4 @@
-//! Times both sides in turn, so that a slow moment of the machine meets both, and takes the least.
+//! Times the sides in turn, so that a slow moment of the machine meets all of them, and takes the least.
 
 use crate::subjects::{Pass, Subject};
 use std::time::{Duration, Instant};
@@ -32,18 +32,24 @@ pub const FEWEST: usize = 3;
 
 pub fn series(subject: &Subject, samples: usize, seed: u64) -> Series {
     let point = |&size: &usize| {
-        let [mut ours, mut theirs] = (subject.passes)(size, seed);
-        let (ours_times, theirs_times) = (passes_a_sample(&mut ours), passes_a_sample(&mut theirs));
-        let mut times = [Vec::new(), Vec::new()];
-        let begun = Instant::now();
-        while times[0].len() < samples.min(FEWEST) || times[0].len() < samples && begun.elapsed() < ENOUGH {
-            times[0].push(sample(&mut ours, ours_times));
-            times[1].push(sample(&mut theirs, theirs_times));
-        }
-        let [ours, theirs] = times.map(least);
+        let [ours, theirs] = least((subject.passes)(size, seed), samples);
         Point { size, ours, theirs }
     };
     Series { name: subject.name, unit: subject.unit, points: subject.sizes.iter().map(point).collect() }
+}
+
+/// The least time of each pass, in nanoseconds. What else runs on the machine only adds time.
+pub fn least<const SIDES: usize>(mut passes: [Pass; SIDES], samples: usize) -> [f64; SIDES] {
+    let times: [u32; SIDES] = std::array::from_fn(|side| passes_a_sample(&mut passes[side]));
+    let mut least = [f64::INFINITY; SIDES];
+    let (begun, mut taken) = (Instant::now(), 0);
+    while taken < samples.min(FEWEST) || taken < samples && begun.elapsed() < ENOUGH {
+        for (side, pass) in passes.iter_mut().enumerate() {
+            least[side] = least[side].min(sample(pass, times[side]));
+        }
+        taken += 1;
+    }
+    least
 }
 
 fn passes_a_sample(pass: &mut Pass) -> u32 {
@@ -59,9 +65,4 @@ fn sample(pass: &mut Pass, passes: u32) -> f64 {
     let begun = Instant::now();
     (0..passes).for_each(|_| pass());
     begun.elapsed().as_nanos() as f64 / passes as f64
-}
-
-/// What else runs on the machine only adds time.
-fn least(times: Vec<f64>) -> f64 {
-    times.into_iter().fold(f64::INFINITY, f64::min)
 }

@@ -1,6 +1,15 @@
-//! The measured series as a page: one table, and what it was measured with.
+//! What was measured as a page of two parts, each with its table and what it was measured with.
 
 use crate::measure::{Series, FEWEST};
+use crate::queries::{self, Rates};
+
+const QUERIES: &str = "## Queries";
+
+/// A page's two parts: up to the queries, and these.
+pub fn parts(page: &str) -> (String, String) {
+    let (speed, queries) = page.split_at(page.find(QUERIES).unwrap_or(page.len()));
+    (speed.to_string(), queries.to_string())
+}
 
 pub fn page(series: &[Series], samples: usize, seed: u64) -> String {
     format!(
@@ -17,6 +26,42 @@ pub fn page(series: &[Series], samples: usize, seed: u64) -> String {
         processor(),
         table(series)
     )
+}
+
+/// The part of the queries.
+pub fn queries(rates: &[Rates], samples: usize, seed: u64) -> String {
+    format!(
+        "{QUERIES}\n\n\
+         Thousand queries a second over a tree of random boxes (seed {seed}) at threshold 4, up to 10 wide on each axis and\n\
+         spread over 400: 1,024 cubes, so wide that they meet some 1, 10 or 100 boxes; one thread, the least time of {samples}\n\
+         samples, or of {FEWEST} and more where they would take over 10 seconds, the three sides in turn. The library:\n\
+         `bounds::walk` over the records of `bounds::build_bvh`. The plain Rust walk: that of rust/compare over the\n\
+         reference's records; that both answer the same is checked first. Brute force compares every box with the query, as\n\
+         floats and without a branch. Met, handed out and read are means of one query. The last two columns are the\n\
+         library's rate by the others': above 1 the library is faster.\n\n\
+         Made by `cargo run --release -p bench -- queries --write` in rust/, on: {}{}.\n\n\
+         ![Queries a second over boxes](queries.svg)\n\n{}\n{STANDING}",
+        processor(),
+        load(),
+        queries::table(rates)
+    )
+}
+
+const STANDING: &str = "\
+A walk reads every tree record, and hands out all items of a leaf that meets: more than brute force finds, and who wants
+the exact answer compares the boxes of what was handed out. So a small query over many boxes takes as long as its tree
+records, and the lead over brute force grows with the boxes and shrinks with what is met: some 30 times at 32,767 boxes
+and one met, next to none at 1,000 boxes and 70 met. The library's walk and the plain one are about as fast, within some
+tenths: the plain one is ahead where little is handed out, the library where much is. A second run on the shared machine
+gave rates up to a fifth lower, and ratios within a tenth.
+";
+
+/// What else the machine did: a shared one is slower, and the least of the samples hides that only in part.
+fn load() -> String {
+    let average = std::fs::read_to_string("/proc/loadavg").unwrap_or_default();
+    let processors = std::thread::available_parallelism().map_or(1, |n| n.get());
+    let load = average.split(' ').next().filter(|load| !load.is_empty());
+    load.map_or(String::new(), |load| format!(",\nshared with other work: a load of {load} on {processors} processors"))
 }
 
 /// From `perf record` over the series named in it.

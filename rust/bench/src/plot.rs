@@ -1,6 +1,6 @@
-//! The measured series as a picture: a panel for each operation, time over size, both scales by powers of ten.
+//! What was measured as a picture: panels with a line for each side, both scales by powers of ten.
 
-use crate::measure::{Point, Series};
+use crate::measure::Series;
 use std::fmt::Write;
 
 const COLUMNS: usize = 3;
@@ -8,7 +8,26 @@ const PANEL: (f64, f64) = (300.0, 220.0);
 /// Left, top, right, bottom of the drawing inside a panel.
 const INSET: (f64, f64, f64, f64) = (56.0, 28.0, 16.0, 34.0);
 const TOP: f64 = 40.0;
-const SIDES: [(&str, &str); 2] = [("library", "#0b62a4"), ("reference", "#c2571a")];
+
+/// A name, and the colour of its lines.
+pub type Side = (&'static str, &'static str);
+
+pub const SIDES: [Side; 2] = [("library", "#0b62a4"), ("reference", "#c2571a")];
+
+/// Values over sizes: at each size one for each side.
+pub struct Panel {
+    pub title: String,
+    pub points: Vec<(f64, Vec<f64>)>,
+}
+
+/// A panel for each operation: time over size.
+pub fn panels(series: &[Series]) -> Vec<Panel> {
+    let panel = |s: &Series| Panel {
+        title: format!("{}, {}", s.name, s.unit),
+        points: s.points.iter().map(|p| (p.size.max(1) as f64, vec![p.ours, p.theirs])).collect(),
+    };
+    series.iter().map(panel).collect()
+}
 
 /// Powers of ten from `least` to `greatest`.
 struct Axis {
@@ -32,32 +51,33 @@ impl Axis {
     }
 }
 
-pub fn svg(series: &[Series]) -> String {
-    let rows = series.len().div_ceil(COLUMNS);
+/// The picture; `label` names a power of ten of the values.
+pub fn svg(panels: &[Panel], sides: &[Side], label: fn(i32) -> String) -> String {
+    let rows = panels.len().div_ceil(COLUMNS);
     let (width, height) = (PANEL.0 * COLUMNS as f64, TOP + PANEL.1 * rows as f64);
     let mut out = format!(
         "<svg xmlns=\"http://www.w3.org/2000/svg\" width=\"{width}\" height=\"{height}\" viewBox=\"0 0 {width} {height}\" \
          font-family=\"sans-serif\" font-size=\"11\">\n<rect width=\"100%\" height=\"100%\" fill=\"white\"/>\n"
     );
-    for (i, (name, colour)) in SIDES.iter().enumerate() {
-        let x = 16.0 + 110.0 * i as f64;
+    for (i, (name, colour)) in sides.iter().enumerate() {
+        let x = 16.0 + 130.0 * i as f64;
         let _ = writeln!(out, "<path d=\"M{x} 20h24\" stroke=\"{colour}\" stroke-width=\"2\"/>");
         let _ = writeln!(out, "<text x=\"{}\" y=\"24\">{name}</text>", x + 30.0);
     }
-    for (i, s) in series.iter().enumerate() {
+    for (i, p) in panels.iter().enumerate() {
         let (x, y) = (PANEL.0 * (i % COLUMNS) as f64, TOP + PANEL.1 * (i / COLUMNS) as f64);
-        panel(&mut out, s, x, y);
+        panel(&mut out, p, sides, label, x, y);
     }
     out += "</svg>\n";
     out
 }
 
-fn panel(out: &mut String, s: &Series, x: f64, y: f64) {
+fn panel(out: &mut String, panel: &Panel, sides: &[Side], label: fn(i32) -> String, x: f64, y: f64) {
     let (left, top) = (x + INSET.0, y + INSET.1);
     let (width, height) = (PANEL.0 - INSET.0 - INSET.2, PANEL.1 - INSET.1 - INSET.3);
-    let sizes = Axis::over(s.points.iter().map(|p| p.size.max(1) as f64));
-    let times = Axis::over(s.points.iter().flat_map(|p| [p.ours, p.theirs]));
-    let _ = writeln!(out, "<text x=\"{left}\" y=\"{}\" font-weight=\"bold\">{}, {}</text>", top - 10.0, s.name, s.unit);
+    let sizes = Axis::over(panel.points.iter().map(|p| p.0));
+    let values = Axis::over(panel.points.iter().flat_map(|p| p.1.iter().copied()));
+    let _ = writeln!(out, "<text x=\"{left}\" y=\"{}\" font-weight=\"bold\">{}</text>", top - 10.0, panel.title);
     for power in sizes.least..=sizes.greatest {
         let at = left + width * sizes.place(10f64.powi(power));
         let _ = writeln!(out, "<path d=\"M{at:.1} {top}v{height}\" stroke=\"#ddd\"/>");
@@ -68,24 +88,23 @@ fn panel(out: &mut String, s: &Series, x: f64, y: f64) {
             count(power)
         );
     }
-    for power in times.least..=times.greatest {
-        let at = top + height * (1.0 - times.place(10f64.powi(power)));
+    for power in values.least..=values.greatest {
+        let at = top + height * (1.0 - values.place(10f64.powi(power)));
         let _ = writeln!(out, "<path d=\"M{left} {at:.1}h{width}\" stroke=\"#ddd\"/>");
         let _ = writeln!(
             out,
             "<text x=\"{}\" y=\"{:.1}\" text-anchor=\"end\">{}</text>",
             left - 6.0,
             at + 4.0,
-            time(power)
+            label(power)
         );
     }
-    let of: [fn(&Point) -> f64; 2] = [|p| p.ours, |p| p.theirs];
-    for ((_, colour), value) in SIDES.iter().zip(of) {
-        let place = |p: &Point| {
-            let (a, b) = (sizes.place(p.size.max(1) as f64), times.place(value(p)));
+    for (side, (_, colour)) in sides.iter().enumerate() {
+        let place = |(size, of): &(f64, Vec<f64>)| {
+            let (a, b) = (sizes.place(*size), values.place(of[side]));
             format!("{:.1},{:.1}", left + width * a, top + height * (1.0 - b))
         };
-        let line: Vec<String> = s.points.iter().map(place).collect();
+        let line: Vec<String> = panel.points.iter().map(place).collect();
         let _ = writeln!(
             out,
             "<polyline points=\"{}\" fill=\"none\" stroke=\"{colour}\" stroke-width=\"2\"/>",
@@ -98,12 +117,12 @@ fn panel(out: &mut String, s: &Series, x: f64, y: f64) {
     }
 }
 
-fn count(power: i32) -> String {
+pub fn count(power: i32) -> String {
     scaled(power, &["", "k", "M", "G"])
 }
 
 /// Of nanoseconds.
-fn time(power: i32) -> String {
+pub fn time(power: i32) -> String {
     if power < 0 {
         return format!("1e{power} ns");
     }

@@ -35,13 +35,13 @@ fn each<T: Copy + Send + 'static, R>(inputs: &[T], step: impl Fn(T) -> R + Send 
 }
 
 /// Floats of ordinary size.
-struct Tame(Random);
+pub struct Tame(pub Random);
 
 impl Tame {
     fn float(&mut self) -> f32 {
         (self.0.u32() as f32 / 4294967296.0 - 0.5) * 80000.0
     }
-    fn point(&mut self) -> [f32; 3] {
+    pub fn point(&mut self) -> [f32; 3] {
         std::array::from_fn(|_| self.float())
     }
     fn matrix(&mut self) -> [f32; 16] {
@@ -81,7 +81,7 @@ fn builds(boxes: Vec<Aabb>, threshold: u32) -> [Pass; 2] {
 }
 
 /// Boxes of up to 10 on each axis, spread over 400.
-fn spread(n: usize, seed: u64) -> Vec<Aabb> {
+pub fn spread(n: usize, seed: u64) -> Vec<Aabb> {
     inputs(n, seed, |t| {
         let min = t.point().map(|x| x / 200.0);
         Aabb { min, max: min.map(|low| low + t.float().abs() / 4000.0) }

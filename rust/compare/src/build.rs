@@ -134,7 +134,7 @@ fn differs(case: &Case, theirs: &Result<Built, u32>, seed: u64) -> Result<(), St
     order.check(&places).map_err(|e| format!("order list: {e}"))
 }
 
-fn ours(b: Aabb) -> BvhItem {
+pub(crate) fn ours(b: Aabb) -> BvhItem {
     BvhItem { min: vec3(b.min), max: vec3(b.max) }
 }
 
@@ -168,8 +168,11 @@ fn values(ours: &BuiltTree, theirs: &Built, case: &Case) -> Result<(), String> {
 
 fn describe(case: &Case, seed: u64) -> String {
     let why = differs(case, &expected(case), seed).err().unwrap_or_default();
-    let mut out = format!("{why}\n  threshold {}, buffers {:?} from what they need", case.threshold, case.slack);
-    out += &format!("\n  {} entries (min, then max, in words)", case.items.len());
+    format!("{why}\n  buffers {:?} from what they need\n  {}", case.slack, describe_list(case))
+}
+
+pub(crate) fn describe_list(case: &Case) -> String {
+    let mut out = format!("threshold {}, {} entries (min, then max, in words)", case.threshold, case.items.len());
     for item in case.items.iter().take(20) {
         let words = |b: &Aabb| b.min.iter().chain(&b.max).map(|x| format!("{:08X}", x.to_bits())).collect::<Vec<_>>();
         out += &format!("\n    {}", item.as_ref().map_or("absent".to_string(), |b| words(b).join(" ")));
@@ -178,7 +181,7 @@ fn describe(case: &Case, seed: u64) -> String {
 }
 
 /// Fewer entries, then plainer ones, as long as it fails.
-fn shrink(mut case: Case, fails: impl Fn(&Case) -> bool) -> Case {
+pub(crate) fn shrink(mut case: Case, fails: impl Fn(&Case) -> bool) -> Case {
     let mut part = case.items.len().div_ceil(2);
     while part > 0 {
         let mut at = 0;

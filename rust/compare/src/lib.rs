@@ -5,6 +5,8 @@
 //! - [`check`]: runs an operation over many inputs and shrinks a mismatch.
 //! - [`build`], [`header`]: trees over lists of boxes, which [`lists`] makes and [`deep`] makes deep.
 //! - [`walks`]: walks over what [`records`] makes, compared with [`oracle::walk`], one in plain Rust.
+//! - [`pairs`]: builds and walks over their records, held to what [`promises`] finds by brute force, over the lists and
+//!   queries of [`queries`].
 //! - [`exhaustive`]: operations of one word over all 2^32.
 //! - [`vectors`]: a sample of the reference's answers as a text file.
 //! - [`lent`]: buffers for operations that write into what they are lent.
@@ -18,6 +20,9 @@ pub mod inputs;
 pub mod lent;
 pub mod lists;
 pub mod operation;
+pub mod pairs;
+pub mod promises;
+pub mod queries;
 pub mod random;
 pub mod records;
 pub mod report;

@@ -1,15 +1,15 @@
 //! `compare [OP..] [--seed S] [--cases N] [--stride N] [--threads N] [--write-vectors FILE]`
 //!
-//! OP is `float`, `math`, `tree`, `walk`, `exhaustive`, `all` (these five, and what is meant without an OP) or an
+//! OP is `float`, `math`, `tree`, `walk`, `pair`, `exhaustive`, `all` (these six, and what is meant without an OP) or an
 //! operation's name; those of `tree` are `build` and `header`.
 //! Exit status: 0 all the same, 1 a mismatch, 2 it could not be run.
 
 use compare::exhaustive::{self, Extent};
-use compare::{build, check, header, operation, report, vectors, walks};
+use compare::{build, check, header, operation, pairs, report, vectors, walks};
 use std::process::ExitCode;
 
 const USAGE: &str = "usage: compare [OP..] [--seed S] [--cases N] [--stride N] [--threads N] [--write-vectors FILE]
-  OP                    float, math, tree, walk, exhaustive, all, or an operation's name
+  OP                    float, math, tree, walk, pair, exhaustive, all, or an operation's name
   --seed S              of the random inputs (default 1)
   --cases N             of each operation (default 1000000)
   --stride N            exhaustive: only every N-th word (default 1: all of them), from one that the seed gives
@@ -52,7 +52,7 @@ fn arguments(mut words: impl Iterator<Item = String>) -> Result<Arguments, Strin
 fn run(a: &Arguments) -> Result<Vec<report::Line>, String> {
     let operations = operation::all();
     let known = |op: &str| {
-        ["all", "exhaustive", "tree", "build", "header", "walk"].contains(&op)
+        ["all", "exhaustive", "tree", "build", "header", "walk", "pair"].contains(&op)
             || operations.iter().any(|o| o.group == op || o.name == op)
     };
     if let Some(op) = a.ops.iter().find(|op| !known(op)) {
@@ -76,6 +76,9 @@ fn run(a: &Arguments) -> Result<Vec<report::Line>, String> {
     }
     if asked(&["walk"]) {
         lines.push(walks::run(a.seed, a.cases, walks::proved));
+    }
+    if asked(&["pair"]) {
+        lines.push(pairs::run(a.seed, a.cases, walks::proved));
     }
     if asked(&["exhaustive"]) {
         let first = (a.seed % a.stride as u64) as u32;

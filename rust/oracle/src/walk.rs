@@ -29,18 +29,18 @@ pub struct Walked {
 const LIMIT: usize = 65_535;
 
 /// A box in units of the quantum: min and max.
-type Span = ([i16; 3], [i16; 3]);
+pub(crate) type Span = ([i16; 3], [i16; 3]);
 
 /// A node or tree record: a box, and two numbers.
-struct Record {
+pub(crate) struct Record {
     min: [i16; 3],
     max: [i16; 3],
-    first: i32,
-    second: i32,
+    pub first: i32,
+    pub second: i32,
 }
 
 impl Record {
-    fn read(bytes: &[u8], at: usize) -> Record {
+    pub fn read(bytes: &[u8], at: usize) -> Record {
         let bytes = &bytes[16 * at..][..16];
         let short = |i: usize| i16::from_le_bytes([bytes[2 * i], bytes[2 * i + 1]]);
         Record {
@@ -51,7 +51,7 @@ impl Record {
         }
     }
 
-    fn meets(&self, (min, max): &Span) -> bool {
+    pub fn meets(&self, (min, max): &Span) -> bool {
         (0..3).all(|axis| self.min[axis] <= max[axis] && min[axis] <= self.max[axis])
     }
 }
