@@ -29,10 +29,10 @@ pub struct Walked {
 const LIMIT: usize = 65_535;
 
 /// A box in units of the quantum: min and max.
-pub(crate) type Span = ([i16; 3], [i16; 3]);
+pub type Span = ([i16; 3], [i16; 3]);
 
 /// A node or tree record: a box, and two numbers.
-pub(crate) struct Record {
+pub struct Record {
     min: [i16; 3],
     max: [i16; 3],
     pub first: i32,
