@@ -17,47 +17,36 @@ Inv-loop list shape threshold s state₀ sum₀ k₀ state sum k = k ≤ 16
 abbrev μ-loop : tie.MeasureT-loop
 μ-loop list shape threshold s state₀ sum₀ k₀ state sum k = 16 - k
 
--- src/ask.rt:91:9
 none-requires : tie.Need-none-requires Inv-loop μ-loop
 none-requires c κs = search needs
 
--- src/ask.rt:93:5
 loop-holds : tie.Need-loop-holds Inv-loop μ-loop
 loop-holds c = search needs
 
--- src/ask.rt:94:13
 query-requires : tie.Need-query-requires Inv-loop μ-loop
 query-requires c κs = search needs
 
--- src/ask.rt:95:23
 ask-requires : tie.Need-ask-requires Inv-loop μ-loop
 ask-requires c κs = search needs
 
--- src/ask.rt:95:9
 and-requires : tie.Need-and-requires Inv-loop μ-loop
 and-requires c κs = search needs
 
--- src/ask.rt:96:26
 three-on-requires : tie.Need-three-on-requires Inv-loop μ-loop
 three-on-requires c κs = search needs
 
--- src/ask.rt:96:9
 three-on-requires-2 : tie.Need-three-on-requires-2 Inv-loop μ-loop
 three-on-requires-2 c κs = search needs
 
--- src/ask.rt:97:9
 add-k : tie.Need-add-k Inv-loop μ-loop
 add-k c = search needs
 
--- src/ask.rt:93:5
 loop-less : tie.Need-loop-less Inv-loop μ-loop
 loop-less c = search needs
 
--- src/ask.rt:93:5
 loop-again : tie.Need-loop-again Inv-loop μ-loop
 loop-again c = search needs
 
--- src/ask.rt:87:1
 returns : tie.Need-returns Inv-loop μ-loop
 returns c = search needs
 

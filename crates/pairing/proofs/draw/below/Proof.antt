@@ -8,15 +8,12 @@ use native.Mathlib.Nat.{mod-le}
 use Prim.Native.Nat.{_/_}
 use native.Mathlib.Omega.{arith}
 
--- src/draw.rt:32:9
 returns : tie.Need-returns
 returns c = search needs
 
--- src/draw.rt:34:5
 rem-result : tie.Need-rem-result
 rem-result c = search needs
 
--- src/draw.rt:28:1
 returns-2 : tie.Need-returns-2
 returns-2 c = omega (arith, mod-le (c .before .args .s / 65536) (c .before .args .n))
 

@@ -7,23 +7,18 @@ use Rattle.pairing.proofs.judge.item_at.Lts as lts
 use Rattle.pairing.proofs.judge.wide.Reads as wide-reads
 use borrow.Author.Tests.{eq-eqb, ne-eqb}
 
--- src/judge.rt:28:24
 mul-wide : tie.Need-mul-wide
 mul-wide c = search needs
 
--- src/judge.rt:28:24
 element-copy-out-wide : tie.Need-element-copy-out-wide
 element-copy-out-wide c = search needs
 
--- src/judge.rt:28:9
 wide-requires : tie.Need-wide-requires
 wide-requires c κs = search needs
 
--- src/judge.rt:24:1
 returns : tie.Need-returns
 returns c = rw (eq-eqb _ 1 (c .if1 .taken))
 
--- src/judge.rt:24:1
 returns-2 : tie.Need-returns-2
 returns-2 c = rw (ne-eqb _ 1 (c .if1 .left)) (search needs)
 

@@ -16,27 +16,21 @@ Inv-loop list query seen m₀ i₀ m i = (i ≤ 700) × Compared list query seen
 abbrev μ-loop : tie.MeasureT-loop
 μ-loop list query seen m₀ i₀ m i = 700 - i
 
--- src/judge.rt:129:5
 loop-holds : tie.Need-loop-holds Inv-loop μ-loop
 loop-holds c = (omega arith, compared-none _ _ _)
 
--- src/judge.rt:130:9
 judged-requires : tie.Need-judged-requires Inv-loop μ-loop
 judged-requires c κs = search needs
 
--- src/judge.rt:131:9
 add-i : tie.Need-add-i Inv-loop μ-loop
 add-i c = search needs
 
--- src/judge.rt:129:5
 loop-less : tie.Need-loop-less Inv-loop μ-loop
 loop-less c = search needs
 
--- src/judge.rt:129:5
 loop-again : tie.Need-loop-again Inv-loop μ-loop
 loop-again c = (omega arith, c .judged .ensures)
 
--- src/judge.rt:120:1
 returns : tie.Need-returns Inv-loop μ-loop
 returns c = compared-at _ _ _ _ (omega arith) (c .before .loop .inv .1)
 

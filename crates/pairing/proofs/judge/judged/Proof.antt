@@ -12,39 +12,30 @@ use Rattle.pairing.proofs.lists.is_present.Reads as is-present-reads
 use Rattle.pairing.proofs.CountLaws.{few-meeting, few-missed, few-stray, compared-next}
 use native.Mathlib.Omega.{arith}
 
--- src/judge.rt:107:9
 is-present-requires : tie.Need-is-present-requires
 is-present-requires c κs = search needs
 
--- src/judge.rt:108:9
 meets-at-requires : tie.Need-meets-at-requires
 meets-at-requires c κs = search needs
 
--- src/judge.rt:109:9
 is-seen-requires : tie.Need-is-seen-requires
 is-seen-requires c κs = search needs
 
--- src/judge.rt:110:9
 and-not-requires : tie.Need-and-not-requires
 and-not-requires c κs = search needs
 
--- src/judge.rt:111:9
 and-not-requires-2 : tie.Need-and-not-requires-2
 and-not-requires-2 c κs = search needs
 
--- src/judge.rt:113:18
 plus-if-requires : tie.Need-plus-if-requires
 plus-if-requires c κs = omega (arith, few-meeting _ _ _ _ _ (c .before .before .before .before .before .pre .1))
 
--- src/judge.rt:114:17
 plus-if-requires-2 : tie.Need-plus-if-requires-2
 plus-if-requires-2 c κs = omega (arith, few-missed _ _ _ _ _ (c .before .before .before .before .before .before .pre .1))
 
--- src/judge.rt:115:16
 plus-if-requires-3 : tie.Need-plus-if-requires-3
 plus-if-requires-3 c κs = omega (arith, few-stray _ _ _ _ _ (c .before .before .before .before .before .before .before .pre .1))
 
--- src/judge.rt:102:1
 returns : tie.Need-returns
 returns c = compared-next _ _ _ _ _ _ (c .before .before .before .before .before .before .before .before .pre .1) (c .before .before .before .before .before .before .before .is-present .ensures) (c .before .before .before .before .before .before .meets-at .ensures) (c .before .before .before .before .before .is-seen .ensures) (c .before .before .before .before .and-not .ensures) (c .before .before .before .and-not2 .ensures) (c .before .before .plus-if .ensures) (c .before .plus-if2 .ensures) (c .plus-if3 .ensures)
 

@@ -16,47 +16,36 @@ Inv-loop seen₀ out handed order threshold twice₀ i₀ seen twice i = i ≤ h
 abbrev μ-loop : tie.MeasureT-loop
 μ-loop seen₀ out handed order threshold twice₀ i₀ seen twice i = handed - i
 
--- src/judge.rt:62:5
 loop-holds : tie.Need-loop-holds Inv-loop μ-loop
 loop-holds c = search needs
 
--- src/judge.rt:63:55
 mul-wide : tie.Need-mul-wide Inv-loop μ-loop
 mul-wide c = search needs
 
--- src/judge.rt:63:55
 element-copy-out-wide : tie.Need-element-copy-out-wide Inv-loop μ-loop
 element-copy-out-wide c = search needs
 
--- src/judge.rt:63:50
 wide-requires : tie.Need-wide-requires Inv-loop μ-loop
 wide-requires c κs = search needs
 
--- src/judge.rt:63:13
 item-handed-requires : tie.Need-item-handed-requires Inv-loop μ-loop
 item-handed-requires c κs = search needs
 
--- src/judge.rt:64:41
 mark-requires : tie.Need-mark-requires Inv-loop μ-loop
 mark-requires c κs = search needs
 
--- src/judge.rt:64:9
 wrapping-add-u64-requires : tie.Need-wrapping-add-u64-requires Inv-loop μ-loop
 wrapping-add-u64-requires c κs = search needs
 
--- src/judge.rt:65:9
 add-i : tie.Need-add-i Inv-loop μ-loop
 add-i c = search needs
 
--- src/judge.rt:62:5
 loop-less : tie.Need-loop-less Inv-loop μ-loop
 loop-less c = search needs
 
--- src/judge.rt:62:5
 loop-again : tie.Need-loop-again Inv-loop μ-loop
 loop-again c = search needs
 
--- src/judge.rt:51:1
 returns : tie.Need-returns Inv-loop μ-loop
 returns c = search needs
 

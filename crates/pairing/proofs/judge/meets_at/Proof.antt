@@ -13,24 +13,19 @@ use Rattle.walk.specs.Boxes.{meetsBox}
 use Rattle.pairing.specs.Judging.{meetsAt}
 use Rattle.pairing.proofs.CountLaws.{and-yes, and-no}
 
--- src/judge.rt:91:5
 is-present-requires : tie.Need-is-present-requires
 is-present-requires c κs = search needs
 
--- src/judge.rt:91:55
 box-of-requires : tie.Need-box-of-requires
 box-of-requires c κs = search needs
 
--- src/judge.rt:91:32
 meets-box-requires : tie.Need-meets-box-requires
 meets-box-requires c κs = search needs
 
--- src/judge.rt:87:1
 returns : tie.Need-returns
 unfolding meetsAt
 returns c = c .meets-box .ensures ∙ ap (λ (b : Aabb). meetsBox b (c .before .before .before .before .args .query)) (c .before .box-of .ensures) ∙ and-yes _ (sym (c .before .before .before .is-present .ensures) ∙ c .before .before .if1 .taken)
 
--- src/judge.rt:87:1
 returns-2 : tie.Need-returns-2
 unfolding meetsAt
 returns-2 c = c .before .is-present .ensures ∙ and-no _ (sym (c .before .is-present .ensures) ∙ c .if1 .left)

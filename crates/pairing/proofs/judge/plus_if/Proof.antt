@@ -6,15 +6,12 @@ use Rattle.pairing.proofs.judge.plus_if.Reads as reads
 use Rattle.pairing.proofs.judge.plus_if.Lts as lts
 use Rattle.pairing.proofs.CountLaws.{plus-yes, plus-no}
 
--- src/judge.rt:77:14
 add-result : tie.Need-add-result
 add-result c = search needs
 
--- src/judge.rt:73:1
 returns : tie.Need-returns
 returns c = plus-yes _ (c .if1 .taken)
 
--- src/judge.rt:73:1
 returns-2 : tie.Need-returns-2
 returns-2 c = plus-no _ (c .if1 .left)
 

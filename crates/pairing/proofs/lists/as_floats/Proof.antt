@@ -15,15 +15,12 @@ between a b = record { min = a; max = b }
 both : {a b c d : Vec3} → a ≡ b → c ≡ d → between a c ≡ between b d
 both e f = cc
 
--- src/lists.rt:70:14
 values-requires : tie.Need-values-requires
 values-requires c κs = search needs
 
--- src/lists.rt:71:14
 values-requires-2 : tie.Need-values-requires-2
 values-requires-2 c κs = search needs
 
--- src/lists.rt:66:1
 returns : tie.Need-returns
 returns c = both (c .before .values .ensures) (c .values2 .ensures)
 

@@ -9,19 +9,15 @@ use Rattle.split.proofs.boxes.box_at.Reads as box-at-reads
 use mathlib.Core.Path.{ap, _∙_}
 use Rattle.tree.specs.Pair.{boxValues}
 
--- src/lists.rt:79:48
 cast-t6 : tie.Need-cast-t6
 cast-t6 c = search needs
 
--- src/lists.rt:79:15
 box-at-requires : tie.Need-box-at-requires
 box-at-requires c κs = search needs
 
--- src/lists.rt:79:5
 as-floats-requires : tie.Need-as-floats-requires
 as-floats-requires c κs = search needs
 
--- src/lists.rt:75:1
 returns : tie.Need-returns
 returns c = c .as-floats .ensures ∙ ap boxValues (c .before .box-at .ensures)
 

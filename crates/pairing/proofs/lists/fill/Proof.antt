@@ -15,31 +15,24 @@ Inv-loop words₀ shape s₀ i₀ words s i = (i ≤ shape .entries) × (length 
 abbrev μ-loop : tie.MeasureT-loop
 μ-loop words₀ shape s₀ i₀ words s i = shape .entries - i
 
--- src/lists.rt:48:5
 loop-holds : tie.Need-loop-holds Inv-loop μ-loop
 loop-holds c = search needs
 
--- src/lists.rt:49:9
 put-entry-requires : tie.Need-put-entry-requires Inv-loop μ-loop
 put-entry-requires c κs = search needs
 
--- src/lists.rt:50:9
 add-i : tie.Need-add-i Inv-loop μ-loop
 add-i c = search needs
 
--- src/lists.rt:48:5
 loop-less : tie.Need-loop-less Inv-loop μ-loop
 loop-less c = search needs
 
--- src/lists.rt:48:5
 loop-again : tie.Need-loop-again Inv-loop μ-loop
 loop-again c = search needs
 
--- src/lists.rt:43:1
 same-length : tie.Need-same-length Inv-loop μ-loop
 same-length c = search needs
 
--- src/lists.rt:43:1
 returns : tie.Need-returns Inv-loop μ-loop
 returns c = search needs
 

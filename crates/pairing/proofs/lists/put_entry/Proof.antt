@@ -14,59 +14,45 @@ use mathlib.Core.Path.{_∙_}
 use lib.ListN.{length-set}
 use native.Mathlib.Omega.{arith}
 
--- src/lists.rt:27:14
 mul-at : tie.Need-mul-at
 mul-at c = search needs
 
--- src/lists.rt:28:9
 next-requires : tie.Need-next-requires
 next-requires c κs = search needs
 
--- src/lists.rt:29:9
 drawn-box-requires : tie.Need-drawn-box-requires
 drawn-box-requires c κs = search needs
 
--- src/lists.rt:30:17
 presence-requires : tie.Need-presence-requires
 presence-requires c κs = search needs
 
--- src/lists.rt:30:5
 mul-words : tie.Need-mul-words
 mul-words c = search needs
 
--- src/lists.rt:30:5
 slice-write-words : tie.Need-slice-write-words
 slice-write-words c = search needs
 
--- src/lists.rt:33:9
 add-put-box : tie.Need-add-put-box
 add-put-box c = search needs
 
--- src/lists.rt:35:18
 bits-requires : tie.Need-bits-requires
 bits-requires c κs = search needs
 
--- src/lists.rt:36:18
 bits-requires-2 : tie.Need-bits-requires-2
 bits-requires-2 c κs = search needs
 
--- src/lists.rt:31:5
 put-box-requires : tie.Need-put-box-requires
 put-box-requires c κs = simp length-set (omega arith)
 
--- src/lists.rt:39:14
 three-on-requires : tie.Need-three-on-requires
 three-on-requires c κs = search needs
 
--- src/lists.rt:39:5
 three-on-requires-2 : tie.Need-three-on-requires-2
 three-on-requires-2 c κs = search needs
 
--- src/lists.rt:24:1
 same-length : tie.Need-same-length
 same-length c = c .before .before .before .before .put-box .kept .0 ∙ simp length-set
 
--- src/lists.rt:24:1
 returns : tie.Need-returns
 returns c = search needs
 

@@ -8,19 +8,15 @@ use Rattle.pairing.proofs.queries.upper.Reads as upper-reads
 use native.Mathlib.Nat.{mod-lt}
 use native.Mathlib.Omega.{arith}
 
--- src/queries.rt:56:9
 returns : tie.Need-returns
 returns c = search needs
 
--- src/queries.rt:58:5
 upper-requires : tie.Need-upper-requires
 upper-requires c κs = search needs
 
--- src/queries.rt:58:5
 rem-result : tie.Need-rem-result
 rem-result c = search needs
 
--- src/queries.rt:51:1
 returns-2 : tie.Need-returns-2
 returns-2 c = omega (arith, mod-lt (c .upper .result) {m = c .before .before .args .n} (omega arith))
 

@@ -16,55 +16,42 @@ Inv-loop to failures₀ number₀ t4 t5 failures number = number ≤ 11
 abbrev μ-loop : tie.MeasureT-loop
 μ-loop to failures₀ number₀ t4 t5 failures number = 11 - number
 
--- src/run.rt:37:5
 loop-holds : tie.Need-loop-holds Inv-loop μ-loop
 loop-holds c = search needs
 
--- src/run.rt:38:47
 run-list-requires : tie.Need-run-list-requires Inv-loop μ-loop
 run-list-requires c κs = search needs
 
--- src/run.rt:38:9
 wrapping-add-u64-requires : tie.Need-wrapping-add-u64-requires Inv-loop μ-loop
 wrapping-add-u64-requires c κs = search needs
 
--- src/run.rt:39:47
 run-list-requires-2 : tie.Need-run-list-requires-2 Inv-loop μ-loop
 run-list-requires-2 c κs = search needs
 
--- src/run.rt:39:9
 wrapping-add-u64-requires-2 : tie.Need-wrapping-add-u64-requires-2 Inv-loop μ-loop
 wrapping-add-u64-requires-2 c κs = search needs
 
--- src/run.rt:40:9
 add-number : tie.Need-add-number Inv-loop μ-loop
 add-number c = search needs
 
--- src/run.rt:37:5
 loop-less : tie.Need-loop-less Inv-loop μ-loop
 loop-less c = search needs
 
--- src/run.rt:37:5
 loop-again : tie.Need-loop-again Inv-loop μ-loop
 loop-again c = search needs
 
--- src/run.rt:42:13
 slice-aggregate-put : tie.Need-slice-aggregate-put Inv-loop μ-loop
 slice-aggregate-put c = search needs
 
--- src/run.rt:42:5
 put-requires : tie.Need-put-requires Inv-loop μ-loop
 put-requires c κs = search needs
 
--- src/run.rt:43:23
 slice-aggregate-write-all : tie.Need-slice-aggregate-write-all Inv-loop μ-loop
 slice-aggregate-write-all c = search needs
 
--- src/run.rt:43:5
 write-all-requires : tie.Need-write-all-requires Inv-loop μ-loop
 write-all-requires c κs = search needs
 
--- src/run.rt:34:1
 returns : tie.Need-returns Inv-loop μ-loop
 returns c = search needs
 
