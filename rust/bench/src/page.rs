@@ -37,7 +37,7 @@ pub fn queries(rates: &[Rates], samples: usize, seed: u64) -> String {
          samples, or of {FEWEST} and more where they would take over 10 seconds, the three sides in turn. The library:\n\
          `bounds::walk` over the records of `bounds::build_bvh`. The plain Rust walk: that of rust/compare over the\n\
          reference's records; that both answer the same is checked first. Brute force compares every box with the query, as\n\
-         floats and without a branch. Met, handed out and read are means of one query. The last two columns are the\n\
+         floats and without a branch, for the first 64 of the queries. Met, handed out and read are means of one query. The last two columns are the\n\
          library's rate by the others': above 1 the library is faster.\n\n\
          Made by `cargo run --release -p bench -- queries --write` in rust/, on: {}{}.\n\n\
          ![Queries a second over boxes](queries.svg)\n\n{}\n{STANDING}",
@@ -51,7 +51,7 @@ const STANDING: &str = "\
 A walk reads every tree record, and hands out all items of a leaf that meets: more than brute force finds, and who wants
 the exact answer compares the boxes of what was handed out. So a small query over many boxes takes as long as its tree
 records, and the lead over brute force grows with the boxes and shrinks with what is met: some 30 times at 32,767 boxes
-and one met, next to none at 1,000 boxes and 70 met. The library's walk and the plain one are about as fast, within some
+and one met, 1.4 times at 1,000 boxes and 70 met. The library's walk and the plain one are about as fast, within some
 tenths: the plain one is ahead where little is handed out, the library where much is. A second run on the shared machine
 gave rates up to a fifth lower, and ratios within a tenth.
 ";
