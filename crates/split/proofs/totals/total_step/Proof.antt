@@ -9,26 +9,26 @@ use Rattle.math.specs.Vec3s.{addOf}
 vmin-requires : tie.Need-vmin-requires
 vmin-requires c κs = search needs
 
-vmax-requires : tie.Need-vmax-requires
-vmax-requires c κs = search needs
-
 add-requires : tie.Need-add-requires
 add-requires c κs = search needs
 
 add-requires-2 : tie.Need-add-requires-2
 add-requires-2 c κs = search needs
 
+vmax-requires : tie.Need-vmax-requires
+vmax-requires c κs = search needs
+
 returns : tie.Need-returns
 returns c =
-    let sum = c .add2 .ensures ∙ ap (λ (v : Vec3). addOf v (c .before .before .before .before .args .b .high)) (c .before .add .ensures) in
-    λ i. record { low = c .before .before .before .vmin .ensures i; high = c .before .before .vmax .ensures i; sum = sum i }
+    let sum = c .before .add2 .ensures ∙ ap (λ (v : Vec3). addOf v (c .before .before .before .before .args .b .high)) (c .before .before .add .ensures) in
+    λ i. record { low = c .before .before .before .vmin .ensures i; high = c .vmax .ensures i; sum = sum i }
 
 pub total-step-spec : {M : Type 1} → statement M
 total-step-spec =
     tie.close
     (tie.spec
     vmin-requires
-    vmax-requires
     add-requires
     add-requires-2
+    vmax-requires
     returns)
