@@ -72,15 +72,14 @@ Shares of the library's own time, by sampling (`perf`), random boxes at threshol
 
 | step | random | hostile |
 |---|---:|---:|
-| box of each node, folded before the split | 34 % | 41 % |
-| counts of centres below the average | 20 % | 23 % |
-| average | 16 % | 20 % |
-| partition | 15 % | 16 % |
-| larger group first, sizes, ranges, records, order | 8 % | 0 % |
-| quantising | 5 % | 0 % |
-| entries into words | 2 % | 0 % |
+| box of each node, folded before the split, and average, in one pass | 25 % | 31 % |
+| partition | 20 % | 31 % |
+| counts of centres below the average | 19 % | 35 % |
+| larger group first, sizes, ranges, records, order | 20 % | 3 % |
+| quantising | 11 % | 0 % |
+| entries into words | 5 % | 0 % |
 
-So nearly all of it is four passes over a node's boxes on each level. The reference spends a third of its time in
+So most of it is three passes over a node's boxes on each level. The reference spends a third of its time in
 allocating and freeing the lists of each node and in counting nodes and items anew at each level (`total_nodes`,
 `total_items`), which on the hostile list, some 9,000 levels deep at 16,384 boxes, is three quarters of it.
 Equal boxes are sorted at each level, the rule's fallback.
