@@ -94,6 +94,11 @@ fn hostile(n: usize) -> Vec<Aabb> {
     deep::corners(n, false).iter().map(at).collect()
 }
 
+/// Boxes around one centre, each within the next: every node is sorted, and the list is falling.
+fn nested(n: usize) -> Vec<Aabb> {
+    (1..=n).map(|k| k as f32).map(|half| Aabb { min: [-half; 3], max: [half; 3] }).collect()
+}
+
 /// Queries over one tree of 8,000 leaves, until they have read about so many records: the proved walk, and the plain Rust
 /// one.
 fn queries(reads: usize, seed: u64) -> [Pass; 2] {
@@ -127,6 +132,7 @@ pub fn all() -> Vec<Subject> {
         build("build, equal boxes, threshold 4", &[1_000, 10_000, 32_767], |n, _| {
             builds(vec![Aabb { min: [1.0; 3], max: [2.0; 3] }; n], 4)
         }),
+        build("build, nested boxes, threshold 4", &[1_000, 10_000, 32_767], |n, _| builds(nested(n), 4)),
         build("build, hostile list, threshold 1", &[1_000, 4_000, 16_384], |n, _| builds(hostile(n), 1)),
         Subject { name: "walk", unit: "records read", sizes: &[10_000, 100_000, 1_000_000], passes: queries },
         step("to_short", |n, seed| {
