@@ -1,0 +1,5 @@
+pub mod EveryLaws
+pub mod SortHalves
+pub mod SortLaws
+pub mod SortLoop
+pub mod SortMerge
