@@ -20,26 +20,8 @@ use Rattle.math.specs.Axes.{Axis, alongX, alongY, alongZ}
 use Rattle.split.specs.declared.boxes.BoxWords.{BoxWords}
 use Rattle.split.specs.Ends.{low, high, Proper, Bounded, Each}
 use Rattle.split.specs.Folding.{startBox, foldStep, foldFrom, foldBox}
-use Rattle.split.specs.Lists.{oneIf, occurrences, Among}
-use Rattle.split.proofs.Sifting.{occurs-more}
-
--- ---- standing in a list
-one-if : (b : Bool) → T b → oneIf b ≡ 1
-one-if true h = refl
-one-if false h = absurd h
-
-pub among-head : (p : ℕ) (ps : List ℕ) → Among p (p ∷ ps)
-among-head p ps = omega (arith, occurs-more p p ps, one-if (eqb p p) (eq→eqb {a = p} refl))
-
-pub among-tail : (p q : ℕ) (ps : List ℕ) → Among p ps → Among p (q ∷ ps)
-among-tail p q ps h = omega (arith, occurs-more p q ps)
-
-pub among-cases : (p q : ℕ) (ps : List ℕ) → Among p (q ∷ ps) → (q ≡ p) ⊎ Among p ps
-among-cases p q ps h = go (eqb q p) refl
-  where
-    go : (b : Bool) → eqb q p ≡ b → (q ≡ p) ⊎ Among p ps
-    go true e = inl (eqb→eq q p (subst T (sym e) tt))
-    go false e = inr (let i = occurs-more p q ps ∙ ap (λ (b : Bool). oneIf b + occurrences p ps) e in omega arith)
+use Rattle.base.specs.Lists.{oneIf, occurrences, Among}
+use Rattle.base.proofs.ListLaws.{among-head, among-tail, among-cases}
 
 -- ---- one step, on an axis
 step-low : (a : Axis) (acc b : BoxWords) → low a (foldStep acc b) ≡ vminOf (low a acc) (low a b)

@@ -13,10 +13,10 @@ use Rattle.math.specs.declared.vec3.Vec3.{Vec3}
 use Rattle.split.specs.declared.average.Axis.{Axis}
 use Rattle.split.specs.declared.average.Axis.the-variants.{X, Y, Z}
 use Rattle.split.specs.Boxes.{boxAt, centreOf}
-use Rattle.split.specs.Lists.{oneIf, pick, sift}
+use Rattle.base.specs.Lists.{oneIf, sift}
 use Rattle.split.specs.Rule.{along, above}
-use Rattle.split.specs.Groups.{stepOf, centreAt, passes, Parted}
-use Rattle.split.proofs.Places.{rest-one}
+use Rattle.split.specs.steps.Groups.{stepOf, centreAt, passes, Parted}
+use Rattle.base.proofs.StoreLaws.{rest-one}
 
 -- the two words of an axis are those that stand `step` after x's
 centre-along : (ws : List ℕ) (p : ℕ) (a : Axis) → centreAt ws (stepOf a) p ≡ along a (centreOf (boxAt ws p))

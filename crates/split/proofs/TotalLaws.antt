@@ -9,6 +9,7 @@ use lib.Dec.{T}
 use lib.ListN.{getD}
 use lib.Ieee.{Float, binary32, ofBits, toBits, isNan}
 use lib.Ieee.Bits.{toBits-ofBits}
+use Rattle.base.proofs.Truth.{neither}
 use Rattle.float32.specs.Extremes.{vminWord, vmaxWord}
 use Rattle.float32.proofs.ExtremeLaws.{vminWord-value, vmaxWord-value, vminWord-either, vmaxWord-either}
 use Rattle.math.specs.declared.vec3.Vec3.{Vec3}
@@ -19,9 +20,8 @@ use Rattle.split.specs.declared.boxes.BoxWords.{BoxWords}
 use Rattle.split.specs.declared.totals.Totals.{Totals}
 use Rattle.split.specs.Boxes.{boxAt, pointAt}
 use Rattle.split.specs.Folding.{startBox, foldStep, foldFrom, foldBox}
-use Rattle.split.specs.Plain.{cornersOf}
 use Rattle.split.specs.Rule.{origin, sumFrom}
-use Rattle.split.specs.Totals.{totalsOf, totalStep, anyNan}
+use Rattle.split.specs.steps.Totals.{cornersOf, totalsOf, totalStep, anyNan}
 
 -- ---- by value
 abbrev pub totalsFrom : (ℕ → BoxWords) → Totals → List ℕ → Totals
@@ -80,10 +80,6 @@ unfolding foldBox
 fold-words ws h ps = words-from ws h startBox (omega arith, omega arith, omega arith) (omega arith, omega arith, omega arith) ps
 
 -- ---- a number's word
-neither : (a b : Bool) → (a || b) ≡ false → (a ≡ false) × (b ≡ false)
-neither true b e = absurd (subst T e tt)
-neither false b e = (refl, e)
-
 word-back : (n : ℕ) → Word n → isNan (ofBits binary32 n) ≡ false → toBits binary32 (ofBits binary32 n) ≡ n
 word-back n h e = toBits-ofBits binary32 n h (subst (λ (b : Bool). T (not b)) (sym e) tt)
 

@@ -6,6 +6,7 @@ use mathlib.Core.Path.{_≡_}
 use lib.Dec.{leb, ltb, eqb}
 use lib.ListN.{length, take, drop}
 use lib.Ieee.{Float, binary32, ofBits, lt}
+use Rattle.base.specs.Lists.{sift}
 use Rattle.float32.specs.Counts.{ofCount}
 use Rattle.math.specs.declared.vec3.Vec3.{Vec3}
 use Rattle.math.specs.Stored.{valuesOf}
@@ -15,7 +16,6 @@ use Rattle.split.specs.declared.boxes.BoxWords.{BoxWords}
 use Rattle.split.specs.declared.average.Axis.{Axis}
 use Rattle.split.specs.declared.average.Axis.the-variants.{X, Y, Z}
 use Rattle.split.specs.Boxes.{centreOf}
-use Rattle.split.specs.Lists.{pick, sift}
 use Rattle.split.specs.Sorted.{sortBoxes}
 
 -- +0 on each axis
@@ -81,20 +81,24 @@ stuck at ps = eqb (length (one at ps)) 0 || eqb (length (one at ps)) (length ps)
 -- Rule T6: where a group is empty, one followed by two is sorted and cut at n / 2 rounded down.
 unfoldable pub groupOne : (ℕ → BoxWords) → List ℕ → List ℕ
 unfolding chosen
-groupOne at ps = pick (stuck at ps) (take (length ps / 2) (sortBoxes at (one at ps ++ two at ps))) (one at ps)
+groupOne at ps = cond (stuck at ps) (take (length ps / 2) (sortBoxes at (one at ps ++ two at ps))) (one at ps)
 
 unfoldable pub groupTwo : (ℕ → BoxWords) → List ℕ → List ℕ
 unfolding chosen
-groupTwo at ps = pick (stuck at ps) (drop (length ps / 2) (sortBoxes at (one at ps ++ two at ps))) (two at ps)
+groupTwo at ps = cond (stuck at ps) (drop (length ps / 2) (sortBoxes at (one at ps ++ two at ps))) (two at ps)
 
--- Rule T7 (01, Tree build; bvh.rs, children): group one is the first child unless group two has more items.
+-- Rule T7 (01, Tree build; bvh.rs, children): of the groups one and two of places with the boxes `at`, two leads where it has more items.
+unfoldable pub twoLeads : (ℕ → BoxWords) → List ℕ → List ℕ → Bool
+twoLeads at one two = ltb (length one) (length two)
+
+-- Rule T7: the group that leads is the first child.
 unfoldable pub firstOf : (ℕ → BoxWords) → List ℕ → List ℕ
 unfolding groupOne groupTwo
-firstOf at ps = pick (ltb (length (groupOne at ps)) (length (groupTwo at ps))) (groupTwo at ps) (groupOne at ps)
+firstOf at ps = cond (twoLeads at (groupOne at ps) (groupTwo at ps)) (groupTwo at ps) (groupOne at ps)
 
 unfoldable pub secondOf : (ℕ → BoxWords) → List ℕ → List ℕ
 unfolding groupOne groupTwo
-secondOf at ps = pick (ltb (length (groupOne at ps)) (length (groupTwo at ps))) (groupOne at ps) (groupTwo at ps)
+secondOf at ps = cond (twoLeads at (groupOne at ps) (groupTwo at ps)) (groupOne at ps) (groupTwo at ps)
 
 -- what a split leaves in place of the places ps: the first group, then the second, and how many the first has
 pub record Divided (at : ℕ → BoxWords) (ps w : List ℕ) (r : ℕ) : Type 0 where

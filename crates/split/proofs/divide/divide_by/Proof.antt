@@ -11,7 +11,7 @@ use Rattle.split.specs.declared.boxes.BoxWords.{BoxWords}
 use Rattle.split.specs.declared.groups.Counts.{Counts}
 use Rattle.split.specs.Boxes.{boxAt}
 use Rattle.split.specs.Rule.{chosen, groupOne, groupTwo}
-use Rattle.split.specs.Groups.{Parted}
+use Rattle.split.specs.steps.Groups.{Parted}
 use Rattle.split.proofs.Counting.{count-le}
 use Rattle.split.proofs.Steps.{Met, chosen-by, parted-met, met-divided, met-inside, parted-within}
 use native.Mathlib.Omega.{arith}
@@ -25,7 +25,7 @@ partition c = c .before .before .before .before .before .before .before
 
 -- the boxes and the places at entry
 abbrev boxes-of : tie.Start → ℕ → BoxWords
-boxes-of g = boxAt (g .args .boxes .now)
+boxes-of g = boxAt (g .args .entries .now)
 
 abbrev places-of : tie.Start → List ℕ
 places-of g = g .args .a .now
@@ -75,8 +75,8 @@ settle-requires c κs =
       parted-within _ _ (places-of g) (p .partition .last .0) (p .partition .result) (p .partition .ensures) (g .pre .3),
     )
 
-larger-first-requires : tie.Need-larger-first-requires
-larger-first-requires c κs =
+leader-first-requires : tie.Need-leader-first-requires
+leader-first-requires c κs =
     let s = c .before .before .before .before .before .before in
     let p = partition s in
     (omega (arith, s .settle .kept .0, s .settle .kept .1 .0, p .partition .kept .0, p .partition .kept .1 .0, entry p .pre .2), met-inside (meets s))
@@ -89,10 +89,10 @@ same-length-2 c = search needs
 
 returns : tie.Need-returns
 returns c =
-    let f = c .before .before .before .before .larger-first in
+    let f = c .before .before .before .before .leader-first in
     let s = c .before .before .before .before .before .before .before .before .before .before .before in
     let g = entry (partition s) in
-    met-divided (boxes-of g) (places-of g) (s .settle .last .0) (f .last .0) (s .settle .result) (f .result) (g .pre .0) (meets s) (f .ensures)
+    met-divided (boxes-of g) (places-of g) (s .settle .last .0) (f .last .0) (s .settle .result) (f .result) (g .pre .0) (meets s) (f .ensures (boxes-of g))
 
 pub divide-by-spec : {M : Type 1} → statement M
 divide-by-spec =
@@ -103,7 +103,7 @@ divide-by-spec =
     choose-axis-requires
     partition-requires
     settle-requires
-    larger-first-requires
+    leader-first-requires
     same-length
     same-length-2
     returns)

@@ -10,7 +10,7 @@ use lib.Dec.{leb}
 use borrow.Author.Tests.{le-leb, lt-leb}
 use Rattle.split.specs.declared.average.Axis.the-variants.{X, Y, Z}
 use Rattle.split.specs.Rule.{nearestAxis}
-use Rattle.split.specs.Groups.{axisBy}
+use Rattle.split.specs.steps.Groups.{axisBy}
 
 -- the definition's answer, by the offsets that the calls gave
 by-offsets : (c : tie.After-offset3) → nearestAxis (c .before .before .offset .result) (c .before .offset2 .result) (c .offset3 .result) ≡ axisBy (c .before .before .before .args .n) (c .before .before .before .args .c)

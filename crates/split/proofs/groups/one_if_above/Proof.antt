@@ -7,10 +7,10 @@ use mathlib.Core.Path.{_≡_, sym, ap, _∙_}
 use lib.Ieee.{lt}
 use Rattle.math.specs.Vec3s.{_⊕_, _⊗_}
 use Rattle.math.specs.Transform.{half}
-use Rattle.split.specs.Lists.{oneIf}
-use Rattle.split.specs.Groups.{passes}
+use Rattle.base.specs.Lists.{oneIf}
+use Rattle.split.specs.steps.Groups.{passes}
 
-test-is : (c : tie.After-value2) → lt (c .before .before .before .before .before .before .args .cut) ((c .before .before .value .result ⊕ c .value2 .result) ⊗ half) ≡ passes (c .before .before .before .before .before .before .args .boxes .now) (c .before .before .before .before .before .before .args .step) (c .before .before .before .before .before .before .args .cut) (c .before .before .before .before .before .before .args .place .0)
+test-is : (c : tie.After-value2) → lt (c .before .before .before .before .before .before .args .cut) ((c .before .before .value .result ⊕ c .value2 .result) ⊗ half) ≡ passes (c .before .before .before .before .before .before .args .entries .now) (c .before .before .before .before .before .before .args .step) (c .before .before .before .before .before .before .args .cut) (c .before .before .before .before .before .before .args .place .0)
 unfolding passes
 test-is c = ap (lt (c .before .before .before .before .before .before .args .cut)) (λ i. (c .before .before .value .ensures i ⊕ c .value2 .ensures i) ⊗ half)
 

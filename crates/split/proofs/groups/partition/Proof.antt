@@ -7,11 +7,11 @@ use mathlib.Core.Path.{_≡_, subst, ap, _∙_}
 use mathlib.Core.Bool.{Bool}
 use lib.ListN.{length, getD}
 use Rattle.split.specs.Boxes.{boxAt}
-use Rattle.split.specs.Lists.{oneIf}
+use Rattle.base.specs.Lists.{oneIf}
 use Rattle.split.specs.Rule.{above}
-use Rattle.split.specs.Groups.{stepOf, passes, Parted}
-use Rattle.split.proofs.WithinLaws.{within-at}
-use Rattle.split.proofs.Sifting.{one-or-none}
+use Rattle.split.specs.steps.Groups.{stepOf, passes, Parted}
+use Rattle.base.proofs.WithinLaws.{within-at}
+use Rattle.base.proofs.ListLaws.{one-or-none}
 use Rattle.split.proofs.Parting.{Parting, begin, next-same, turn, parted, passes-above}
 use native.Mathlib.Omega.{arith}
 use borrow.Author.Needs.{needs}
@@ -20,18 +20,18 @@ use mathlib.Core.Path.{_≡_, subst, ap, _∙_}
 use mathlib.Core.Bool.{Bool}
 use lib.ListN.{length, getD}
 use Rattle.split.specs.Boxes.{boxAt}
-use Rattle.split.specs.Lists.{oneIf}
+use Rattle.base.specs.Lists.{oneIf}
 use Rattle.split.specs.Rule.{above}
-use Rattle.split.specs.Groups.{stepOf, passes, Parted}
-use Rattle.split.proofs.WithinLaws.{within-at}
-use Rattle.split.proofs.Sifting.{one-or-none}
+use Rattle.split.specs.steps.Groups.{stepOf, passes, Parted}
+use Rattle.base.proofs.WithinLaws.{within-at}
+use Rattle.base.proofs.ListLaws.{one-or-none}
 use Rattle.split.proofs.Parting.{Parting, begin, next-same, turn, parted, passes-above, step-small}
 
 abbrev Inv-loop : tie.InvT-loop
-Inv-loop a₀ t₀ boxes plain n step cut k₀ i₀ a t k i = Parting (passes boxes step cut) a₀ t₀ a t k i
+Inv-loop a₀ t₀ entries plain n step cut k₀ i₀ a t k i = Parting (passes entries step cut) a₀ t₀ a t k i
 
 abbrev μ-loop : tie.MeasureT-loop
-μ-loop a₀ t₀ boxes plain n step cut k₀ i₀ a t k i = n - i
+μ-loop a₀ t₀ entries plain n step cut k₀ i₀ a t k i = n - i
 
 step-of-requires : tie.Need-step-of-requires Inv-loop μ-loop
 step-of-requires c κs = search needs
@@ -73,7 +73,7 @@ one-if-above-requires c κs =
 add-k : tie.Need-add-k Inv-loop μ-loop
 add-k c =
     let l = c .before .before .before .loop in
-    omega (arith, c .one-if-above .ensures, one-or-none (passes (c .before .before .before .before .before .before .before .before .before .args .boxes .now) (c .before .before .before .before .before .step-of .result) (c .before .before .before .before .along .result) (getD (l .a) (l .i) 0)))
+    omega (arith, c .one-if-above .ensures, one-or-none (passes (c .before .before .before .before .before .before .before .before .before .args .entries .now) (c .before .before .before .before .before .step-of .result) (c .before .before .before .before .along .result) (getD (l .a) (l .i) 0)))
 
 add-i : tie.Need-add-i Inv-loop μ-loop
 add-i c = omega arith
@@ -104,7 +104,7 @@ returns c =
     let l = c .before .before .before .before .before .before .loop in
     let g = c .before .before .before .before .before .before .before .before .before .before .before .before in
     let ps = g .args .a .now in
-    let e = passes-above (g .args .boxes .now) (g .args .avg) (g .args .axis) (c .before .before .before .before .before .before .before .before .step-of .result) (c .before .before .before .before .before .before .before .along .result) (c .before .before .before .before .before .before .before .before .step-of .ensures) (c .before .before .before .before .before .before .before .along .ensures) in
+    let e = passes-above (g .args .entries .now) (g .args .avg) (g .args .axis) (c .before .before .before .before .before .before .before .before .step-of .result) (c .before .before .before .before .before .before .before .along .result) (c .before .before .before .before .before .before .before .before .step-of .ensures) (c .before .before .before .before .before .before .before .along .ensures) in
     rw (← e, c .before .before .paste .ensures) (parted _ ps (g .args .t .now) (l .a) (l .t) (l .k) (l .i) (l .inv) (omega arith) (g .pre .0))
 
 pub partition-spec : {M : Type 1} → statement M

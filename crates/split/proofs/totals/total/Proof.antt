@@ -8,17 +8,17 @@ use Rattle.split.specs.declared.totals.Totals.{Totals}
 use Rattle.split.specs.Boxes.{boxAt}
 use Rattle.split.specs.Folding.{startBox}
 use Rattle.split.specs.Rule.{origin}
-use Rattle.split.specs.Totals.{totalsOf, totalStep}
+use Rattle.split.specs.steps.Totals.{totalsOf, totalStep}
 use Rattle.split.proofs.TotalLaws.{totalsFrom, all-totals}
 use Rattle.split.proofs.Places.{Pass, begin, taken, finished, next-within}
 use native.Mathlib.Omega.{arith}
 use borrow.Author.Needs.{needs}
 
 abbrev Inv-loop : tie.InvT-loop
-Inv-loop boxes places plain t₀ i₀ t i = Pass (totalsFrom (boxAt boxes)) (length boxes) places (totalsOf startBox origin) t i
+Inv-loop entries places plain t₀ i₀ t i = Pass (totalsFrom (boxAt entries)) (length entries) places (totalsOf startBox origin) t i
 
 abbrev μ-loop : tie.MeasureT-loop
-μ-loop boxes places plain t₀ i₀ t i = length places - i
+μ-loop entries places plain t₀ i₀ t i = length places - i
 
 no-totals-requires : tie.Need-no-totals-requires Inv-loop μ-loop
 no-totals-requires c κs = search needs
@@ -26,9 +26,9 @@ no-totals-requires c κs = search needs
 loop-holds : tie.Need-loop-holds Inv-loop μ-loop
 loop-holds c =
     let g = c .before .before .before in
-    let at = boxAt (g .args .boxes .now) in
+    let at = boxAt (g .args .entries .now) in
     let ps = g .args .places .now in
-    subst (λ (s : Totals). Pass (totalsFrom at) (length (g .args .boxes .now)) ps (totalsOf startBox origin) s 0) (sym (c .no-totals .ensures)) (begin (totalsFrom at) _ ps (totalsOf startBox origin) (g .pre .0))
+    subst (λ (s : Totals). Pass (totalsFrom at) (length (g .args .entries .now)) ps (totalsOf startBox origin) s 0) (sym (c .no-totals .ensures)) (begin (totalsFrom at) _ ps (totalsOf startBox origin) (g .pre .0))
 
 mul-t6 : tie.Need-mul-t6 Inv-loop μ-loop
 mul-t6 c = search needs
@@ -54,7 +54,7 @@ loop-less c = search needs
 loop-again : tie.Need-loop-again Inv-loop μ-loop
 loop-again c =
     let l = c .before .before .before .before .loop in
-    let at = boxAt (c .before .before .before .before .before .before .before .before .args .boxes .now) in
+    let at = boxAt (c .before .before .before .before .before .before .before .before .args .entries .now) in
     let ps = c .before .before .before .before .before .before .before .before .args .places .now in
     let step = c .total-step .ensures ∙ ap (totalStep (l .t)) (c .before .corners-at .ensures) in
     taken (totalsFrom at) _ ps (totalsOf startBox origin) (l .t) _ (l .i) (l .inv) (omega arith) (ap (λ (s : Totals). totalsFrom at s (drop (l .i + 1) ps)) step)
@@ -63,7 +63,7 @@ returns : tie.Need-returns Inv-loop μ-loop
 returns c =
     let l = c .before .loop in
     let g = c .before .before .before .before .before in
-    finished (totalsFrom (boxAt (g .args .boxes .now))) _ (g .args .places .now) (totalsOf startBox origin) (l .t) (l .i) (l .inv) (c .loop-test .left) ∙ all-totals (boxAt (g .args .boxes .now)) (g .args .places .now)
+    finished (totalsFrom (boxAt (g .args .entries .now))) _ (g .args .places .now) (totalsOf startBox origin) (l .t) (l .i) (l .inv) (c .loop-test .left) ∙ all-totals (boxAt (g .args .entries .now)) (g .args .places .now)
 
 pub total-spec : {M : Type 1} → statement M
 total-spec =

@@ -1,11 +1,12 @@
--- The steps of a split, as the contracts say them: counts, the parted list, the larger group first. Definitions only.
+-- The steps of a split, as the contracts say them: counts, the parted list, the leading group first. Definitions only.
 use Prim.Native.Nat.{ℕ, _+_, _-_, _*_, _/_}
 use mathlib.Core.Bool.{Bool, not, cond, _||_}
 use mathlib.Core.List.{List, _++_}
 use mathlib.Core.Path.{_≡_}
-use lib.Dec.{ltb, eqb}
+use lib.Dec.{eqb}
 use lib.ListN.{length, take, drop, getD}
 use lib.Ieee.{Float, binary32, ofBits, lt}
+use Rattle.base.specs.Lists.{oneIf, sift}
 use Rattle.math.specs.declared.vec3.Vec3.{Vec3}
 use Rattle.math.specs.Vec3s.{_⊕_, _⊗_}
 use Rattle.math.specs.Transform.{half}
@@ -13,8 +14,7 @@ use Rattle.split.specs.declared.boxes.BoxWords.{BoxWords}
 use Rattle.split.specs.declared.average.Axis.{Axis}
 use Rattle.split.specs.declared.average.Axis.the-variants.{X, Y, Z}
 use Rattle.split.specs.declared.groups.Counts.{Counts}
-use Rattle.split.specs.Lists.{oneIf, pick, sift}
-use Rattle.split.specs.Rule.{below, countBelow, offset, nearestAxis}
+use Rattle.split.specs.Rule.{below, countBelow, offset, nearestAxis, twoLeads}
 use Rattle.split.specs.Sorted.{sortBoxes}
 
 -- how many centres are below the average, on each axis
@@ -54,10 +54,10 @@ oneSided k n = eqb k 0 || eqb k n
 
 -- Rule T6: sorted where a group is empty, and where the second group begins then.
 pub record Settled (at : ℕ → BoxWords) (k : ℕ) (ps w : List ℕ) (r : ℕ) : Type 0 where
-  pub list : w ≡ pick (oneSided k (length ps)) (sortBoxes at ps) ps
+  pub list : w ≡ cond (oneSided k (length ps)) (sortBoxes at ps) ps
   pub begin : r ≡ cond (oneSided k (length ps)) (length ps / 2) k
 
--- Rule T7: of the first h places and the others, the others first where they are more, and how many come first.
-pub record LargerFirst (h : ℕ) (ps w : List ℕ) (r : ℕ) : Type 0 where
-  pub list : w ≡ pick (ltb h (length ps - h)) (drop h ps ++ take h ps) ps
-  pub count : r ≡ cond (ltb h (length ps - h)) (length ps - h) h
+-- Rule T7: of the first h places and the others, the group that leads first, and how many it has.
+pub record LeaderFirst (at : ℕ → BoxWords) (h : ℕ) (ps w : List ℕ) (r : ℕ) : Type 0 where
+  pub list : w ≡ cond (twoLeads at (take h ps) (drop h ps)) (drop h ps ++ take h ps) ps
+  pub count : r ≡ cond (twoLeads at (take h ps) (drop h ps)) (length ps - h) h

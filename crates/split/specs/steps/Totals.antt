@@ -8,6 +8,10 @@ use Rattle.split.specs.declared.boxes.BoxWords.{BoxWords}
 use Rattle.split.specs.declared.boxes.Corners.{Corners}
 use Rattle.split.specs.declared.totals.Totals.{Totals}
 
+-- a box by its floats
+abbrev pub cornersOf : BoxWords → Corners
+cornersOf b = record { low = valuesOf (b .min); high = valuesOf (b .max) }
+
 -- the floats of a box, beside a sum
 abbrev pub totalsOf : BoxWords → Vec3 → Totals
 totalsOf b s = record { low = valuesOf (b .min); high = valuesOf (b .max); sum = s }
