@@ -21,5 +21,5 @@ pub mod Rounding
 pub mod SignLaws
 pub mod SumError
 mod Trichotomy
-mod Vertex
+mod Truncation
 pub mod Wrap

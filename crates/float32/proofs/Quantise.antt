@@ -1,4 +1,4 @@
--- Quantising: the vertex value of x * k grows with x, for a positive k and for +infinity; and for a half extent q, with q / 32767 and its inverse rounded, what is at most q in size is scaled to less than 32768, by the error of each rounding.
+-- Quantising: the truncated value of x * k grows with x, for a positive k and for +infinity; and for a half extent q, with q / 32767 and its inverse rounded, what is at most q in size is scaled to less than 32768, by the error of each rounding.
 use mathlib.Core.Path.{_≡_, refl, sym, _∙_}
 use mathlib.Core.Logic.{inl, inr}
 use mathlib.Core.Bool.{Bool, true, false, cond}
@@ -13,7 +13,7 @@ use lib.Ieee.Fits.{up-pos}
 use lib.Ieee.Scale.{finite}
 use lib.Ieee.Positive.{num, den, den-pos, positive, positive-finite, between, first-pos, le→cross}
 use borrow.Author.Tests.{eq-eqb}
-use Rattle.float32.specs.Casts.{limit, shortOf, vertexOf}
+use Rattle.float32.specs.Casts.{limit, shortOf, truncatedOf}
 use Rattle.float32.proofs.Order as Order
 use Rattle.float32.proofs.Order.{over, under, num-pos, positive-over, positive-under, Cross, Ordered, from-lowest, to-highest, numbers, le→ordered}
 use Rattle.float32.proofs.OrderLaws.{le-trans, le-lt-trans, finite-between, neg-neg, neg-le, neg-lt}
@@ -21,16 +21,16 @@ use Rattle.float32.proofs.Rounding.{Rounded, rounded-mono, div-rounded,
 use Rattle.float32.proofs.Exactness.{self-rounded}
 use Rattle.float32.proofs.RoundError.{Relative, div-relative}
 use Rattle.float32.proofs.Monotone.{div-mono, mul-mono}
-use Rattle.float32.proofs.CastLaws.{edge, vertexOf-mono, vertexOf-in, vertexOf-nan, shortOf-is-vertexOf}
+use Rattle.float32.proofs.CastLaws.{edge, truncatedOf-mono, truncatedOf-in, truncatedOf-nan, shortOf-is-truncatedOf}
 
--- ---- the order is kept, by a positive factor and by +infinity, which is 1 / 0: there a zero's product is a NaN, and its vertex value 0
-pub vertexOf-scaled : (f : Format) (x y k : Float) → T (positive k) → T (le x y) → T (leZ (vertexOf (mul f x k)) (vertexOf (mul f y k)))
-vertexOf-scaled f x y k K h = vertexOf-mono (mul f x k) (mul f y k) (mul-mono f x y k K h)
+-- ---- the order is kept, by a positive factor and by +infinity, which is 1 / 0: there a zero's product is a NaN, and its truncated value 0
+pub truncatedOf-scaled : (f : Format) (x y k : Float) → T (positive k) → T (le x y) → T (leZ (truncatedOf (mul f x k)) (truncatedOf (mul f y k)))
+truncatedOf-scaled f x y k K h = truncatedOf-mono (mul f x k) (mul f y k) (mul-mono f x y k K h)
 
-vertexOf-inf : (s : Bool) → vertexOf (inf s) ≡ cond s (negsuc 32766) (pos 32767)
-unfolding vertexOf isNan lt toSigned neg ofBits
-vertexOf-inf true = refl
-vertexOf-inf false = refl
+truncatedOf-inf : (s : Bool) → truncatedOf (inf s) ≡ cond s (negsuc 32766) (pos 32767)
+unfolding truncatedOf isNan lt toSigned neg ofBits
+truncatedOf-inf true = refl
+truncatedOf-inf false = refl
 
 over-inf : (f : Format) (x : Float) → T (finite x) → 0 < over x → mul f x (inf false) ≡ inf false
 unfolding mul
@@ -71,23 +71,23 @@ zeros x y h z w = (no-factor (over x) (den y) (den-pos y) (first (rw (z, w) at h
     second : over x * den y + under y * den x ≤ 0 * den x + 0 * den y → under y * den x ≡ 0
     second h = omega arith
 
-infinite : (f : Format) {x y : Float} → Ordered x y → T (leZ (vertexOf (mul f x (inf false))) (vertexOf (mul f y (inf false))))
-infinite f (from-lowest {y = y} p) = rw (inf-inf f true, vertexOf-inf true) (vertexOf-in (mul f y (inf false)) .0)
-infinite f (to-highest {x = x} p) = rw (inf-inf f false, vertexOf-inf false) (vertexOf-in (mul f x (inf false)) .1)
+infinite : (f : Format) {x y : Float} → Ordered x y → T (leZ (truncatedOf (mul f x (inf false))) (truncatedOf (mul f y (inf false))))
+infinite f (from-lowest {y = y} p) = rw (inf-inf f true, truncatedOf-inf true) (truncatedOf-in (mul f y (inf false)) .0)
+infinite f (to-highest {x = x} p) = rw (inf-inf f false, truncatedOf-inf false) (truncatedOf-in (mul f x (inf false)) .1)
 infinite f (numbers {x = x} {y = y} p q h) =
     elim (eq-zero-or-pos (under x)) [
-      | inr l ↦ rw (under-inf f x p l, vertexOf-inf true) (vertexOf-in (mul f y (inf false)) .0)
+      | inr l ↦ rw (under-inf f x p l, truncatedOf-inf true) (truncatedOf-in (mul f y (inf false)) .0)
       | inl z ↦
           elim (eq-zero-or-pos (over y)) [
-            | inr l ↦ rw (over-inf f y q l, vertexOf-inf false) (vertexOf-in (mul f x (inf false)) .1)
+            | inr l ↦ rw (over-inf f y q l, truncatedOf-inf false) (truncatedOf-in (mul f x (inf false)) .1)
             | inl w ↦
                 let o = zeros x y h z w in
-                rw (zero-inf f x p (o .0) z, zero-inf f y q w (o .1), vertexOf-nan) tt
+                rw (zero-inf f x p (o .0) z, zero-inf f y q w (o .1), truncatedOf-nan) tt
           ]
     ]
 
-pub vertexOf-infinite : (f : Format) (x y : Float) → T (le x y) → T (leZ (vertexOf (mul f x (inf false))) (vertexOf (mul f y (inf false))))
-vertexOf-infinite f x y h = infinite f (le→ordered x y h)
+pub truncatedOf-infinite : (f : Format) (x y : Float) → T (le x y) → T (leZ (truncatedOf (mul f x (inf false))) (truncatedOf (mul f y (inf false))))
+truncatedOf-infinite f x y h = infinite f (le→ordered x y h)
 
 -- from -0 to 0 there are only zeros, and the node value of their product is 0 too
 no-size : (d : Float) → Cross (fin true 0 (pos 0)) d → Cross d (fin false 0 (pos 0)) → (over d ≡ 0) × (under d ≡ 0)
@@ -100,11 +100,11 @@ shortOf-nan : shortOf nan ≡ pos 0
 unfolding shortOf toSigned
 shortOf-nan = refl
 
-pub node-is-vertex-infinite : (f : Format) (d : Float) → T (le (fin true 0 (pos 0)) d) → T (le d (fin false 0 (pos 0))) → shortOf (mul f d (inf false)) ≡ vertexOf (mul f d (inf false))
-node-is-vertex-infinite f d h k =
+pub node-is-truncated-infinite : (f : Format) (d : Float) → T (le (fin true 0 (pos 0)) d) → T (le d (fin false 0 (pos 0))) → shortOf (mul f d (inf false)) ≡ truncatedOf (mul f d (inf false))
+node-is-truncated-infinite f d h k =
     let p = finite-between (fin true 0 (pos 0)) d (fin false 0 (pos 0)) tt tt h k in
     let z = no-size d (Order.le→cross (fin true 0 (pos 0)) d tt p h) (Order.le→cross d (fin false 0 (pos 0)) p tt k) in
-    rw (zero-inf f d p (z .0) (z .1), shortOf-nan, vertexOf-nan)
+    rw (zero-inf f d p (z .0) (z .1), shortOf-nan, truncatedOf-nan)
 
 -- ---- U / D is (a / c) / 32767 and I / J is D / U, each up to 2 ^ -24 of it: then (a / c) * (I / J) is at most 32767.5
 three : (a c U D I J : ℕ) → 0 < D → 16777216 * (a * 1 * D) ≤ 16777216 * (U * (32767 * c)) + a * 1 * D → 16777216 * (I * (U * 1)) ≤ 16777216 * (1 * D * J) + 1 * D * J → 2 * (a * I) ≤ 65535 * (c * J)
@@ -214,5 +214,5 @@ module _ (q : Float) (L : T (le least q)) (H : T (le q most)) where
       rw (neg-neg m) at (neg-lt (neg m) edge k)
 
   -- So the build's node value is the value that the walk gives the query.
-  pub node-is-vertex : (d : Float) → T (le (neg q) d) → T (le d q) → shortOf (mul binary32 d (inverse q)) ≡ vertexOf (mul binary32 d (inverse q))
-  node-is-vertex d h k = shortOf-is-vertexOf (mul binary32 d (inverse q)) (scaled-above d h) (scaled-below d k)
+  pub node-is-truncated : (d : Float) → T (le (neg q) d) → T (le d q) → shortOf (mul binary32 d (inverse q)) ≡ truncatedOf (mul binary32 d (inverse q))
+  node-is-truncated d h k = shortOf-is-truncatedOf (mul binary32 d (inverse q)) (scaled-above d h) (scaled-below d k)

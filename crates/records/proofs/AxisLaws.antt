@@ -14,12 +14,12 @@ use lib.Ieee.Scale.{finite}
 use lib.Ieee.Positive.{positive}
 use Rattle.float32.specs.Casts.{limit}
 use Rattle.float32.specs.Signs.{absOf}
-use Rattle.float32.proofs.CastLaws.{vertexOf-in}
+use Rattle.float32.proofs.CastLaws.{truncatedOf-in}
 use Rattle.float32.proofs.ExtremeLaws.{vmaxOf-both, vmaxOf-ge, vmaxOf-least}
 use Rattle.float32.proofs.Monotone.{add-mono-both, add-no-nan, sub-mono, sub-anti, sub-no-nan, mul-mono}
 use Rattle.float32.proofs.Order.{le→cross}
 use Rattle.float32.proofs.OrderLaws.{le-trans, finite-no-nan, finite-between, eq→le, neg-le}
-use Rattle.float32.proofs.Quantise.{vertexOf-scaled, vertexOf-infinite, inverse-positive, node-is-vertex, node-is-vertex-infinite, most}
+use Rattle.float32.proofs.Quantise.{truncatedOf-scaled, truncatedOf-infinite, inverse-positive, node-is-truncated, node-is-truncated-infinite, most}
 use Rattle.float32.proofs.Rounding.{round-zero}
 use Rattle.float32.proofs.SignLaws.{abs-no-nan, abs-bounds, abs-le}
 use Rattle.math.specs.Axes.{Axis, alongX, alongY, alongZ, coordinate, wordOn}
@@ -141,12 +141,12 @@ module _ (lo hi : Float) (m : Measured lo hi) where
       let c = centre lo hi in
       let d = sub-mono binary32 v w c centre-finite h in
       elim (m .extent-size) [
-        | inl z ↦ rw (inverse-infinite lo hi z) (vertexOf-infinite binary32 (v ⊖ c) (w ⊖ c) d)
-        | inr l ↦ vertexOf-scaled binary32 (v ⊖ c) (w ⊖ c) (inverse lo hi) (inverse-positive (extent lo hi) l extent-most) d
+        | inl z ↦ rw (inverse-infinite lo hi z) (truncatedOf-infinite binary32 (v ⊖ c) (w ⊖ c) d)
+        | inr l ↦ truncatedOf-scaled binary32 (v ⊖ c) (w ⊖ c) (inverse lo hi) (inverse-positive (extent lo hi) l extent-most) d
       ]
 
   pub query-in : (w : Float) → T (leZ (negsuc 32766) (query w)) × T (leZ (query w) (pos 32767))
-  query-in w = vertexOf-in ((w ⊖ centre lo hi) ⊗ inverse lo hi)
+  query-in w = truncatedOf-in ((w ⊖ centre lo hi) ⊗ inverse lo hi)
 
   -- ---- from lo to hi the build's value is the walk's
   pub node-is-query : (v : Float) → T (le lo v) → T (le v hi) → node v ≡ query v
@@ -158,11 +158,11 @@ module _ (lo hi : Float) (m : Measured lo hi) where
         | inl z ↦
             let e = eq→le (extent lo hi) nought z in
             rw (inverse-infinite lo hi z) (
-            node-is-vertex-infinite binary32 d
+            node-is-truncated-infinite binary32 d
             (le-trans (neg nought) (neg (extent lo hi)) d (neg-le (extent lo hi) nought (e .0)) (i .0))
             (le-trans d (extent lo hi) nought (i .1) (e .0))
             )
-        | inr l ↦ node-is-vertex (extent lo hi) l extent-most d (i .0) (i .1)
+        | inr l ↦ node-is-truncated (extent lo hi) l extent-most d (i .0) (i .1)
       ]
 
   pub node-in : (v : Float) → T (le lo v) → T (le v hi) → T (leZ (negsuc 32766) (node v)) × T (leZ (node v) (pos 32767))
@@ -228,7 +228,7 @@ module _ (a : Axis) (min max : Words3) where
   asked-is w = query-on a w (scaleOfBox min max .cen) (scaleOfBox min max .inverse) ∙ rw (scale-centre a min max, scale-inverse a min max)
 
   pub asked-in : (w : Vec3) → T (leZ (negsuc 32766) (asked w)) × T (leZ (asked w) (pos 32767))
-  asked-in w = rw (query-on a w (scaleOfBox min max .cen) (scaleOfBox min max .inverse)) (vertexOf-in _)
+  asked-in w = rw (query-on a w (scaleOfBox min max .cen) (scaleOfBox min max .inverse)) (truncatedOf-in _)
 
   -- a stored point within the box, on the axis
   abbrev pub Inside : Words3 → Type 0
