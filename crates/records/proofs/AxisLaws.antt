@@ -1,4 +1,4 @@
--- One axis of the box of all items, from lo to hi, under the pair's premises: the value that the walk gives the query grows with the query, and the value that the build gives a point from lo to hi is the walk's; so the two values are in the order of the floats. With a half extent of 2 ^ -100 or more by the error of three roundings (float32's Quantise), with a half extent of 0 because the inverse is +infinity, and a zero times that is a NaN, of value 0.
+-- One axis of the box of all items, from lo to hi, under the pair's premises: the value that the walk gives the query grows with the query, and the value that the build gives a point from lo to hi is the walk's; so the two values are in the order of the floats. With a half extent of 2 ^ -100 or more by the error of three roundings (Quantum), with a half extent of 0 because the inverse is +infinity, and a zero times that is a NaN, of value 0.
 use mathlib.Core.Path.{_≡_, refl, ap, _∙_}
 use mathlib.Core.Logic.{inl, inr}
 use mathlib.Core.Bool.{true, false, not}
@@ -19,8 +19,8 @@ use Rattle.float32.proofs.ExtremeLaws.{vmaxOf-both, vmaxOf-ge, vmaxOf-least}
 use Rattle.float32.proofs.Monotone.{add-mono-both, add-no-nan, sub-mono, sub-anti, sub-no-nan, mul-mono}
 use Rattle.float32.proofs.Order.{le→cross}
 use Rattle.float32.proofs.OrderLaws.{le-trans, finite-no-nan, finite-between, eq→le, neg-le}
-use Rattle.float32.proofs.Quantise.{truncatedOf-scaled, truncatedOf-infinite, inverse-positive, node-is-truncated, node-is-truncated-infinite, most}
 use Rattle.float32.proofs.Rounding.{round-zero}
+use Rattle.float32.proofs.ScaledCasts.{truncatedOf-scaled, truncatedOf-infinite, node-is-truncated-infinite}
 use Rattle.float32.proofs.SignLaws.{abs-no-nan, abs-bounds, abs-le}
 use Rattle.math.specs.Axes.{Axis, alongX, alongY, alongZ, coordinate, wordOn}
 use Rattle.math.specs.Transform.{half}
@@ -30,6 +30,7 @@ use Rattle.math.specs.declared.words3.Words3.{Words3}
 use Rattle.records.specs.Axis.{centre, extent, quantum, inverse, unitOn, largest, nought, Measured}
 use Rattle.records.specs.Quantise.{nodeValue, queryValue, quantiseOf, quantiseQueryOf}
 use Rattle.records.specs.Scale.{scaleOfBox}
+use Rattle.records.proofs.Quantum.{inverse-positive, node-is-truncated, most}
 
 -- ---- a half extent of 0: the inverse is +infinity
 abbrev Clear : Float → Type 0
