@@ -1,6 +1,11 @@
+pub mod EveryLaws
 pub mod ListLaws
 pub mod NumberLaws
 pub mod ShortLaws
+pub mod SortHalves
+pub mod SortLaws
+pub mod SortLoop
+pub mod SortMerge
 pub mod StoreLaws
 pub mod Truth
 pub mod WithinLaws

@@ -5,6 +5,7 @@ use mathlib.Core.List.{List, [], _∷_, _++_}
 use mathlib.Core.Path.{_≡_}
 use lib.Dec.{eqb}
 use lib.ListN.{length, drop}
+use Rattle.base.specs.Every.{Every}
 
 -- 1 where the test holds
 abbrev pub oneIf : Bool → ℕ
@@ -42,10 +43,12 @@ abbrev pub Rising : ℕ → List ℕ → Type 0
 Rising lo [] = Unit {0}
 Rising lo (x ∷ xs) = (lo ≤ x) × Rising (x + 1) xs
 
--- The seven words of the entry at each place lie within `size` words.
+-- The seven words of the entry at a place lie within `size` words; and those of each place of a list.
+abbrev pub Inside : ℕ → ℕ → Type 0
+Inside size p = 7 * p + 7 ≤ size
+
 abbrev pub Within : ℕ → List ℕ → Type 0
-Within size [] = Unit {0}
-Within size (x ∷ xs) = (7 * x + 7 ≤ size) × Within size xs
+Within size ps = Every (Inside size) ps
 
 -- what a buffer holds at the end: what was written from its first place on, and then what it had
 abbrev pub over : List ℕ → List ℕ → List ℕ
