@@ -1,4 +1,4 @@
--- The casts to integers: what each gives, that each keeps the order, and that node and vertex values agree from -32767 to 32767.
+-- The casts to integers: what each gives, that each keeps the order, and that the node value and the truncated one agree from -32767 to 32767.
 use mathlib.Core.Path.{_≡_, refl, sym, ap, _∙_}
 use mathlib.Core.Logic.{inl, inr}
 use mathlib.Core.Bool.{Bool, true, false, not, cond}
@@ -12,7 +12,7 @@ use lib.Pow.{pow-mono}
 use lib.Ieee.{Float, nan, inf, fin, up, down, lt, le, neg, isNan, ofBits, binary32, toSigned}
 use lib.Ieee.Fits.{down-pos}
 use lib.Ieee.Nearest.{div-mono}
-use Rattle.float32.specs.Casts.{castI32, shortOf, clampOf, limit, vertexOf}
+use Rattle.float32.specs.Casts.{castI32, shortOf, clampOf, limit, truncatedOf}
 use Rattle.float32.proofs.Order.{Ordered, from-lowest, to-highest, numbers, le→ordered, lt→strict}
 use Rattle.float32.proofs.OrderLaws.{le-no-nan, le-or-lt, lt-le, le-lt-trans, lt-le-trans}
 use Rattle.float32.proofs.IntegerOrder.{leZ-refl, leZ-antisym, leZ-neg, leZ-across}
@@ -93,7 +93,7 @@ toSigned-mono h x y l = toSigned-ordered h (le→ordered x y l)
 pub castI32-mono : (x y : Float) → T (le x y) → T (leZ (castI32 x) (castI32 y))
 castI32-mono x y h = toSigned-mono 31 x y h
 
--- ---- vertex values
+-- ---- truncated values
 pub limit-is : limit ≡ fin false 32767 (pos 0)
 unfolding ofBits
 limit-is = refl
@@ -102,20 +102,20 @@ ends : T (le (neg limit) limit)
 unfolding le neg ofBits
 ends = tt
 
-pub vertexOf-nan : vertexOf nan ≡ pos 0
-unfolding vertexOf isNan
-vertexOf-nan = refl
+pub truncatedOf-nan : truncatedOf nan ≡ pos 0
+unfolding truncatedOf isNan
+truncatedOf-nan = refl
 
-pub vertexOf-number : (x : Float) → T (not (isNan x)) → vertexOf x ≡ toSigned 15 (clampOf (neg limit) limit x)
-unfolding vertexOf isNan
-vertexOf-number nan p = absurd p
-vertexOf-number (inf s) p = refl
-vertexOf-number (fin s m e) p = refl
+pub truncatedOf-number : (x : Float) → T (not (isNan x)) → truncatedOf x ≡ toSigned 15 (clampOf (neg limit) limit x)
+unfolding truncatedOf isNan
+truncatedOf-number nan p = absurd p
+truncatedOf-number (inf s) p = refl
+truncatedOf-number (fin s m e) p = refl
 
-pub vertexOf-mono : (x y : Float) → T (le x y) → T (leZ (vertexOf x) (vertexOf y))
-vertexOf-mono x y h =
+pub truncatedOf-mono : (x y : Float) → T (le x y) → T (leZ (truncatedOf x) (truncatedOf y))
+truncatedOf-mono x y h =
     let n = le-no-nan x y h in
-    rw (vertexOf-number x (n .0), vertexOf-number y (n .1)) (toSigned-mono 15 (clampOf (neg limit) limit x) (clampOf (neg limit) limit y) (clampOf-mono (neg limit) limit x y ends h))
+    rw (truncatedOf-number x (n .0), truncatedOf-number y (n .1)) (toSigned-mono 15 (clampOf (neg limit) limit x) (clampOf (neg limit) limit y) (clampOf-mono (neg limit) limit x y ends h))
 
 low-limit : toSigned 15 (neg limit) ≡ negsuc 32766
 unfolding toSigned neg ofBits
@@ -125,25 +125,25 @@ high-limit : toSigned 15 limit ≡ pos 32767
 unfolding toSigned ofBits
 high-limit = refl
 
-vertexOf-low : vertexOf (neg limit) ≡ negsuc 32766
-unfolding vertexOf isNan lt toSigned neg ofBits
-vertexOf-low = refl
+truncatedOf-low : truncatedOf (neg limit) ≡ negsuc 32766
+unfolding truncatedOf isNan lt toSigned neg ofBits
+truncatedOf-low = refl
 
-vertexOf-high : vertexOf limit ≡ pos 32767
-unfolding vertexOf isNan lt toSigned neg ofBits
-vertexOf-high = refl
+truncatedOf-high : truncatedOf limit ≡ pos 32767
+unfolding truncatedOf isNan lt toSigned neg ofBits
+truncatedOf-high = refl
 
-number-in : (x : Float) → T (not (isNan x)) → T (leZ (negsuc 32766) (vertexOf x)) × T (leZ (vertexOf x) (pos 32767))
+number-in : (x : Float) → T (not (isNan x)) → T (leZ (negsuc 32766) (truncatedOf x)) × T (leZ (truncatedOf x) (pos 32767))
 number-in x p =
-    rw (vertexOf-number x p) (
+    rw (truncatedOf-number x p) (
       rw (low-limit) at (toSigned-mono 15 (neg limit) (clampOf (neg limit) limit x) (clampOf-low (neg limit) limit x ends p)),
       rw (high-limit) at (toSigned-mono 15 (clampOf (neg limit) limit x) limit (clampOf-high (neg limit) limit x ends p)),
     )
 
-pub vertexOf-in : (x : Float) → T (leZ (negsuc 32766) (vertexOf x)) × T (leZ (vertexOf x) (pos 32767))
-vertexOf-in nan = rw vertexOf-nan (tt, tt)
-vertexOf-in (inf s) = number-in (inf s) (unfold isNan in tt)
-vertexOf-in (fin s m e) = number-in (fin s m e) (unfold isNan in tt)
+pub truncatedOf-in : (x : Float) → T (leZ (negsuc 32766) (truncatedOf x)) × T (leZ (truncatedOf x) (pos 32767))
+truncatedOf-in nan = rw truncatedOf-nan (tt, tt)
+truncatedOf-in (inf s) = number-in (inf s) (unfold isNan in tt)
+truncatedOf-in (fin s m e) = number-in (fin s m e) (unfold isNan in tt)
 
 -- ---- node values
 pub shortOf-cast : (x : Float) → T (leZ (negsuc 32767) (castI32 x)) → T (leZ (castI32 x) (pos 32767)) → shortOf x ≡ castI32 x
@@ -191,22 +191,22 @@ above-low (fin true m e) h =
     rw (cut 15 true m e (lit≤ tt) h) (leZ-neg 32767 (m * up e / down e) (omega arith))
 above-low (fin false m e) h = rw (cut 15 false m e (lit≤ tt) h) tt
 
-past-high : (x : Float) → Inside x → T (le limit x) → toSigned 15 x ≡ vertexOf x
+past-high : (x : Float) → Inside x → T (le limit x) → toSigned 15 x ≡ truncatedOf x
 past-high x i h =
     leZ-antisym (toSigned 15 x) (pos 32767) (high-end 15 x) (rw high-limit at (toSigned-mono 15 limit x h))
-    ∙ leZ-antisym (pos 32767) (vertexOf x) (rw vertexOf-high at (vertexOf-mono limit x h)) (vertexOf-in x .1)
+    ∙ leZ-antisym (pos 32767) (truncatedOf x) (rw truncatedOf-high at (truncatedOf-mono limit x h)) (truncatedOf-in x .1)
 
-past-low : (x : Float) → Inside x → T (le x (neg limit)) → toSigned 15 x ≡ vertexOf x
+past-low : (x : Float) → Inside x → T (le x (neg limit)) → toSigned 15 x ≡ truncatedOf x
 past-low x i h =
     leZ-antisym (toSigned 15 x) (negsuc 32766) (rw low-limit at (toSigned-mono 15 x (neg limit) h)) (above-low x i)
-    ∙ leZ-antisym (negsuc 32766) (vertexOf x) (vertexOf-in x .0) (rw vertexOf-low at (vertexOf-mono x (neg limit) h))
+    ∙ leZ-antisym (negsuc 32766) (truncatedOf x) (truncatedOf-in x .0) (rw truncatedOf-low at (truncatedOf-mono x (neg limit) h))
 
-same-vertex : (x : Float) → T (not (isNan x)) → Inside x → toSigned 15 x ≡ vertexOf x
-same-vertex x p i =
+same-truncated : (x : Float) → T (not (isNan x)) → Inside x → toSigned 15 x ≡ truncatedOf x
+same-truncated x p i =
     elim (le-or-lt (neg limit) x (le-no-nan (neg limit) limit ends .0) p) [
       | inl a ↦
           elim (le-or-lt x limit p (le-no-nan (neg limit) limit ends .1)) [
-            | inl b ↦ ap (toSigned 15) (sym (clampOf-self (neg limit) limit x a b)) ∙ sym (vertexOf-number x p)
+            | inl b ↦ ap (toSigned 15) (sym (clampOf-self (neg limit) limit x a b)) ∙ sym (truncatedOf-number x p)
             | inr b ↦ past-high x i (lt-le limit x b)
           ]
       | inr a ↦ past-low x i (lt-le x (neg limit) a)
@@ -217,10 +217,10 @@ shortOf-is-castI32 x h k =
     let e = same-cast x (between x h k) in
     shortOf-cast x (rw e (low-end 15 x)) (rw e (high-end 15 x))
 
--- Node value and vertex value are one as long as the first does not wrap.
-pub shortOf-is-vertexOf : (x : Float) → T (lt (neg edge) x) → T (lt x edge) → shortOf x ≡ vertexOf x
-shortOf-is-vertexOf x h k =
-    shortOf-is-castI32 x h k ∙ same-cast x (between x h k) ∙ same-vertex x (le-no-nan x edge (lt-le x edge k) .0) (between x h k)
+-- The node value and the truncated value are one as long as the first does not wrap.
+pub shortOf-is-truncatedOf : (x : Float) → T (lt (neg edge) x) → T (lt x edge) → shortOf x ≡ truncatedOf x
+shortOf-is-truncatedOf x h k =
+    shortOf-is-castI32 x h k ∙ same-cast x (between x h k) ∙ same-truncated x (le-no-nan x edge (lt-le x edge k) .0) (between x h k)
 
 pub within-edge : (x : Float) → T (le (neg limit) x) → T (le x limit) → T (lt (neg edge) x) × T (lt x edge)
 within-edge x h k = (lt-le-trans (neg edge) (neg limit) x (unfold lt neg ofBits in tt) h, le-lt-trans x limit edge k (unfold lt ofBits in tt))

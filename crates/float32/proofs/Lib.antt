@@ -13,13 +13,13 @@ pub mod Monotone
 pub mod Order
 pub mod OrderLaws
 pub mod Patterns
-pub mod Quantise
 mod Range
 pub mod Relations
 pub mod RoundError
 pub mod Rounding
+pub mod ScaledCasts
 pub mod SignLaws
 pub mod SumError
 mod Trichotomy
-mod Vertex
+mod Truncation
 pub mod Wrap

@@ -34,7 +34,11 @@ clampOf low high x = cond (lt x low) low (cond (lt high x) high x)
 abbrev pub limit : Float
 limit = ofBits binary32 0x46ff_fe00
 
--- Rule F9 (01, vertex values; bounds.rs, BoundVertex::from_vec): NaN to 0, clamp to 32767 either way, truncate.
-unfoldable pub vertexOf : Float → ℤ
+-- Rule W1 (01, Walk: the query corners): NaN to 0, clamp to 32767 either way, truncate.
+unfoldable pub truncatedOf : Float → ℤ
 unfolding clampOf
-vertexOf x = cond (isNan x) (pos 0) (toSigned 15 (clampOf (neg limit) limit x))
+truncatedOf x = cond (isNan x) (pos 0) (toSigned 15 (clampOf (neg limit) limit x))
+
+-- Rule F9 (01, vertex values; bounds.rs, BoundVertex::from_vec): a stored vertex, by the same steps as a query's corner.
+unfoldable pub vertexOf : Float → ℤ
+vertexOf x = truncatedOf x

@@ -1,7 +1,7 @@
 // Floats to integers, as Rust's casts have them.
 ghost use mathlib.Core.Path.{_≡_};
 ghost use Prim.Native.Nat.{_<_};
-ghost use Rattle.float32.specs.Casts.{castI32, low16, low16bits, signed16, shortOf, vertexOf};
+ghost use Rattle.float32.specs.Casts.{castI32, low16, low16bits, signed16, shortOf, truncatedOf, vertexOf};
 
 // Rust's `x as i32`: toward zero, to the nearest end of the range where it is out of it, and 0 for a NaN.
 pub fn to_i32(x: f32) -> i32
@@ -55,9 +55,9 @@ pub fn to_short(x: f32) -> i16
     wrap_i16(to_i32(x))
 }
 
-// A vertex value: NaN to 0, clamped to 32767 either way, then truncated.
-pub fn vertex_value(x: f32) -> i16
-    ensures { λ r. ⌜ r ≡ vertexOf x ⌝ }
+// A query's corner: NaN to 0, clamped to 32767 either way, then truncated.
+pub fn truncated(x: f32) -> i16
+    ensures { λ r. ⌜ r ≡ truncatedOf x ⌝ }
 {
     if x < -32767.0 {
         -32767
@@ -68,4 +68,11 @@ pub fn vertex_value(x: f32) -> i16
     } else {
         std::num::truncating_f32_to_i64(x) as i16
     }
+}
+
+// A vertex value, as vertices are stored.
+pub fn vertex_value(x: f32) -> i16
+    ensures { λ r. ⌜ r ≡ vertexOf x ⌝ }
+{
+    truncated(x)
 }

@@ -7,7 +7,7 @@ use lib.Ieee.Casts.{toSigned-in}
 use mir.Syntax.{w16}
 use mir.Val.{SFits}
 use mir.Facts.{sfits-lit}
-use Rattle.float32.specs.Casts.{castI32, low16bits, shortOf, clampOf, limit, vertexOf}
+use Rattle.float32.specs.Casts.{castI32, low16bits, shortOf, clampOf, limit, truncatedOf}
 use Rattle.float32.proofs.Wrap.{signed-fits}
 use Rattle.math.specs.declared.vec3.Vec3.{Vec3}
 use Rattle.math.specs.declared.words3.Words3.{Words3}
@@ -22,9 +22,9 @@ either : (b : Bool) (x : Float) → SFits w16 (cond b (pos 0) (toSigned 15 x))
 either true x = sfits-lit tt
 either false x = record { sfits = toSigned-in 15 x }
 
-pub vertex-fits : (x : Float) → SFits w16 (vertexOf x)
-unfolding vertexOf
-vertex-fits x = either (isNan x) (clampOf (neg limit) limit x)
+pub truncated-fits : (x : Float) → SFits w16 (truncatedOf x)
+unfolding truncatedOf
+truncated-fits x = either (isNan x) (clampOf (neg limit) limit x)
 
 pub quantise-fits : (v : Words3) (cen inverse : Vec3) → VertexFits (quantiseOf v cen inverse)
 unfolding quantiseOf
@@ -32,4 +32,4 @@ quantise-fits v cen inverse = (short-fits _, short-fits _, short-fits _)
 
 pub query-fits : (v cen inverse : Vec3) → VertexFits (quantiseQueryOf v cen inverse)
 unfolding quantiseQueryOf
-query-fits v cen inverse = (vertex-fits _, vertex-fits _, vertex-fits _)
+query-fits v cen inverse = (truncated-fits _, truncated-fits _, truncated-fits _)

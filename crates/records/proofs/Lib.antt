@@ -4,6 +4,7 @@ mod Fields
 pub mod Fitting
 pub mod HandWalk
 pub mod LittleEndian
+pub mod Quantum
 pub mod ReadBack
 pub mod Sizes
 pub mod Stores

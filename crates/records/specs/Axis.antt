@@ -13,18 +13,26 @@ use Rattle.math.specs.Transform.{half}
 use Rattle.math.specs.Vec3s.{_⊕_, _⊖_, _⊗_, _⊘_, one}
 use Rattle.records.specs.declared.BoundVertex.{BoundVertex}
 
--- 01: cen = (min+max)·0.5, q = vmax(|min−cen|, |max−cen|), quantum q/32767, inverse 1/quantum
+-- Rule T2 (01: cen = (min+max)·0.5).
 abbrev pub centre : Float → Float → Float
 centre lo hi = (lo ⊕ hi) ⊗ half
 
+-- Rule T2 (01: q = vmax(|min−cen|, |max−cen|)).
 abbrev pub extent : Float → Float → Float
 extent lo hi = vmaxOf (absOf (lo ⊖ centre lo hi)) (absOf (hi ⊖ centre lo hi))
 
+-- Rule T2 (01: quantum q/32767, inverse 1/quantum), of the half extent q.
+abbrev pub quantumOf : Float → Float
+quantumOf q = q ⊘ limit
+
+abbrev pub inverseOf : Float → Float
+inverseOf q = one ⊘ quantumOf q
+
 abbrev pub quantum : Float → Float → Float
-quantum lo hi = extent lo hi ⊘ limit
+quantum lo hi = quantumOf (extent lo hi)
 
 abbrev pub inverse : Float → Float → Float
-inverse lo hi = one ⊘ quantum lo hi
+inverse lo hi = inverseOf (extent lo hi)
 
 -- the axis of a quantised point
 abbrev pub unitOn : Axis → BoundVertex → ℤ
@@ -42,7 +50,8 @@ smallest = fin false 1 (negsuc 99)
 abbrev pub nought : Float
 nought = fin false 0 (pos 0)
 
--- What the pair asks of the box of all items, on the axis (request, point 3): finite, min at most max, no coordinate above 2 ^ 100 in size, and the half extent 0 or at least 2 ^ -100.
+-- What the pair asks of the box of all items, on the axis (request, point 3): finite, min at most max, no coordinate above 2 ^ 100 in size,
+-- and the half extent 0 or at least 2 ^ -100.
 pub record Measured (lo hi : Float) : Type 0 where
   pub low-finite : T (finite lo)
   pub high-finite : T (finite hi)

@@ -1,7 +1,7 @@
 -- A point in units of the quantum. Definitions only.
 use lib.IntN.{ℤ}
 use lib.Ieee.{Float}
-use Rattle.float32.specs.Casts.{shortOf, vertexOf}
+use Rattle.float32.specs.Casts.{shortOf, truncatedOf}
 use Rattle.math.specs.Stored.{valuesOf}
 use Rattle.math.specs.Vec3s.{_⊖_, _⊗_}
 use Rattle.math.specs.declared.vec3.Vec3.{Vec3}
@@ -16,9 +16,9 @@ scaledBy cast cen inverse v = cast ((v ⊖ cen) ⊗ inverse)
 abbrev pub nodeValue : Float → Float → Float → ℤ
 nodeValue cen inverse v = scaledBy shortOf cen inverse v
 
--- Rule W1 (01, Walk: quantise the query corners by the vertex rule): the cast is rule F9, which clamps.
+-- Rule W1 (01, Walk: quantise the query corners): the cast truncates, and clamps where rule F8 wraps.
 abbrev pub queryValue : Float → Float → Float → ℤ
-queryValue cen inverse v = scaledBy vertexOf cen inverse v
+queryValue cen inverse v = scaledBy truncatedOf cen inverse v
 
 -- axis by axis
 abbrev pub eachAxis : (Float → Float → Float → ℤ) → Vec3 → Vec3 → Vec3 → BoundVertex

@@ -21,8 +21,8 @@ pub fn quantise_query(v: Vec3, cen: Vec3, inverse: Vec3) -> BoundVertex
     ensures { λ r. ⌜ r ≡ quantiseQueryOf v cen inverse ⌝ }
 {
     let d = math::vec3::vmul(v.sub(cen), inverse);
-    let x = float32::casts::vertex_value(d.x);
-    let y = float32::casts::vertex_value(d.y);
-    let z = float32::casts::vertex_value(d.z);
+    let x = float32::casts::truncated(d.x);
+    let y = float32::casts::truncated(d.y);
+    let z = float32::casts::truncated(d.z);
     BoundVertex(x, y, z)
 }

@@ -2,7 +2,7 @@
 use math::vec3::Vec3;
 use math::words3::Words3;
 ghost use mathlib.Core.Path.{_≡_};
-ghost use Rattle.records.specs.Scale.{cenOf, extentOf, quantumOf, inverseOf, scaleOfBox};
+ghost use Rattle.records.specs.Scale.{axisScaleOf, scaleOfBox};
 
 #[repr(C)]
 pub struct Scale {
@@ -11,30 +11,27 @@ pub struct Scale {
     pub quantum: Vec3,
 }
 
-// The larger distance of the two corners from the centre, axis by axis.
-fn extent(min: Vec3, max: Vec3, cen: Vec3) -> Vec3
-    ensures { λ r. ⌜ r ≡ extentOf min max cen ⌝ }
-{
-    math::vec3::vmax(min.sub(cen).abs(), max.sub(cen).abs())
+// The same of one axis.
+pub struct AxisScale {
+    pub cen: f32,
+    pub inverse: f32,
+    pub quantum: f32,
 }
 
-fn quantum(q: Vec3) -> Vec3
-    ensures { λ r. ⌜ r ≡ quantumOf q ⌝ }
+// The middle from lo to hi, the larger distance of the two from it in 32767 parts, and the inverse of such a part.
+fn axis_scale(lo: f32, hi: f32) -> AxisScale
+    ensures { λ r. ⌜ r ≡ axisScaleOf lo hi ⌝ }
 {
-    Vec3 {
-        x: q.x / 32767.0,
-        y: q.y / 32767.0,
-        z: q.z / 32767.0,
-    }
-}
-
-fn inverse(quantum: Vec3) -> Vec3
-    ensures { λ r. ⌜ r ≡ inverseOf quantum ⌝ }
-{
-    Vec3 {
-        x: 1.0 / quantum.x,
-        y: 1.0 / quantum.y,
-        z: 1.0 / quantum.z,
+    let cen = (lo + hi) * 0.5;
+    let extent = float32::extremes::vmax(
+        float32::signs::abs(lo - cen),
+        float32::signs::abs(hi - cen),
+    );
+    let quantum = extent / 32767.0;
+    AxisScale {
+        cen: cen,
+        inverse: 1.0 / quantum,
+        quantum: quantum,
     }
 }
 
@@ -44,11 +41,24 @@ pub fn scale_of(min: Words3, max: Words3) -> Scale
 {
     let low = math::words3::values(min);
     let high = math::words3::values(max);
-    let cen = low.add(high).scale(0.5);
-    let unit = quantum(extent(low, high, cen));
+    let x = axis_scale(low.x, high.x);
+    let y = axis_scale(low.y, high.y);
+    let z = axis_scale(low.z, high.z);
     Scale {
-        cen: cen,
-        inverse: inverse(unit),
-        quantum: unit,
+        cen: Vec3 {
+            x: x.cen,
+            y: y.cen,
+            z: z.cen,
+        },
+        inverse: Vec3 {
+            x: x.inverse,
+            y: y.inverse,
+            z: z.inverse,
+        },
+        quantum: Vec3 {
+            x: x.quantum,
+            y: y.quantum,
+            z: z.quantum,
+        },
     }
 }

@@ -3,7 +3,7 @@ use mathlib.Core.Path.{_≡_, refl}
 use mathlib.Core.Bool.{true, false}
 use lib.IntN.{ℤ, pos, negsuc}
 use lib.Ieee.{nan, inf, neg, lt, isNan, toSigned, binary32, ofBits, toBits}
-use Rattle.float32.specs.Casts.{shortOf, clampOf, vertexOf}
+use Rattle.float32.specs.Casts.{shortOf, clampOf, truncatedOf, vertexOf}
 use Rattle.float32.specs.SquareRoot.{sqrtOf}
 
 -- to_short of 40000 is -25536
@@ -23,12 +23,12 @@ short-nan = refl
 
 -- a vertex of 40000 is 32767
 pub vertex-40000 : vertexOf (ofBits binary32 0x471c_4000) ≡ pos 32767
-unfolding vertexOf clampOf ofBits isNan neg lt toSigned
+unfolding vertexOf truncatedOf clampOf ofBits isNan neg lt toSigned
 vertex-40000 = refl
 
 -- a vertex of -0.9 is 0
 pub vertex-minus-0-9 : vertexOf (ofBits binary32 0xbf66_6666) ≡ pos 0
-unfolding vertexOf clampOf ofBits isNan neg lt toSigned
+unfolding vertexOf truncatedOf clampOf ofBits isNan neg lt toSigned
 vertex-minus-0-9 = refl
 
 -- √2 is 3FB504F3

@@ -1,39 +1,17 @@
--- `casts::vertex_value` meets its contract: past a test the clamp gives that end, and within both the wider cast gives the same number.
-use mir.Syntax.{w16}
+-- `casts::vertex_value` meets its contract: a stored vertex is truncated as a query's corner is.
+use borrow.Author.Needs.{needs}
 use mathlib.Core.Path.{_∙_}
-use lib.Ieee.{Float, ofBits, neg}
-use Rattle.float32.proofs.Range as Range
-use Rattle.float32.proofs.Vertex as Vertex
+use Rattle.base.proofs.ShortLaws.{same-short}
+use Rattle.float32.specs.Casts.{vertexOf}
 use Rattle.float32.proofs.casts.vertex_value.Statement.{statement}
 use Rattle.float32.proofs.casts.vertex_value.Tie as tie
 
-in-range : (c : tie.Else3) → Range.Small 15 (c .before .before .before .args .x)
-in-range c = Vertex.small15 (c .before .before .before .args .x) (c .before .before .if1 .left) (c .before .if2 .left) (c .if3 .left)
-
-truncating-f32-to-i64-requires : tie.Need-truncating-f32-to-i64-requires
-truncating-f32-to-i64-requires c κs = (Range.wide-low 15 tt (c .before .before .before .args .x) (in-range c), Range.wide-high 15 tt (c .before .before .before .args .x) (in-range c))
-
-cast-result : tie.Need-cast-result
-cast-result c =
-    Range.cast-fits w16 tt (c .before .before .before .before .args .x) (c .truncating-f32-to-i64 .result) (in-range (c .before)) (c .truncating-f32-to-i64 .ensures)
+truncated-requires : tie.Need-truncated-requires
+truncated-requires c κs = search needs
 
 returns : tie.Need-returns
-returns c = Vertex.low-end (c .before .args .x) (c .if1 .taken)
-
-returns-2 : tie.Need-returns-2
-returns-2 c = Vertex.high-end (c .before .before .args .x) (c .before .if1 .left) (c .if2 .taken)
-
-returns-3 : tie.Need-returns-3
-returns-3 c = Vertex.of-nan (c .before .before .before .args .x) (c .if3 .taken)
-
-returns-4 : tie.Need-returns-4
-returns-4 c =
-    let b = c .before in
-    let x = b .before .before .before .args .x in
-    Range.cast-is w16 tt x (c .truncating-f32-to-i64 .result) (in-range b) (c .truncating-f32-to-i64 .ensures)
-    ∙ Vertex.inside x (b .before .before .if1 .left) (b .before .if2 .left) (b .if3 .left)
+unfolding vertexOf
+returns c = same-short (c .truncated .result) (c .truncated .ok) ∙ c .truncated .ensures
 
 pub vertex-value-spec : {M : Type 1} → statement M
-vertex-value-spec =
-    tie.close
-    (tie.spec truncating-f32-to-i64-requires cast-result returns returns-2 returns-3 returns-4)
+vertex-value-spec = tie.close (tie.spec truncated-requires returns)

@@ -1,12 +1,21 @@
--- `scale::scale_of` meets its contract: what the calls ensure, put into one another.
-use mathlib.Core.Path.{ap, ap₂, _∙_}
-use Rattle.math.specs.Transform.{half}
-use Rattle.math.specs.Vec3s.{scaleOf}
+-- `scale::scale_of` meets its contract: what `axis_scale` ensures on each axis, put side by side.
+use mathlib.Core.Path.{ap₂, _∙_}
 use Rattle.math.specs.declared.vec3.Vec3.{Vec3}
-use Rattle.records.specs.Scale.{cenOf, quantumOf, inverseOf, scaleAround, scaleOfBox}
+use Rattle.records.specs.Scale.{axisScaleOf, scaleOfBox}
+use Rattle.records.specs.declared.scale.AxisScale.{AxisScale}
+use Rattle.records.specs.declared.scale.Scale.{Scale}
 use borrow.Author.Needs.{needs}
 use Rattle.records.proofs.scale.scale_of.Statement.{statement}
 use Rattle.records.proofs.scale.scale_of.Tie as tie
+
+-- the units of three axes
+abbrev together : AxisScale → AxisScale → AxisScale → Scale
+together a b c =
+    record {
+      cen = record { x = a .cen; y = b .cen; z = c .cen };
+      inverse = record { x = a .inverse; y = b .inverse; z = c .inverse };
+      quantum = record { x = a .quantum; y = b .quantum; z = c .quantum };
+    }
 
 values-requires : tie.Need-values-requires
 values-requires c κs = search needs
@@ -14,33 +23,23 @@ values-requires c κs = search needs
 values-requires-2 : tie.Need-values-requires-2
 values-requires-2 c κs = search needs
 
-add-requires : tie.Need-add-requires
-add-requires c κs = search needs
+axis-scale-requires : tie.Need-axis-scale-requires
+axis-scale-requires c κs = search needs
 
-scale-requires : tie.Need-scale-requires
-scale-requires c κs = search needs
+axis-scale-requires-2 : tie.Need-axis-scale-requires-2
+axis-scale-requires-2 c κs = search needs
 
-extent-requires : tie.Need-extent-requires
-extent-requires c κs = search needs
-
-quantum-requires : tie.Need-quantum-requires
-quantum-requires c κs = search needs
-
-inverse-requires : tie.Need-inverse-requires
-inverse-requires c κs = search needs
+axis-scale-requires-3 : tie.Need-axis-scale-requires-3
+axis-scale-requires-3 c κs = search needs
 
 returns : tie.Need-returns
 unfolding scaleOfBox
 returns c =
-    let cen = c .before .before .before in
-    let low = cen .before .before .before .values in
-    let high = cen .before .before .values2 in
-    let unit = c .before .quantum .ensures ∙ ap quantumOf (c .before .before .extent .ensures) in
-    let middle = cen .scale .ensures ∙ ap (λ (v : Vec3). scaleOf v half) (cen .before .add .ensures) in
-    ap (λ (v : Vec3). record { cen = cen .scale .result; inverse = v; quantum = c .before .quantum .result }) (c .inverse .ensures)
-    ∙ ap (λ (u : Vec3). record { cen = cen .scale .result; inverse = inverseOf u; quantum = u }) unit
-    ∙ ap (scaleAround (low .result) (high .result)) middle
-    ∙ ap₂ (λ (l h : Vec3). scaleAround l h (cenOf l h)) (low .ensures) (high .ensures)
+    let first = c .before .before in
+    let ends = first .before in
+    (λ i. together (first .axis-scale .ensures i) (c .before .axis-scale2 .ensures i) (c .axis-scale3 .ensures i))
+    ∙ ap₂ (λ (l h : Vec3). together (axisScaleOf (l .x) (h .x)) (axisScaleOf (l .y) (h .y)) (axisScaleOf (l .z) (h .z)))
+    (ends .before .values .ensures) (ends .values2 .ensures)
 
 pub scale-of-spec : {M : Type 1} → statement M
 scale-of-spec =
@@ -48,9 +47,7 @@ scale-of-spec =
     (tie.spec
     values-requires
     values-requires-2
-    add-requires
-    scale-requires
-    extent-requires
-    quantum-requires
-    inverse-requires
+    axis-scale-requires
+    axis-scale-requires-2
+    axis-scale-requires-3
     returns)

@@ -1,4 +1,4 @@
--- A vertex value by the code's tests: below, above, a NaN, or within 32767 either way, where the clamp keeps x. Assumes nothing.
+-- A truncated value by the code's tests: below, above, a NaN, or within 32767 either way, where the clamp keeps x. Assumes nothing.
 use mathlib.Core.Path.{_≡_, refl, sym, ap, _∙_, subst}
 use mathlib.Core.Bool.{Bool, true, false, not, cond}
 use Prim.Native.Nat.{ℕ, _+_, _*_, _≤_, _<_}
@@ -8,7 +8,7 @@ use lib.Dec.{T}
 use lib.IntN.{ℤ, pos, negsuc}
 use lib.Ieee.{Float, nan, inf, fin, up, down, binary32, ofBits, neg, lt, ne, isNan, toSigned}
 use lib.Ieee.Fits.{down-pos}
-use Rattle.float32.specs.Casts.{clampOf, limit, vertexOf}
+use Rattle.float32.specs.Casts.{clampOf, limit, truncatedOf}
 use Rattle.float32.proofs.Patterns.{ne-self}
 use Rattle.float32.proofs.Range.{Small}
 
@@ -26,20 +26,20 @@ no-nan-above nan (fin s m e) h = sym h
 no-nan-above (inf s) y h = refl
 no-nan-above (fin s m e) y h = refl
 
-pub low-end : (x : Float) → lt x (neg limit) ≡ true → negsuc 32766 ≡ vertexOf x
-unfolding vertexOf ofBits neg toSigned
+pub low-end : (x : Float) → lt x (neg limit) ≡ true → negsuc 32766 ≡ truncatedOf x
+unfolding truncatedOf ofBits neg toSigned
 low-end x h = rw (no-nan-below x (neg limit) h, h)
 
-pub high-end : (x : Float) → lt x (neg limit) ≡ false → lt limit x ≡ true → pos 32767 ≡ vertexOf x
-unfolding vertexOf ofBits neg toSigned
+pub high-end : (x : Float) → lt x (neg limit) ≡ false → lt limit x ≡ true → pos 32767 ≡ truncatedOf x
+unfolding truncatedOf ofBits neg toSigned
 high-end x l h = rw (no-nan-above x limit h, l, h)
 
-pub of-nan : (x : Float) → ne x x ≡ true → pos 0 ≡ vertexOf x
-unfolding vertexOf
+pub of-nan : (x : Float) → ne x x ≡ true → pos 0 ≡ truncatedOf x
+unfolding truncatedOf
 of-nan x h = rw (sym (ne-self x) ∙ h)
 
-pub inside : (x : Float) → lt x (neg limit) ≡ false → lt limit x ≡ false → ne x x ≡ false → toSigned 15 x ≡ vertexOf x
-unfolding vertexOf
+pub inside : (x : Float) → lt x (neg limit) ≡ false → lt limit x ≡ false → ne x x ≡ false → toSigned 15 x ≡ truncatedOf x
+unfolding truncatedOf
 inside x l h n = rw (sym (ne-self x) ∙ n, l, h)
 
 within-true : (N D : ℕ) → N * 1 ≤ 32767 * D → N ≤ 32768 * D
