@@ -7,7 +7,8 @@ use lib.Signed.{leZ}
 use lib.ListN.{length}
 use lib.Ieee.{le, eq}
 use Rattle.float32.proofs.OrderLaws.{le-trans}
-use Rattle.math.specs.Axes.{Axis, coordinate}
+use Rattle.math.specs.declared.axis.Axis.{Axis}
+use Rattle.math.specs.Axes.{coordinate}
 use Rattle.math.specs.declared.vec3.Vec3.{Vec3}
 use Rattle.split.specs.declared.boxes.BoxWords.{BoxWords}
 use Rattle.split.specs.Ends.{low, high, Proper, Bounded, Each}

@@ -16,7 +16,8 @@ use Rattle.float32.proofs.ExtremeLaws.{vminOf-both, vmaxOf-both, vminOf-le, vma
 use Rattle.float32.specs.Signs.{absOf}
 use Rattle.float32.proofs.OrderLaws.{le-refl, le-trans, finite-no-nan, neg-le}
 use Rattle.float32.proofs.SignLaws.{abs-ge-zero, abs-bounds, abs-le}
-use Rattle.math.specs.Axes.{Axis, alongX, alongY, alongZ}
+use Rattle.math.specs.declared.axis.Axis.{Axis}
+use Rattle.math.specs.declared.axis.Axis.the-variants.{X, Y, Z}
 use Rattle.split.specs.declared.boxes.BoxWords.{BoxWords}
 use Rattle.split.specs.Ends.{low, high, Proper, Bounded, Each}
 use Rattle.split.specs.Folding.{startBox, foldStep, foldFrom, foldBox}
@@ -25,14 +26,14 @@ use Rattle.base.proofs.ListLaws.{among-head, among-tail, among-cases}
 
 -- ---- one step, on an axis
 step-low : (a : Axis) (acc b : BoxWords) → low a (foldStep acc b) ≡ vminOf (low a acc) (low a b)
-step-low alongX acc b = vminWord-value (acc .min .x) (b .min .x)
-step-low alongY acc b = vminWord-value (acc .min .y) (b .min .y)
-step-low alongZ acc b = vminWord-value (acc .min .z) (b .min .z)
+step-low X acc b = vminWord-value (acc .min .x) (b .min .x)
+step-low Y acc b = vminWord-value (acc .min .y) (b .min .y)
+step-low Z acc b = vminWord-value (acc .min .z) (b .min .z)
 
 step-high : (a : Axis) (acc b : BoxWords) → high a (foldStep acc b) ≡ vmaxOf (high a acc) (high a b)
-step-high alongX acc b = vmaxWord-value (acc .max .x) (b .max .x)
-step-high alongY acc b = vmaxWord-value (acc .max .y) (b .max .y)
-step-high alongZ acc b = vmaxWord-value (acc .max .z) (b .max .z)
+step-high X acc b = vmaxWord-value (acc .max .x) (b .max .x)
+step-high Y acc b = vmaxWord-value (acc .max .y) (b .max .y)
+step-high Z acc b = vmaxWord-value (acc .max .z) (b .max .z)
 
 abbrev Number : Float → Type 0
 Number x = T (not (isNan x))
@@ -94,22 +95,22 @@ module _ (at : ℕ → BoxWords) {end : BoxWords → Float} {Beyond : Float → 
 -- ---- the start is finite
 start-low : (a : Axis) → T (finite (low a startBox))
 unfolding ofBits
-start-low alongX = tt
-start-low alongY = tt
-start-low alongZ = tt
+start-low X = tt
+start-low Y = tt
+start-low Z = tt
 
 start-high : (a : Axis) → T (finite (high a startBox))
 unfolding ofBits
-start-high alongX = tt
-start-high alongY = tt
-start-high alongZ = tt
+start-high X = tt
+start-high Y = tt
+start-high Z = tt
 
 -- f32::MIN ≤ 0 ≤ f32::MAX
 start-apart : (a : Axis) → T (le (high a startBox) (neg (fin false 0 (pos 0)))) × T (le (neg (fin false 0 (pos 0))) (low a startBox))
 unfolding ofBits neg le
-start-apart alongX = (tt, tt)
-start-apart alongY = (tt, tt)
-start-apart alongZ = (tt, tt)
+start-apart X = (tt, tt)
+start-apart Y = (tt, tt)
+start-apart Z = (tt, tt)
 
 start-around : (a : Axis) (m : Float) → T (le (fin false 0 (pos 0)) m) → T (le (neg m) (low a startBox)) × T (le (high a startBox) m)
 start-around a m h =

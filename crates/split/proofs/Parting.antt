@@ -10,16 +10,17 @@ use lib.ListN.{length, getD, set, take, drop, length-set, drop-of-length-le}
 use lib.Seq.{take-suc-set, take-set-le, drop-set-lt, length-take-le, paste}
 use lib.Ieee.{Float, lt}
 use Rattle.math.specs.declared.vec3.Vec3.{Vec3}
-use Rattle.split.specs.declared.average.Axis.{Axis}
-use Rattle.split.specs.declared.average.Axis.the-variants.{X, Y, Z}
+use Rattle.math.specs.declared.axis.Axis.{Axis}
+use Rattle.math.specs.declared.axis.Axis.the-variants.{X, Y, Z}
+use Rattle.math.specs.Axes.{coordinate}
 use Rattle.split.specs.Boxes.{boxAt, centreOf}
 use Rattle.base.specs.Lists.{oneIf, sift}
-use Rattle.split.specs.Rule.{along, above}
+use Rattle.split.specs.Rule.{above}
 use Rattle.split.specs.steps.Groups.{stepOf, centreAt, passes, Parted}
 use Rattle.base.proofs.StoreLaws.{rest-one}
 
 -- the two words of an axis are those that stand `step` after x's
-centre-along : (ws : List ℕ) (p : ℕ) (a : Axis) → centreAt ws (stepOf a) p ≡ along a (centreOf (boxAt ws p))
+centre-along : (ws : List ℕ) (p : ℕ) (a : Axis) → centreAt ws (stepOf a) p ≡ coordinate a (centreOf (boxAt ws p))
 centre-along ws p X = let z : 7 * p + 1 + 0 ≡ 7 * p + 1 = omega arith in rw z
 centre-along ws p Y = let z : 7 * p + 1 + 1 + 3 ≡ 7 * p + 1 + 3 + 1 = omega arith in rw z
 centre-along ws p Z = let z : 7 * p + 1 + 2 + 3 ≡ 7 * p + 1 + 3 + 2 = omega arith in rw z
@@ -29,10 +30,10 @@ step-small X = omega arith
 step-small Y = omega arith
 step-small Z = omega arith
 
-pub passes-above : (ws : List ℕ) (avg : Vec3) (a : Axis) (step : ℕ) (cut : Float) → step ≡ stepOf a → cut ≡ along a avg
+pub passes-above : (ws : List ℕ) (avg : Vec3) (a : Axis) (step : ℕ) (cut : Float) → step ≡ stepOf a → cut ≡ coordinate a avg
     → passes ws step cut ≡ above (boxAt ws) avg a
 unfolding passes above
-passes-above ws avg a step cut e f = rw (e, f) (fun-ext (λ p. ap (lt (along a avg)) (centre-along ws p a)))
+passes-above ws avg a step cut e f = rw (e, f) (fun-ext (λ p. ap (lt (coordinate a avg)) (centre-along ws p a)))
 
 -- stored at k, and k moved on only where the test holds
 stored : (test : ℕ → Bool) (b : Bool) (l ys : List ℕ) (k x : ℕ) → k < length l → test x ≡ b

@@ -8,7 +8,7 @@ use lib.Dec.{eqb}
 use lib.ListN.{length, take, drop, length-append, take-append-drop}
 use lib.Seq.{length-take-le, take-append-seam, drop-append-seam}
 use Rattle.math.specs.declared.vec3.Vec3.{Vec3}
-use Rattle.split.specs.declared.average.Axis.{Axis}
+use Rattle.math.specs.declared.axis.Axis.{Axis}
 use Rattle.split.specs.declared.boxes.BoxWords.{BoxWords}
 use Rattle.split.specs.declared.groups.Counts.{Counts}
 use Rattle.base.specs.Lists.{sift, Within}

@@ -6,7 +6,8 @@ use lib.Ieee.{Float, binary32, ofBits, le}
 use lib.Ieee.Scale.{finite}
 use Rattle.base.specs.Lists.{Among}
 use Rattle.float32.specs.Signs.{absOf}
-use Rattle.math.specs.Axes.{Axis, wordOn}
+use Rattle.math.specs.declared.axis.Axis.{Axis}
+use Rattle.math.specs.Axes.{wordOn}
 use Rattle.split.specs.declared.boxes.BoxWords.{BoxWords}
 
 abbrev pub low : Axis → BoxWords → Float

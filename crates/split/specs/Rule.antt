@@ -13,8 +13,9 @@ use Rattle.math.specs.Stored.{valuesOf}
 use Rattle.math.specs.Vec3s.{_⊘_, addOf, scaleOf}
 use Rattle.math.specs.Transform.{half}
 use Rattle.split.specs.declared.boxes.BoxWords.{BoxWords}
-use Rattle.split.specs.declared.average.Axis.{Axis}
-use Rattle.split.specs.declared.average.Axis.the-variants.{X, Y, Z}
+use Rattle.math.specs.declared.axis.Axis.{Axis}
+use Rattle.math.specs.declared.axis.Axis.the-variants.{X, Y, Z}
+use Rattle.math.specs.Axes.{coordinate}
 use Rattle.split.specs.Boxes.{centreOf}
 use Rattle.split.specs.Sorted.{sortBoxes}
 
@@ -31,17 +32,12 @@ sumFrom at s (p ∷ ps) = sumFrom at (addOf (addOf s (valuesOf (at p .min))) (va
 unfoldable pub averageOf : (ℕ → BoxWords) → List ℕ → Vec3
 averageOf at ps = scaleOf (sumFrom at origin ps) (half ⊘ ofCount (length ps))
 
-abbrev pub along : Axis → Vec3 → Float
-along X v = v .x
-along Y v = v .y
-along Z v = v .z
-
 -- a centre below the average, and one above it; a NaN is neither
 unfoldable pub below : (ℕ → BoxWords) → Vec3 → Axis → ℕ → Bool
-below at avg a p = lt (along a (centreOf (at p))) (along a avg)
+below at avg a p = lt (coordinate a (centreOf (at p))) (coordinate a avg)
 
 unfoldable pub above : (ℕ → BoxWords) → Vec3 → Axis → ℕ → Bool
-above at avg a p = lt (along a avg) (along a (centreOf (at p)))
+above at avg a p = lt (coordinate a avg) (coordinate a (centreOf (at p)))
 
 -- how many centres are below the average
 unfoldable pub countBelow : (ℕ → BoxWords) → Vec3 → Axis → List ℕ → ℕ

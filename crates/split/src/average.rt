@@ -1,4 +1,4 @@
-// The average of a node's boxes, and the axis that is split.
+// The average of a node's boxes.
 use crate::boxes::BoxWords;
 use crate::boxes::Corners;
 use math::vec3::Vec3;
@@ -12,28 +12,12 @@ ghost use Rattle.float32.specs.Counts.{ofCount};
 ghost use Rattle.math.specs.Vec3s.{_⊘_, addOf, scaleOf};
 ghost use Rattle.math.specs.Transform.{half};
 ghost use Rattle.split.specs.Folding.{foldBox};
-ghost use Rattle.split.specs.Rule.{along, averageOf};
-
-pub enum Axis {
-    X,
-    Y,
-    Z,
-}
+ghost use Rattle.split.specs.Rule.{averageOf};
 
 pub fn centre(b: Corners) -> Vec3
     ensures { λ r. ⌜ r ≡ scaleOf (addOf (b .low) (b .high)) half ⌝ }
 {
     b.low.add(b.high).scale(0.5)
-}
-
-pub fn along(a: Axis, v: Vec3) -> f32
-    ensures { λ r. ⌜ r ≡ along a v ⌝ }
-{
-    match a {
-        Axis::X => v.x,
-        Axis::Y => v.y,
-        Axis::Z => v.z,
-    }
 }
 
 // The box around a node's items, and the average of their boxes.

@@ -1,6 +1,6 @@
 // The two groups of a node's items: the counts that choose the axis, the partition, and the leading group first.
-use crate::average::Axis;
 use base::numbers::Place;
+use math::axis::Axis;
 use math::vec3::Vec3;
 ghost use mathlib.Core.Path.{_≡_};
 ghost use mathlib.Core.List.{_++_};
@@ -122,7 +122,7 @@ pub fn partition(
 {
     let n = a.len();
     let step = step_of(axis);
-    let cut = crate::average::along(axis, avg);
+    let cut = math::axis::coordinate(axis, avg);
     let mut k = 0;
     let mut i = 0;
     while i < n {

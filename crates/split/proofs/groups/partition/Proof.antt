@@ -36,8 +36,8 @@ abbrev μ-loop : tie.MeasureT-loop
 step-of-requires : tie.Need-step-of-requires Inv-loop μ-loop
 step-of-requires c κs = search needs
 
-along-requires : tie.Need-along-requires Inv-loop μ-loop
-along-requires c κs = search needs
+coordinate-requires : tie.Need-coordinate-requires Inv-loop μ-loop
+coordinate-requires c κs = search needs
 
 loop-holds : tie.Need-loop-holds Inv-loop μ-loop
 loop-holds c = begin _ (c .before .before .before .before .before .args .a .now) (c .before .before .before .before .before .args .t .now)
@@ -73,7 +73,7 @@ one-if-above-requires c κs =
 add-k : tie.Need-add-k Inv-loop μ-loop
 add-k c =
     let l = c .before .before .before .loop in
-    omega (arith, c .one-if-above .ensures, one-or-none (passes (c .before .before .before .before .before .before .before .before .before .args .entries .now) (c .before .before .before .before .before .step-of .result) (c .before .before .before .before .along .result) (getD (l .a) (l .i) 0)))
+    omega (arith, c .one-if-above .ensures, one-or-none (passes (c .before .before .before .before .before .before .before .before .before .args .entries .now) (c .before .before .before .before .before .step-of .result) (c .before .before .before .before .coordinate .result) (getD (l .a) (l .i) 0)))
 
 add-i : tie.Need-add-i Inv-loop μ-loop
 add-i c = omega arith
@@ -104,7 +104,7 @@ returns c =
     let l = c .before .before .before .before .before .before .loop in
     let g = c .before .before .before .before .before .before .before .before .before .before .before .before in
     let ps = g .args .a .now in
-    let e = passes-above (g .args .entries .now) (g .args .avg) (g .args .axis) (c .before .before .before .before .before .before .before .before .step-of .result) (c .before .before .before .before .before .before .before .along .result) (c .before .before .before .before .before .before .before .before .step-of .ensures) (c .before .before .before .before .before .before .before .along .ensures) in
+    let e = passes-above (g .args .entries .now) (g .args .avg) (g .args .axis) (c .before .before .before .before .before .before .before .before .step-of .result) (c .before .before .before .before .before .before .before .coordinate .result) (c .before .before .before .before .before .before .before .before .step-of .ensures) (c .before .before .before .before .before .before .before .coordinate .ensures) in
     rw (← e, c .before .before .paste .ensures) (parted _ ps (g .args .t .now) (l .a) (l .t) (l .k) (l .i) (l .inv) (omega arith) (g .pre .0))
 
 pub partition-spec : {M : Type 1} → statement M
@@ -114,7 +114,7 @@ partition-spec =
     Inv-loop
     μ-loop
     step-of-requires
-    along-requires
+    coordinate-requires
     loop-holds
     mul-p
     slice-read-p
