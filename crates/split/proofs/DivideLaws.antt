@@ -3,7 +3,7 @@ use Prim.Native.Nat.{ℕ, _+_, _-_, _/_, _≤_, _<_}
 use native.Mathlib.Omega.{arith}
 use mathlib.Core.Path.{_≡_, refl, ap, _∙_}
 use mathlib.Core.Bool.{Bool, true, false, not, cond, _||_}
-use mathlib.Core.List.{List, [], _∷_, _++_}
+use mathlib.Core.List.{List, _++_}
 use lib.Dec.{eqb}
 use lib.ListN.{length, take, drop, length-append, length-drop, take-append-drop}
 use lib.Seq.{length-take-le}
@@ -112,9 +112,6 @@ module _ (at : ℕ → BoxWords) where
 
   pub divide-within-second : (n : ℕ) (ps : List ℕ) → Within n ps → Within n (secondOf at ps)
   divide-within-second n ps = rule-split ps .within-two n
-
-  pub divide-count : (p : ℕ) (ps : List ℕ) → occurrences p (firstOf at ps ++ secondOf at ps) ≡ occurrences p ps
-  divide-count p ps = rule-split ps .same p
 
   pub divide-permutes : (ps : List ℕ) → Permutes (firstOf at ps ++ secondOf at ps) ps
   divide-permutes ps = rule-split ps .same

@@ -1,14 +1,15 @@
--- The fold of boxes on one axis: off NaN its low end is at most, and its high end at least, each item's. It is finite where the items are, its ends are in order where there is an item, a bound on all coordinates bounds it too, and the fold over more places contains the fold over fewer. By induction on the list, over any box to start from, once for both ends.
-use Prim.Native.Nat.{ℕ, _+_, _<_}
+-- The fold of boxes on one axis: off NaN its low end is at most, and its high end at least, each item's. It is finite where the items are,
+-- its ends are in order where there is an item, a bound on all coordinates bounds it too, and the fold over more places contains the fold
+-- over fewer. By induction on the list, over any box to start from, once for both ends.
+use Prim.Native.Nat.{ℕ, _<_}
 use native.Mathlib.Omega.{arith}
-use mathlib.Core.Path.{_≡_, refl, sym, ap, _∙_, subst}
-use mathlib.Core.Logic.{_⊎_, inl, inr}
-use mathlib.Core.Bool.{Bool, true, false, not}
+use mathlib.Core.Path.{_≡_, sym, subst}
+use mathlib.Core.Logic.{inl, inr}
+use mathlib.Core.Bool.{false, not}
 use mathlib.Core.List.{List, [], _∷_}
-use lib.Dec.{T, eqb, eqb→eq}
+use lib.Dec.{T}
 use lib.IntN.{pos}
 use lib.Ieee.{Float, fin, ofBits, neg, le, isNan}
-use lib.Ieee.Fits.{eq→eqb}
 use lib.Ieee.Scale.{finite}
 use lib.ListN.{length}
 use Rattle.float32.specs.Extremes.{vminOf, vmaxOf}
@@ -21,7 +22,7 @@ use Rattle.math.specs.declared.axis.Axis.the-variants.{X, Y, Z}
 use Rattle.split.specs.declared.boxes.BoxWords.{BoxWords}
 use Rattle.split.specs.Ends.{low, high, Proper, Bounded, Each}
 use Rattle.split.specs.Folding.{startBox, foldStep, foldFrom, foldBox}
-use Rattle.base.specs.Lists.{oneIf, occurrences, Among}
+use Rattle.base.specs.Lists.{Among}
 use Rattle.base.proofs.ListLaws.{among-head, among-tail, among-cases}
 
 -- ---- one step, on an axis
@@ -76,9 +77,11 @@ module _ (at : ℕ → BoxWords) {end : BoxWords → Float} {Beyond : Float → 
   past-start acc (p ∷ ps) n k =
       let acc′ = foldStep acc (at p) in
       let m = k p (among-head p ps) in
-      o .trans (end (foldFrom at acc′ ps)) (end acc′) (end acc) (past-start acc′ ps (o .either Number acc (at p) n m) (λ q l. k q (among-tail q p ps l))) (o .beyond acc (at p) n m .0)
+      let rest = past-start acc′ ps (o .either Number acc (at p) n m) (λ q l. k q (among-tail q p ps l)) in
+      o .trans (end (foldFrom at acc′ ps)) (end acc′) (end acc) rest (o .beyond acc (at p) n m .0)
 
-  past-each : (acc : BoxWords) (ps : List ℕ) → Number (end acc) → ((p : ℕ) → Among p ps → Number (end (at p))) → (p : ℕ) → Among p ps → Beyond (end (foldFrom at acc ps)) (end (at p))
+  past-each : (acc : BoxWords) (ps : List ℕ) → Number (end acc) → ((p : ℕ) → Among p ps → Number (end (at p)))
+      → (p : ℕ) → Among p ps → Beyond (end (foldFrom at acc ps)) (end (at p))
   past-each acc [] n k p m = absurd (omega arith)
   past-each acc (q ∷ ps) n k p m =
       let acc′ = foldStep acc (at q) in
@@ -183,7 +186,8 @@ module _ (at : ℕ → BoxWords) (a : Axis) (ps : List ℕ) (each : Each at (Pro
       let p = s .0 in
       let lo = low a (foldBox at ps) in
       let hi = high a (foldBox at ps) in
-      let z = start-around a m (le-trans (fin false 0 (pos 0)) (absOf (low a (at p))) m (abs-ge-zero (low a (at p)) (low-numbers p (s .1))) (k p (s .1) .low-size)) in
+      let some = abs-ge-zero (low a (at p)) (low-numbers p (s .1)) in
+      let z = start-around a m (le-trans (fin false 0 (pos 0)) (absOf (low a (at p))) m some (k p (s .1) .low-size)) in
       let l = abs-bounds (low a (at p)) m (k p (s .1) .low-size) in
       let h = abs-bounds (high a (at p)) m (k p (s .1) .high-size) in
       record {
@@ -196,7 +200,8 @@ module _ (at : ℕ → BoxWords) (a : Axis) (ps : List ℕ) (each : Each at (Pro
       }
 
   -- the fold over some of the places lies in the fold over all
-  pub fold-contains : (qs : List ℕ) → ((p : ℕ) → Among p qs → Among p ps) → T (le (low a (foldBox at ps)) (low a (foldBox at qs))) × T (le (high a (foldBox at qs)) (high a (foldBox at ps)))
+  pub fold-contains : (qs : List ℕ) → ((p : ℕ) → Among p qs → Among p ps)
+      → T (le (low a (foldBox at ps)) (low a (foldBox at qs))) × T (le (high a (foldBox at qs)) (high a (foldBox at ps)))
   fold-contains qs sub = (
     fold-low-keeps at a qs (λ x. T (le (low a (foldBox at ps)) x)) (fold-low-start at a ps low-numbers) (λ q m. fold-below-each q (sub q m)),
     fold-high-keeps at a qs (λ x. T (le x (high a (foldBox at ps)))) (fold-high-start at a ps high-numbers) (λ q m. fold-above-each q (sub q m)),

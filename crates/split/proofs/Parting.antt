@@ -1,5 +1,5 @@
 -- The loop of `partition`, by the invariant that what is stored so far, followed by what the rest gives, is the whole of each group.
-use Prim.Native.Nat.{ℕ, zero, suc, _+_, _-_, _*_, _≤_, _<_}
+use Prim.Native.Nat.{ℕ, _+_, _-_, _*_, _≤_, _<_}
 use native.Mathlib.Omega.{arith}
 use native.Mathlib.Numerals.{add-one}
 use native.Mathlib.Nat.{add-zero, le-refl}
@@ -94,7 +94,9 @@ module _ (test : ℕ → Bool) (a₀ t₀ : List ℕ) where
         left = drop-set-lt (i + 1) a k x (omega arith) ∙ n .1;
         front = stored test (test x) a ys k x (omega arith) refl ∙ ap (λ (l : List ℕ). take k a ++ sift test l) (sym (n .0)) ∙ q .front;
         back = rw (moved (test x) k i (q .low))
-            (stored (λ p. not (test p)) (not (test x)) t ys (i - k) x (omega arith) refl ∙ ap (λ (l : List ℕ). take (i - k) t ++ sift (λ p. not (test p)) l) (sym (n .0)) ∙ q .back);
+            (stored (λ p. not (test p)) (not (test x)) t ys (i - k) x (omega arith) refl
+            ∙ ap (λ (l : List ℕ). take (i - k) t ++ sift (λ p. not (test p)) l) (sym (n .0))
+            ∙ q .back);
       }
 
   pub parted : (a t : List ℕ) (k i : ℕ) → Parting test a₀ t₀ a t k i → length a₀ ≤ i → length a₀ ≤ length t₀
@@ -105,5 +107,8 @@ module _ (test : ℕ → Bool) (a₀ t₀ : List ℕ) where
       let over : drop (k + (length a₀ - k)) a ≡ [] = drop-of-length-le a {i = k + (length a₀ - k)} (omega arith) in
       let front : take k a ≡ sift test a₀ = sym (append-nil (take k a)) ∙ ap (λ (l : List ℕ). take k a ++ sift test l) (sym none) ∙ q .front in
       let back : take (length a₀ - k) t ≡ sift (λ p. not (test p)) a₀ =
-      ap (λ (m : ℕ). take (m - k) t) (sym n) ∙ sym (append-nil (take (i - k) t)) ∙ ap (λ (l : List ℕ). take (i - k) t ++ sift (λ p. not (test p)) l) (sym none) ∙ q .back in
+      ap (λ (m : ℕ). take (m - k) t) (sym n)
+      ∙ sym (append-nil (take (i - k) t))
+      ∙ ap (λ (l : List ℕ). take (i - k) t ++ sift (λ p. not (test p)) l) (sym none)
+      ∙ q .back in
       record { list = rw (over, append-nil, front, back); count = sym (length-take-le k a (omega arith)) ∙ ap length front }

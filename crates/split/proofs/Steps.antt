@@ -1,10 +1,9 @@
 -- The steps of `divide` lead to the rule: the partition, the sort where a group is empty, and the leading group first.
-use Prim.Native.Nat.{ℕ, _+_, _-_, _/_, _≤_, _<_}
+use Prim.Native.Nat.{ℕ, _+_, _-_, _/_, _≤_}
 use native.Mathlib.Omega.{arith}
 use mathlib.Core.Path.{_≡_, refl, sym, ap, ap₂, _∙_}
-use mathlib.Core.Bool.{Bool, true, false, not, cond, _||_}
+use mathlib.Core.Bool.{Bool, true, false, not, cond}
 use mathlib.Core.List.{List, _++_}
-use lib.Dec.{eqb}
 use lib.ListN.{length, take, drop, length-append, take-append-drop}
 use lib.Seq.{length-take-le, take-append-seam, drop-append-seam}
 use Rattle.math.specs.declared.vec3.Vec3.{Vec3}
@@ -14,7 +13,7 @@ use Rattle.split.specs.declared.groups.Counts.{Counts}
 use Rattle.base.specs.Lists.{sift, Within}
 use Rattle.split.specs.Rule.{averageOf, above, axisOf, chosen, one, two, stuck, groupOne, groupTwo, twoLeads, firstOf, secondOf, Divided}
 use Rattle.split.specs.Sorted.{atMost, sortBoxes}
-use Rattle.split.specs.steps.Groups.{countsOf, axisBy, Parted, oneSided, Settled, LeaderFirst}
+use Rattle.split.specs.steps.Groups.{countsOf, axisBy, Parted, Settled, LeaderFirst}
 use Rattle.base.proofs.ListLaws.{length-both}
 use Rattle.base.proofs.SortLaws.{sort-length}
 use Rattle.base.proofs.WithinLaws.{within-sift, within-append}

@@ -1,11 +1,11 @@
 -- The rule by which a node's items are split. Definitions only.
 use Prim.Native.Nat.{ℕ, _+_, _-_, _*_, _/_, _<_}
-use mathlib.Core.Bool.{Bool, true, false, not, cond, _&&_, _||_}
+use mathlib.Core.Bool.{Bool, not, cond, _&&_, _||_}
 use mathlib.Core.List.{List, [], _∷_, _++_}
 use mathlib.Core.Path.{_≡_}
 use lib.Dec.{leb, ltb, eqb}
 use lib.ListN.{length, take, drop}
-use lib.Ieee.{Float, binary32, ofBits, lt}
+use lib.Ieee.{binary32, ofBits, lt}
 use Rattle.base.specs.Lists.{sift}
 use Rattle.float32.specs.Counts.{ofCount}
 use Rattle.math.specs.declared.vec3.Vec3.{Vec3}

@@ -3,7 +3,7 @@ use crate::boxes::BoxWords;
 use crate::boxes::Corners;
 use math::vec3::Vec3;
 ghost use mathlib.Core.Path.{_≡_};
-ghost use Prim.Native.Nat.{_≤_, _<_};
+ghost use Prim.Native.Nat.{_<_};
 ghost use lib.ListN.{length};
 ghost use Rattle.split.specs.Boxes.{boxAt};
 ghost use Rattle.base.specs.Lists.{Within};
@@ -37,7 +37,8 @@ fn average(sum: Vec3, n: usize) -> Vec3
 // The fold and the average of the places' boxes, in their order.
 pub fn measure(entries: &[u32], places: &[u32], plain: bool) -> Measured
     requires { ⌜ (Within (length (now entries)) (now places)) × (length (now places) < 65536) × (Plain plain (now entries)) ⌝ }
-    ensures { λ r. ⌜ (r .around ≡ foldBox (boxAt (now (entries .entry))) (now (places .entry))) × (r .average ≡ averageOf (boxAt (now (entries .entry))) (now (places .entry))) ⌝ }
+    ensures { λ r. ⌜ (r .around ≡ foldBox (boxAt (now (entries .entry))) (now (places .entry)))
+        × (r .average ≡ averageOf (boxAt (now (entries .entry))) (now (places .entry))) ⌝ }
 {
     let t = crate::totals::total(entries, places, plain);
     Measured {

@@ -39,7 +39,8 @@ pub struct Cut {
 
 // The first group, then the second, in place of the places of `a`, by their average, with `t` to work in; how many the first has.
 fn divide_by(a: &mut [u32], t: &mut [u32], entries: &[u32], avg: Vec3, plain: bool) -> usize
-    requires { ⌜ (2 ≤ length (now a)) × (length (now a) < 32768) × (length (now a) ≤ length (now t)) × (Within (length (now entries)) (now a)) × (avg ≡ averageOf (boxAt (now entries)) (now a)) × (Plain plain (now entries)) ⌝ }
+    requires { ⌜ (2 ≤ length (now a)) × (length (now a) < 32768) × (length (now a) ≤ length (now t)) × (Within (length (now entries)) (now a))
+        × (avg ≡ averageOf (boxAt (now entries)) (now a)) × (Plain plain (now entries)) ⌝ }
     ensures { λ r. ⌜ Divided (boxAt (now (entries .entry))) (now (a .entry)) (now (a .exit)) r ⌝ }
 {
     let counts = crate::groups::count_below(entries, a, avg, plain);
@@ -51,8 +52,10 @@ fn divide_by(a: &mut [u32], t: &mut [u32], entries: &[u32], avg: Vec3, plain: bo
 
 // The first group, then the second, in place of the places of `a`, with `t` to work in; their box, and how many the first has.
 pub fn divide(a: &mut [u32], t: &mut [u32], entries: &[u32], plain: bool) -> Cut
-    requires { ⌜ (2 ≤ length (now a)) × (length (now a) < 32768) × (length (now a) ≤ length (now t)) × (Within (length (now entries)) (now a)) × (Plain plain (now entries)) ⌝ }
-    ensures { λ r. ⌜ (Divided (boxAt (now (entries .entry))) (now (a .entry)) (now (a .exit)) (r .first)) × (r .around ≡ foldBox (boxAt (now (entries .entry))) (now (a .entry))) ⌝ }
+    requires { ⌜ (2 ≤ length (now a)) × (length (now a) < 32768) × (length (now a) ≤ length (now t))
+        × (Within (length (now entries)) (now a)) × (Plain plain (now entries)) ⌝ }
+    ensures { λ r. ⌜ (Divided (boxAt (now (entries .entry))) (now (a .entry)) (now (a .exit)) (r .first))
+        × (r .around ≡ foldBox (boxAt (now (entries .entry))) (now (a .entry))) ⌝ }
 {
     let m = crate::average::measure(entries, a, plain);
     let around = m.around;

@@ -58,7 +58,8 @@ fn either_nan(low: Vec3, high: Vec3) -> bool
 
 // The words of the fold, of which the floats are known. A number has one word; a NaN's is found by the fold of the words.
 pub fn fold_by_value(entries: &[u32], places: &[u32], low: Vec3, high: Vec3) -> BoxWords
-    requires { ⌜ (Within (length (now entries)) (now places)) × (low ≡ valuesOf (foldBox (boxAt (now entries)) (now places) .min)) × (high ≡ valuesOf (foldBox (boxAt (now entries)) (now places) .max)) ⌝ }
+    requires { ⌜ (Within (length (now entries)) (now places)) × (low ≡ valuesOf (foldBox (boxAt (now entries)) (now places) .min))
+        × (high ≡ valuesOf (foldBox (boxAt (now entries)) (now places) .max)) ⌝ }
     ensures { λ r. ⌜ r ≡ foldBox (boxAt (now (entries .entry))) (now (places .entry)) ⌝ }
 {
     if either_nan(low, high) {

@@ -48,7 +48,8 @@ fn total_step(t: Totals, b: Corners) -> Totals
 // The totals of the places' boxes, in their order.
 pub fn total(entries: &[u32], places: &[u32], plain: bool) -> Totals
     requires { ⌜ (Within (length (now entries)) (now places)) × (Plain plain (now entries)) ⌝ }
-    ensures { λ r. ⌜ r ≡ totalsOf (foldBox (boxAt (now (entries .entry))) (now (places .entry))) (sumFrom (boxAt (now (entries .entry))) origin (now (places .entry))) ⌝ }
+    ensures { λ r. ⌜ r ≡ totalsOf (foldBox (boxAt (now (entries .entry))) (now (places .entry)))
+        (sumFrom (boxAt (now (entries .entry))) origin (now (places .entry))) ⌝ }
 {
     let mut t = no_totals();
     let mut i = 0;

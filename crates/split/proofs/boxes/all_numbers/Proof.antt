@@ -58,13 +58,17 @@ loop-less c = omega arith
 loop-again : tie.Need-loop-again Inv-loop μ-loop
 loop-again c =
     let l = c .before .before .before .loop in
-    one-more (c .before .before .before .before .before .args .entries .now) (l .most) (c .greater .result) (l .i) (l .inv) (c .before .before .loop-test .taken) (c .greater .ensures .0) (c .greater .ensures .1)
+    let g = c .before .before .before .before .before .args in
+    one-more (g .entries .now) (l .most) (c .greater .result) (l .i) (l .inv) (c .before .before .loop-test .taken)
+    (c .greater .ensures .0) (c .greater .ensures .1)
 
 returns : tie.Need-returns Inv-loop μ-loop
 returns c =
     let l = c .before .loop in
+    let g = c .before .before .before .args in
     record {
-      numbers = λ e. all-passed (c .before .before .before .args .entries .now) (l .most) (l .i) (l .inv) (c .loop-test .left) (leb→le (l .most) 0x7f80_0000 (subst T (sym e) tt));
+      numbers =
+          λ e. all-passed (g .entries .now) (l .most) (l .i) (l .inv) (c .loop-test .left) (leb→le (l .most) 0x7f80_0000 (subst T (sym e) tt));
     }
 
 pub all-numbers-spec : {M : Type 1} → statement M

@@ -2,7 +2,7 @@
 use borrow.Author.Needs.{needs}
 use Rattle.split.proofs.divide.settle.Statement.{statement}
 use Rattle.split.proofs.divide.settle.Tie as tie
-use mathlib.Core.Path.{_≡_, _∙_}
+use mathlib.Core.Path.{_≡_}
 use mathlib.Core.Bool.{true, or-true}
 use mathlib.Core.Logic.{⊎-elim}
 use lib.ListN.{length}

@@ -2,7 +2,7 @@
 use Rattle.split.proofs.fold.fold_words.Statement.{statement}
 use Rattle.split.proofs.fold.fold_words.Tie as tie
 use Prim.Native.Nat.{_+_, _-_}
-use mathlib.Core.Path.{_≡_, ap, subst, sym, _∙_}
+use mathlib.Core.Path.{ap, subst, sym, _∙_}
 use lib.ListN.{length, drop}
 use Rattle.split.specs.declared.boxes.BoxWords.{BoxWords}
 use Rattle.split.specs.Boxes.{boxAt}
@@ -25,7 +25,8 @@ loop-holds c =
     let g = c .before .before .before in
     let at = boxAt (g .args .entries .now) in
     let ps = g .args .places .now in
-    subst (λ (b : BoxWords). Pass (foldFrom at) (length (g .args .entries .now)) ps startBox b 0) (sym (c .start-box .ensures)) (begin (foldFrom at) _ ps startBox (g .pre))
+    subst (λ (b : BoxWords). Pass (foldFrom at) (length (g .args .entries .now)) ps startBox b 0) (sym (c .start-box .ensures))
+    (begin (foldFrom at) _ ps startBox (g .pre))
 
 mul-t5 : tie.Need-mul-t5 Inv-loop μ-loop
 mul-t5 c = search needs
@@ -50,8 +51,9 @@ loop-less c = search needs
 loop-again : tie.Need-loop-again Inv-loop μ-loop
 loop-again c =
     let l = c .before .before .before .before .loop in
-    let at = boxAt (c .before .before .before .before .before .before .before .before .args .entries .now) in
-    let ps = c .before .before .before .before .before .before .before .before .args .places .now in
+    let g = c .before .before .before .before .before .before .before .before .args in
+    let at = boxAt (g .entries .now) in
+    let ps = g .places .now in
     let step = c .fold-step .ensures ∙ ap (foldStep (l .acc)) (c .before .box-at .ensures) in
     taken (foldFrom at) _ ps startBox (l .acc) _ (l .i) (l .inv) (omega arith) (ap (λ (b : BoxWords). foldFrom at b (drop (l .i + 1) ps)) step)
 

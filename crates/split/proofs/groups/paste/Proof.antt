@@ -1,7 +1,7 @@
 -- `groups::paste` meets its contract. The loop's invariant: the first j places are copied.
 use Rattle.split.proofs.groups.paste.Statement.{statement}
 use Rattle.split.proofs.groups.paste.Tie as tie
-use Prim.Native.Nat.{_+_, _-_, _≤_}
+use Prim.Native.Nat.{_-_, _≤_}
 use native.Mathlib.Numerals.{add-one}
 use mathlib.Core.Path.{_≡_, refl}
 use lib.ListN.{length, length-set}

@@ -2,7 +2,7 @@
 use Rattle.split.proofs.totals.total.Statement.{statement}
 use Rattle.split.proofs.totals.total.Tie as tie
 use Prim.Native.Nat.{_+_, _-_}
-use mathlib.Core.Path.{_≡_, ap, subst, sym, _∙_}
+use mathlib.Core.Path.{ap, subst, sym, _∙_}
 use lib.ListN.{length, drop}
 use Rattle.split.specs.declared.totals.Totals.{Totals}
 use Rattle.split.specs.Boxes.{boxAt}
@@ -28,7 +28,9 @@ loop-holds c =
     let g = c .before .before .before in
     let at = boxAt (g .args .entries .now) in
     let ps = g .args .places .now in
-    subst (λ (s : Totals). Pass (totalsFrom at) (length (g .args .entries .now)) ps (totalsOf startBox origin) s 0) (sym (c .no-totals .ensures)) (begin (totalsFrom at) _ ps (totalsOf startBox origin) (g .pre .0))
+    let start : Totals = totalsOf startBox origin in
+    subst (λ (s : Totals). Pass (totalsFrom at) (length (g .args .entries .now)) ps start s 0) (sym (c .no-totals .ensures))
+    (begin (totalsFrom at) _ ps start (g .pre .0))
 
 mul-t6 : tie.Need-mul-t6 Inv-loop μ-loop
 mul-t6 c = search needs
@@ -54,16 +56,20 @@ loop-less c = search needs
 loop-again : tie.Need-loop-again Inv-loop μ-loop
 loop-again c =
     let l = c .before .before .before .before .loop in
-    let at = boxAt (c .before .before .before .before .before .before .before .before .args .entries .now) in
-    let ps = c .before .before .before .before .before .before .before .before .args .places .now in
+    let g = c .before .before .before .before .before .before .before .before .args in
+    let at = boxAt (g .entries .now) in
+    let ps = g .places .now in
     let step = c .total-step .ensures ∙ ap (totalStep (l .t)) (c .before .corners-at .ensures) in
-    taken (totalsFrom at) _ ps (totalsOf startBox origin) (l .t) _ (l .i) (l .inv) (omega arith) (ap (λ (s : Totals). totalsFrom at s (drop (l .i + 1) ps)) step)
+    taken (totalsFrom at) _ ps (totalsOf startBox origin) (l .t) _ (l .i) (l .inv) (omega arith)
+    (ap (λ (s : Totals). totalsFrom at s (drop (l .i + 1) ps)) step)
 
 returns : tie.Need-returns Inv-loop μ-loop
 returns c =
     let l = c .before .loop in
-    let g = c .before .before .before .before .before in
-    finished (totalsFrom (boxAt (g .args .entries .now))) _ (g .args .places .now) (totalsOf startBox origin) (l .t) (l .i) (l .inv) (c .loop-test .left) ∙ all-totals (boxAt (g .args .entries .now)) (g .args .places .now)
+    let g = c .before .before .before .before .before .args in
+    let at = boxAt (g .entries .now) in
+    let ps = g .places .now in
+    finished (totalsFrom at) _ ps (totalsOf startBox origin) (l .t) (l .i) (l .inv) (c .loop-test .left) ∙ all-totals at ps
 
 pub total-spec : {M : Type 1} → statement M
 total-spec =
