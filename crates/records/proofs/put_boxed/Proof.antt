@@ -4,8 +4,9 @@ use Prim.Native.Nat.{_+_}
 use Rattle.records.specs.Shorts.{shortBytes}
 use Rattle.records.specs.Records.{vertexBytes, boxedBytes}
 use Rattle.records.proofs.Fields.{same-stored}
-use Rattle.records.proofs.Sizes.{joined, short-bytes, vertex-bytes, boxed-bytes}
-use Rattle.records.proofs.Stores.{four-stores, stores-leave}
+use Rattle.base.proofs.LittleEndian.{joined}
+use Rattle.records.proofs.Sizes.{short-bytes, vertex-bytes, boxed-bytes}
+use Rattle.base.proofs.StoreLaws.{four-stores, stores-leave}
 use borrow.Author.Needs.{needs}
 use Rattle.records.proofs.put_boxed.Statement.{statement}
 use Rattle.records.proofs.put_boxed.Tie as tie

@@ -4,8 +4,9 @@ use Prim.Native.Nat.{_+_}
 use Rattle.records.specs.Shorts.{shortBytes}
 use Rattle.records.specs.Records.{vertexBytes}
 use Rattle.records.proofs.Fields.{same-stored}
-use Rattle.records.proofs.Sizes.{joined, short-bytes}
-use Rattle.records.proofs.Stores.{store-next}
+use Rattle.base.proofs.LittleEndian.{joined}
+use Rattle.records.proofs.Sizes.{short-bytes}
+use Rattle.base.proofs.StoreLaws.{store-next}
 use borrow.Author.Needs.{needs}
 use Rattle.records.proofs.put_vertex.Statement.{statement}
 use Rattle.records.proofs.put_vertex.Tie as tie

@@ -4,11 +4,10 @@ use mathlib.Core.List.{List}
 use Prim.Native.Nat.{ℕ}
 use lib.ListN.{replicate}
 use lib.Seq.{sets}
-use Rattle.records.specs.LittleEndian.{littleEndian}
+use Rattle.base.specs.LittleEndian.{littleEndian}
 use Rattle.records.specs.Header.{nodeListBytes}
-use Rattle.records.proofs.LittleEndian.{zeros-stored}
-use Rattle.records.proofs.Sizes.{joined, number-bytes}
-use Rattle.records.proofs.Stores.{four-stores}
+use Rattle.base.proofs.LittleEndian.{zeros-stored, joined, number-bytes}
+use Rattle.base.proofs.StoreLaws.{four-stores}
 use borrow.Author.Needs.{needs}
 use Rattle.records.proofs.header.put_node_list.Statement.{statement}
 use Rattle.records.proofs.header.put_node_list.Tie as tie

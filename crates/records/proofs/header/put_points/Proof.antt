@@ -5,8 +5,9 @@ use lib.Seq.{sets}
 use Rattle.math.specs.Stored.{bitsOf}
 use Rattle.math.specs.declared.words3.Words3.{Words3}
 use Rattle.records.specs.Header.{pointBytes, pointsBytes}
-use Rattle.records.proofs.Sizes.{joined, point-bytes}
-use Rattle.records.proofs.Stores.{store-next, four-stores}
+use Rattle.base.proofs.LittleEndian.{joined}
+use Rattle.records.proofs.Sizes.{point-bytes}
+use Rattle.base.proofs.StoreLaws.{store-next, four-stores}
 use borrow.Author.Needs.{needs}
 use Rattle.records.proofs.header.put_points.Statement.{statement}
 use Rattle.records.proofs.header.put_points.Tie as tie

@@ -8,8 +8,9 @@ use lib.ListN.{length, drop}
 use borrow.Author.Tests.{lt-ltb, le-ltb}
 use Rattle.records.specs.Header.{nodeListBytes, pointsBytes, treeListBytes, headerBytes, headerAnswer, headerExit}
 use Rattle.records.specs.declared.header.Bvh.{Bvh}
-use Rattle.records.proofs.Sizes.{joined, node-list-bytes, points-bytes, header-bytes}
-use Rattle.records.proofs.Stores.{store-next, stores-leave}
+use Rattle.base.proofs.LittleEndian.{joined}
+use Rattle.records.proofs.Sizes.{node-list-bytes, points-bytes, header-bytes}
+use Rattle.base.proofs.StoreLaws.{store-next, stores-leave}
 use borrow.Author.Needs.{needs}
 use Rattle.records.proofs.header.tree_header.Statement.{statement}
 use Rattle.records.proofs.header.tree_header.Tie as tie

@@ -8,7 +8,7 @@ use mir.Syntax.{w16, w32}
 use mir.Val.{SFits, toZ, ofZ}
 use mir.Facts.{toZ-ofZ, sfits-widen}
 use Rattle.float32.specs.Casts.{low16bits}
-use Rattle.records.specs.LittleEndian.{littleEndian}
+use Rattle.base.specs.LittleEndian.{littleEndian}
 use Rattle.records.specs.Shorts.{shortBytes}
 use borrow.Author.Needs.{needs}
 use Rattle.records.proofs.shorts.put_short.Statement.{statement}
