@@ -39,10 +39,12 @@ pub flip-fits : (y : ℤ) → SFits w32 y → leZ (pos 0) y ≡ false → SFits 
 flip-fits (pos a) h t = absurd (subst T (sym (leb·zero a) ∙ t) tt)
 flip-fits (negsuc a) h t = subst (λ (z : ℤ). SFits w32 z) (sym (flip-neg a)) (record { sfits = h .sfits })
 
-pub flip-cast : (y : ℤ) → SFits w32 y → leZ (pos 0) y ≡ false → T (nonNeg (toZ w32 (ofZ w32 (negsuc 0 -ℤ y)))) × Fits w32 (natAbs (toZ w32 (ofZ w32 (negsuc 0 -ℤ y))))
+pub flip-cast : (y : ℤ) → SFits w32 y → leZ (pos 0) y ≡ false
+    → T (nonNeg (toZ w32 (ofZ w32 (negsuc 0 -ℤ y)))) × Fits w32 (natAbs (toZ w32 (ofZ w32 (negsuc 0 -ℤ y))))
 flip-cast (pos a) h t = absurd (subst T (sym (leb·zero a) ∙ t) tt)
 flip-cast (negsuc a) h t =
-    subst (λ (z : ℤ). T (nonNeg z) × Fits w32 (natAbs z)) (sym (ap (λ (z : ℤ). toZ w32 (ofZ w32 z)) (flip-neg a) ∙ toZ-pos w32 (h .sfits))) (tt, record { fits = wide a (h .sfits) })
+    subst (λ (z : ℤ). T (nonNeg z) × Fits w32 (natAbs z)) (sym (ap (λ (z : ℤ). toZ w32 (ofZ w32 z)) (flip-neg a) ∙ toZ-pos w32 (h .sfits)))
+    (tt, record { fits = wide a (h .sfits) })
 
 pub pos-bits : (y : ℤ) → leZ (pos 0) y ≡ true → natAbs y % 65536 ≡ low16bits y
 pos-bits (pos a) t = refl

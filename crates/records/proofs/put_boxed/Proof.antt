@@ -50,7 +50,8 @@ returns c =
     four-stores (a .out .now) (vertexBytes (a .min)) (vertexBytes (a .max)) (shortBytes (a .first)) (shortBytes (a .second)) (a .at) 6 12 14
     (vertex-bytes (a .min) .size) (box .size) (joined box (short-bytes (a .first)) .size)
     (first .put-vertex .ensures) (second .put-vertex2 .ensures) one two
-    ∙ stores-leave (a .out .now) (boxedBytes (a .min) (a .max) (a .first) (a .second)) (a .at) 16 (boxed-bytes (a .min) (a .max) (a .first) (a .second) .size) (start .pre)
+    ∙ stores-leave (a .out .now) (boxedBytes (a .min) (a .max) (a .first) (a .second)) (a .at) 16
+    (boxed-bytes (a .min) (a .max) (a .first) (a .second) .size) (start .pre)
 
 pub put-boxed-spec : {M : Type 1} → statement M
 put-boxed-spec =

@@ -26,7 +26,8 @@ unfolding shortOf
 returns c =
     let e = c .wrap-i16 .ensures in
     let t = c .before .to-i32 .ensures in
-    let fits : SFits w32 (c .before .to-i32 .result) = subst (λ (z : ℤ). SFits w32 z) (sym t) (record { sfits = toSigned-in 31 (c .before .before .args .x) }) in
+    let fits : SFits w32 (c .before .to-i32 .result) =
+    subst (λ (z : ℤ). SFits w32 z) (sym t) (record { sfits = toSigned-in 31 (c .before .before .args .x) }) in
     toZ-ofZ (subst (λ (z : ℤ). SFits w16 z) (sym e) (signed-fits (low16bits (toZ w32 (ofZ w32 (c .before .to-i32 .result)))))) ∙ e ∙ ap low16 (toZ-ofZ fits ∙ t)
 
 pub to-short-spec : {M : Type 1} → statement M

@@ -23,7 +23,10 @@ of-bits-requires c κs = subst (λ (b : ℕ). b < 65536) (sym (c .low-bits .ensu
 returns : tie.Need-returns
 returns c =
     let e = c .of-bits .ensures in
-    toZ-ofZ (subst (λ (z : ℤ). SFits w16 z) (sym e) (signed-fits (c .before .low-bits .result))) ∙ e ∙ ap signed16 (c .before .low-bits .ensures) ∙ ap low16 (toZ-ofZ (c .before .before .fits .n))
+    toZ-ofZ (subst (λ (z : ℤ). SFits w16 z) (sym e) (signed-fits (c .before .low-bits .result)))
+    ∙ e
+    ∙ ap signed16 (c .before .low-bits .ensures)
+    ∙ ap low16 (toZ-ofZ (c .before .before .fits .n))
 
 pub wrap-i16-spec : {M : Type 1} → statement M
 wrap-i16-spec = tie.close (tie.spec low-bits-requires of-bits-requires returns)

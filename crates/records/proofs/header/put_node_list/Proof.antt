@@ -43,7 +43,8 @@ returns c =
     let a = first .before .before .before .args in
     let h = a .h in
     let two = joined (number-bytes 8 (h .«nodes_address»)) (number-bytes 4 (h .«nodes_count»)) in
-    four-stores (a .out .now) (littleEndian 8 (h .«nodes_address»)) (littleEndian 4 (h .«nodes_count»)) (littleEndian 4 (h .«nodes_capacity»)) (replicate 16 0) 0 8 12 16
+    four-stores (a .out .now) (littleEndian 8 (h .«nodes_address»)) (littleEndian 4 (h .«nodes_count»)) (littleEndian 4 (h .«nodes_capacity»))
+    (replicate 16 0) 0 8 12 16
     (number-bytes 8 (h .«nodes_address») .size) (two .size) (joined two (number-bytes 4 (h .«nodes_capacity»)) .size)
     (first .put-le .ensures) (second .put-le2 .ensures) (third .put-le3 .ensures) (zeros-stored _ 16 16 (fourth .put-le4 .ensures))
 

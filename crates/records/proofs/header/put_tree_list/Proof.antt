@@ -43,7 +43,8 @@ returns c =
     let a = first .before .before .before .args in
     let h = a .h in
     let two = joined (number-bytes 8 (h .«trees_address»)) (number-bytes 2 (h .«trees_count»)) in
-    four-stores (a .out .now) (littleEndian 8 (h .«trees_address»)) (littleEndian 2 (h .«trees_count»)) (littleEndian 2 (h .«trees_count»)) (replicate 4 0) 112 8 10 12
+    four-stores (a .out .now) (littleEndian 8 (h .«trees_address»)) (littleEndian 2 (h .«trees_count»)) (littleEndian 2 (h .«trees_count»))
+    (replicate 4 0) 112 8 10 12
     (number-bytes 8 (h .«trees_address») .size) (two .size) (joined two (number-bytes 2 (h .«trees_count»)) .size)
     (first .put-le .ensures) (second .put-le2 .ensures) (third .put-le3 .ensures) (zeros-stored _ 124 4 (fourth .put-le4 .ensures))
 
