@@ -1,17 +1,17 @@
 -- -1 - n, which turns two's complement into a number and back, and what the machine reads of a signed number. Assumes nothing.
 use mathlib.Core.Path.{_≡_, refl, sym, ap, _∙_, subst}
 use mathlib.Core.Bool.{Bool, true, false, cond}
-use Prim.Native.Nat.{ℕ, zero, suc, _+_, _-_, _%_, _^_, _≤_, _<_}
+use Prim.Native.Nat.{ℕ, zero, suc, _-_, _%_, _≤_, _<_}
 use native.Mathlib.Nat.{zero-add}
 use native.Mathlib.Omega.{arith}
 use lib.Dec.{T, ltb, leb·zero}
-use lib.IntN.{ℤ, pos, negsuc, negℤ, natAbs, subℕ, _-ℤ_}
-use lib.Signed.{mag, leZ, nonNeg}
-use mir.Syntax.{Width, w16, w32}
-use mir.Val.{Fits, SFits, toZ, ofZ, hbits, bits}
-use mir.Facts.{toZ-ofZ, sfits-toZ, fits-ofZ, toZ-pos}
+use lib.IntN.{ℤ, pos, negsuc, natAbs, _-ℤ_}
+use lib.Signed.{leZ, nonNeg}
+use mir.Syntax.{w16, w32}
+use mir.Val.{Fits, SFits, toZ, ofZ}
+use mir.Facts.{toZ-ofZ, toZ-pos}
 use borrow.Author.Tests.{le-ltb, lt-ltb, ltb-true, ltb-false}
-use Rattle.float32.specs.Casts.{low16bits, signed16, low16}
+use Rattle.float32.specs.Casts.{low16bits, signed16}
 
 up-one : (k : ℕ) → suc k - 1 ≡ k
 up-one k = omega arith

@@ -10,10 +10,6 @@ use Rattle.float32.proofs.Wrap.{signed-fits}
 use borrow.Author.Needs.{needs}
 use Rattle.float32.proofs.casts.to_short.Statement.{statement}
 use Rattle.float32.proofs.casts.to_short.Tie as tie
-use Rattle.float32.proofs.casts.to_short.Reads as reads
-use Rattle.float32.proofs.casts.to_short.Lts as lts
-use Rattle.float32.proofs.casts.to_i32.Reads as to-i32-reads
-use Rattle.float32.proofs.casts.wrap_i16.Reads as wrap-i16-reads
 
 to-i32-requires : tie.Need-to-i32-requires
 to-i32-requires c κs = search needs

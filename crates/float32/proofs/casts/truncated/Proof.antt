@@ -1,7 +1,6 @@
 -- `casts::truncated` meets its contract: past a test the clamp gives that end, and within both the wider cast gives the same number.
 use mir.Syntax.{w16}
 use mathlib.Core.Path.{_∙_}
-use lib.Ieee.{Float, ofBits, neg}
 use Rattle.float32.proofs.Range as Range
 use Rattle.float32.proofs.Truncation as Truncation
 use Rattle.float32.proofs.casts.truncated.Statement.{statement}

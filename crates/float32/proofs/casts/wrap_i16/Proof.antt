@@ -1,5 +1,5 @@
 use borrow.Author.Needs.{needs}
-use mathlib.Core.Path.{_≡_, sym, ap, _∙_, subst}
+use mathlib.Core.Path.{sym, ap, _∙_, subst}
 use Prim.Native.Nat.{ℕ, _<_}
 use lib.IntN.{ℤ}
 use mir.Syntax.{w16, w32}
@@ -9,10 +9,6 @@ use Rattle.float32.specs.Casts.{signed16, low16}
 use Rattle.float32.proofs.Wrap.{low-lt, signed-fits}
 use Rattle.float32.proofs.casts.wrap_i16.Statement.{statement}
 use Rattle.float32.proofs.casts.wrap_i16.Tie as tie
-use Rattle.float32.proofs.casts.wrap_i16.Reads as reads
-use Rattle.float32.proofs.casts.wrap_i16.Lts as lts
-use Rattle.float32.proofs.casts.low_bits.Reads as low-bits-reads
-use Rattle.float32.proofs.casts.of_bits.Reads as of-bits-reads
 
 low-bits-requires : tie.Need-low-bits-requires
 low-bits-requires c κs = search needs

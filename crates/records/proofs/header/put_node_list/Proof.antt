@@ -1,9 +1,5 @@
 -- `header::put_node_list` meets its contract: four runs of stores, each from where the last one ended, are one run, and the bytes of 0 are zeros.
-use mathlib.Core.Path.{_∙_, ap}
-use mathlib.Core.List.{List}
-use Prim.Native.Nat.{ℕ}
 use lib.ListN.{replicate}
-use lib.Seq.{sets}
 use Rattle.base.specs.LittleEndian.{littleEndian}
 use Rattle.records.specs.Header.{nodeListBytes}
 use Rattle.base.proofs.LittleEndian.{zeros-stored, joined, number-bytes}

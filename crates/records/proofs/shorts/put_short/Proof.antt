@@ -1,6 +1,5 @@
 -- `shorts::put_short` meets its contract: v's low 16 bits are stored, and widening v to an i32 changes no number.
-use mathlib.Core.Path.{_≡_, ap, subst, sym, _∙_}
-use mathlib.Core.List.{List}
+use mathlib.Core.Path.{ap, subst, sym, _∙_}
 use Prim.Native.Nat.{ℕ}
 use lib.IntN.{ℤ}
 use lib.Seq.{sets}
