@@ -1,5 +1,6 @@
 pub mod EveryLaws
 pub mod ListLaws
+pub mod LittleEndian
 pub mod NumberLaws
 pub mod ShortLaws
 pub mod SortHalves

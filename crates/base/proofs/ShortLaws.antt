@@ -1,7 +1,7 @@
 -- An i16 as the machine reads it from its bits is the number that it was. Assumes nothing.
 use mathlib.Core.Path.{_≡_}
-use Prim.Native.Nat.{ℕ, _<_, _^_}
-use lib.IntN.{ℤ, pos}
+use Prim.Native.Nat.{_<_, _^_}
+use lib.IntN.{ℤ}
 use lib.Signed.{mag}
 use mir.Syntax.{w16}
 use mir.Val.{SFits, toZ, ofZ}

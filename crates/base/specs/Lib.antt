@@ -1,3 +1,4 @@
 pub mod Every
 pub mod Lists
+pub mod LittleEndian
 pub mod Sorted

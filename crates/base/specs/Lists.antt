@@ -35,8 +35,7 @@ upFrom at (suc n) = at ∷ upFrom (at + 1) n
 
 -- every one is below n
 abbrev pub Below : ℕ → List ℕ → Type 0
-Below n [] = Unit {0}
-Below n (x ∷ xs) = (x < n) × Below n xs
+Below n xs = Every (λ x. x < n) xs
 
 -- each is greater than the one before it, and the first at least lo
 abbrev pub Rising : ℕ → List ℕ → Type 0

@@ -1,2 +1,3 @@
-// What every crate above stands on: two kinds of number that are never mixed, and laws of lists and numbers.
+// What every crate above stands on: two kinds of number that are never mixed, whole numbers as bytes, and laws of lists and numbers.
+pub mod little_endian;
 pub mod numbers;

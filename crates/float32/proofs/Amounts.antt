@@ -26,7 +26,8 @@ fields-value f s (suc x) t h = rw (ne-eqb (suc x) (ones f) (less x (ones f) h)) 
 amount-top : (f : Format) (x t : ℕ) → t < hid f → amount f x t < hid f * 2 ^ x
 amount-top f zero t h = rw mul-one h
 amount-top f (suc x) t h =
-    lt-of-lt-of-le (mul-lt-mul-of-pos-right (twice (hid f) t h) (pow-pos x)) (le-of-eq (mul-assoc (hid f) 2 (2 ^ x) ∙ ap (λ (z : ℕ). hid f * z) (sym (pow-succ' 2 x))))
+    lt-of-lt-of-le (mul-lt-mul-of-pos-right (twice (hid f) t h) (pow-pos x))
+    (le-of-eq (mul-assoc (hid f) 2 (2 ^ x) ∙ ap (λ (z : ℕ). hid f * z) (sym (pow-succ' 2 x))))
   where
     twice : (a t : ℕ) → t < a → a + t < a * 2
     twice a t h = omega arith

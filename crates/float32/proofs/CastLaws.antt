@@ -33,7 +33,8 @@ unfolding toSigned
 toSigned-inf h s = refl
 
 -- q is the whole part of the number's size
-pub toSigned-whole : (h : ℕ) (s : Bool) (m : ℕ) (e : ℤ) (q : ℕ) → q * down e ≤ m * up e → m * up e < (q + 1) * down e → q < 2 ^ h → toSigned h (fin s m e) ≡ cond s (negℤ (pos q)) (pos q)
+pub toSigned-whole : (h : ℕ) (s : Bool) (m : ℕ) (e : ℤ) (q : ℕ) → q * down e ≤ m * up e → m * up e < (q + 1) * down e → q < 2 ^ h
+    → toSigned h (fin s m e) ≡ cond s (negℤ (pos q)) (pos q)
 unfolding toSigned
 toSigned-whole h s m e q a b c =
     let i : m * up e / down e ≡ q = div-eq-of-lt-le (down e) a b in
@@ -77,7 +78,8 @@ unfolding toSigned
 toSigned-ordered h (from-lowest {y = y} p) = low-end h y
 toSigned-ordered h (to-highest {x = x} p) = high-end h x
 toSigned-ordered h (numbers {x = fin true m e} {y = fin true n d} p q k) =
-    leZ-neg (min (m * up e / down e) (2 ^ h)) (min (n * up d / down d) (2 ^ h)) (let l = div-mono (n * up d) (down d) (m * up e) (down e) (down-pos d) (down-pos e) (omega arith) in omega arith)
+    leZ-neg (min (m * up e / down e) (2 ^ h)) (min (n * up d / down d) (2 ^ h))
+    (let l = div-mono (n * up d) (down d) (m * up e) (down e) (down-pos d) (down-pos e) (omega arith) in omega arith)
 toSigned-ordered h (numbers {x = fin true m e} {y = fin false n d} p q k) = leZ-across (min (m * up e / down e) (2 ^ h)) (min (n * up d / down d) (2 ^ h - 1))
 toSigned-ordered h (numbers {x = fin false m e} {y = fin false n d} p q k) =
     let l = div-mono (m * up e) (down e) (n * up d) (down d) (down-pos e) (down-pos d) (omega arith) in
@@ -115,7 +117,8 @@ truncatedOf-number (fin s m e) p = refl
 pub truncatedOf-mono : (x y : Float) → T (le x y) → T (leZ (truncatedOf x) (truncatedOf y))
 truncatedOf-mono x y h =
     let n = le-no-nan x y h in
-    rw (truncatedOf-number x (n .0), truncatedOf-number y (n .1)) (toSigned-mono 15 (clampOf (neg limit) limit x) (clampOf (neg limit) limit y) (clampOf-mono (neg limit) limit x y ends h))
+    rw (truncatedOf-number x (n .0), truncatedOf-number y (n .1))
+    (toSigned-mono 15 (clampOf (neg limit) limit x) (clampOf (neg limit) limit y) (clampOf-mono (neg limit) limit x y ends h))
 
 low-limit : toSigned 15 (neg limit) ≡ negsuc 32766
 unfolding toSigned neg ofBits
@@ -169,7 +172,8 @@ between (fin true m e) h k = let l = lt→strict (neg edge) (fin true m e) tt tt
 between (fin false m e) h k = let l = lt→strict (fin false m e) edge tt tt k in omega arith
 
 -- it is cut to the same number by any cast to 15 bits or more
-cut : (h : ℕ) (s : Bool) (m : ℕ) (e : ℤ) → 15 ≤ h → m * up e < 32768 * down e → toSigned h (fin s m e) ≡ cond s (negℤ (pos (m * up e / down e))) (pos (m * up e / down e))
+cut : (h : ℕ) (s : Bool) (m : ℕ) (e : ℤ) → 15 ≤ h → m * up e < 32768 * down e
+    → toSigned h (fin s m e) ≡ cond s (negℤ (pos (m * up e / down e))) (pos (m * up e / down e))
 unfolding toSigned
 cut h s m e l k =
     let i : m * up e / down e < 32768 = div-lt-iff-lt-mul (down-pos e) .1 k in

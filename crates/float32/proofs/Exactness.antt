@@ -1,8 +1,10 @@
--- Where rounding changes nothing: a value that fits its format is its own rounding, and so is that value over a power of two, down to the format's smallest unit.
+-- Where rounding changes nothing: a value that fits its format is its own rounding, and so is that value over a power of two, down to the format's
+-- smallest unit.
 use mathlib.Core.Path.{_≡_, refl, sym, ap, _∙_}
 use mathlib.Core.Bool.{Bool, true, false, cond, _&&_}
 use Prim.Native.Nat.{ℕ, zero, suc, _+_, _-_, _*_, _/_, _%_, _^_, _≤_, _<_}
-use native.Mathlib.Nat.{zero-mul, mul-assoc, mul-comm, mul-right-comm, mul-one, mul-lt-mul-of-pos-right, lt-of-mul-lt-mul-right, lt-of-not-le, not-le-of-lt, le-of-suc-le-suc, sub-add-cancel, le-mul-of-pos-right, le-trans, mul-pos}
+use native.Mathlib.Nat.{zero-mul, mul-assoc, mul-comm, mul-right-comm, mul-one, mul-lt-mul-of-pos-right, lt-of-mul-lt-mul-right}
+use native.Mathlib.Nat.{lt-of-not-le, not-le-of-lt, le-of-suc-le-suc, sub-add-cancel, le-mul-of-pos-right, le-trans, mul-pos}
 use native.Mathlib.Omega.{arith}
 use lib.Dec.{T, eqb, ltb, leb, ltb→lt, leb→le, eqb→eq, lit≤}
 use lib.IntN.{ℤ, pos, negsuc}
@@ -28,7 +30,9 @@ unfolding toBits pattern
 toBits-value f nan s a c C h = absurd h
 toBits-value f (inf t) s a c C h = absurd h
 toBits-value f (fin t m e) s a c C h =
-    let i : m * up e * 2 ^ low f / down e ≡ a * 2 ^ low f / c = div-same (m * up e * 2 ^ low f) (down e) (a * 2 ^ low f) c (down-pos e) C (mul-right-comm (m * up e) (2 ^ low f) c ∙ ap (λ (z : ℕ). z * 2 ^ low f) (h .1) ∙ mul-right-comm a (down e) (2 ^ low f)) in
+    let i : m * up e * 2 ^ low f / down e ≡ a * 2 ^ low f / c =
+    div-same (m * up e * 2 ^ low f) (down e) (a * 2 ^ low f) c (down-pos e) C
+    (mul-right-comm (m * up e) (2 ^ low f) c ∙ ap (λ (z : ℕ). z * 2 ^ low f) (h .1) ∙ mul-right-comm a (down e) (2 ^ low f)) in
     rw (h .0, i)
 
 pub fits-unique : (f : Format) (x y : Float) (s : Bool) (a c : ℕ) → 0 < c → T (fits f x) → T (fits f y) → HasValue x s a c → HasValue y s a c → x ≡ y
@@ -103,22 +107,29 @@ pub den-divides : (f : Format) (x : Float) → T (finite x) → T (fits f x) →
 den-divides f nan p q = absurd p
 den-divides f (inf s) p q = absurd p
 den-divides f (fin s m e) p q =
-    let k : fall e ≤ low f = pow-le→le (fall e) (low f) (rw (down-is e) at (digits f s m e q .fine)) in
-    (2 ^ (low f - fall e), ap (λ (z : ℕ). 2 ^ z) (sym (sub-add-cancel k)) ∙ pow-add 2 (low f - fall e) (fall e) ∙ ap (λ (z : ℕ). 2 ^ (low f - fall e) * z) (sym (down-is e)))
+    let k : fall e ≤ low f = pow-le→le (fall e) (low f) (rw (down-is e) at (digits f s m e q .fine)) in (
+      2 ^ (low f - fall e),
+      ap (λ (z : ℕ). 2 ^ z) (sym (sub-add-cancel k)) ∙ pow-add 2 (low f - fall e) (fall e)
+          ∙ ap (λ (z : ℕ). 2 ^ (low f - fall e) * z) (sym (down-is e)),
+    )
 
 -- ---- x / 2 ^ t, where that is a whole number of units
-pub round-quotient : (f : Format) (s : Bool) (m : ℕ) (e : ℤ) (t : ℕ) → T (fits f (fin s m e)) → down e * 2 ^ t ≤ up e * 2 ^ low f → HasValue (round f s (m * up e) (down e * 2 ^ t)) s (m * up e) (down e * 2 ^ t)
+pub round-quotient : (f : Format) (s : Bool) (m : ℕ) (e : ℤ) (t : ℕ) → T (fits f (fin s m e)) → down e * 2 ^ t ≤ up e * 2 ^ low f
+    → HasValue (round f s (m * up e) (down e * 2 ^ t)) s (m * up e) (down e * 2 ^ t)
 round-quotient f s m e t p h =
     let d = digits f s m e p in
     let q = quotient e (low f) t h in
     let j = q .0 in
-    let i : m * up e * 2 ^ low f ≡ m * 2 ^ j * (down e * 2 ^ t) = mul-assoc m (up e) (2 ^ low f) ∙ ap (λ (z : ℕ). m * z) (q .1) ∙ sym (mul-assoc m (2 ^ j) (down e * 2 ^ t)) in
+    let i : m * up e * 2 ^ low f ≡ m * 2 ^ j * (down e * 2 ^ t) =
+    mul-assoc m (up e) (2 ^ low f) ∙ ap (λ (z : ℕ). m * z) (q .1) ∙ sym (mul-assoc m (2 ^ j) (down e * 2 ^ t)) in
     round-exact f s (m * up e) (down e * 2 ^ t) m j (mul-pos (down-pos e) (pow-pos t)) (d .few)
-    (lt-of-mul-lt-mul-right (down e) (rw pow-add (room m (up e) (2 ^ low f) (2 ^ j) (down e) (2 ^ t) (2 ^ suc (emax f)) (pow-pos t) (pow-pos (low f)) i (d .below)))) i
+    (lt-of-mul-lt-mul-right (down e) (rw pow-add
+    (room m (up e) (2 ^ low f) (2 ^ j) (down e) (2 ^ t) (2 ^ suc (emax f)) (pow-pos t) (pow-pos (low f)) i (d .below)))) i
 
 pub round-self : (f : Format) (s : Bool) (m : ℕ) (e : ℤ) → T (fits f (fin s m e)) → round f s (m * up e) (down e) ≡ fin s m e
 round-self f s m e p =
-    let h : HasValue (round f s (m * up e) (down e)) s (m * up e) (down e) = rw mul-one at (round-quotient f s m e 0 p (at-one (up-pos e) (digits f s m e p .fine))) in
+    let h : HasValue (round f s (m * up e) (down e)) s (m * up e) (down e) =
+    rw mul-one at (round-quotient f s m e 0 p (at-one (up-pos e) (digits f s m e p .fine))) in
     fits-unique f (round f s (m * up e) (down e)) (fin s m e) s (m * up e) (down e) (down-pos e) (round-fits f s (m * up e) (down e)) p h (refl, refl)
   where
     at-one : 0 < up e → down e ≤ 2 ^ low f → down e * 1 ≤ up e * 2 ^ low f
@@ -142,7 +153,8 @@ value-finite (fin t m e) s a c h = tt
 
 above-finite : (f : Format) (a c : ℕ) → 0 < c → a ≤ 2 ^ emax f * c → T (finite (round f false a c))
 above-finite f a c C h =
-    finite-between (fin false 0 (pos 0)) (round f false a c) (round f false (2 ^ emax f) 1) tt (value-finite (round f false (2 ^ emax f) 1) false (2 ^ emax f) 1 (power-value f)) (zero-le-round f a c C)
+    finite-between (fin false 0 (pos 0)) (round f false a c) (round f false (2 ^ emax f) 1) tt
+    (value-finite (round f false (2 ^ emax f) 1) false (2 ^ emax f) 1 (power-value f)) (zero-le-round f a c C)
     (round-mono f a c (2 ^ emax f) 1 C (lit≤ tt) (omega arith))
 
 pub round-finite : (f : Format) (s : Bool) (a c : ℕ) → 0 < c → a ≤ 2 ^ emax f * c → T (finite (round f s a c))

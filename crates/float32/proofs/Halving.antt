@@ -1,4 +1,5 @@
--- Half of a positive value: it lies between 0 and the value, and is exact where the half is a whole number of the format's smallest units, so from twice the smallest normal value on.
+-- Half of a positive value: it lies between 0 and the value, and is exact where the half is a whole number of the format's smallest units, so from
+-- twice the smallest normal value on.
 use mathlib.Core.Path.{_≡_, refl, sym, subst}
 use mathlib.Core.Bool.{true, false}
 use Prim.Native.Nat.{ℕ, suc, _*_, _^_, _≤_, _<_}
@@ -61,9 +62,11 @@ normal-den f (inf s) p q h = absurd p
 normal-den f (fin true m e) p q h = absurd p
 normal-den f (fin false m (pos k)) p q h = pow-mono (low-pos f)
 normal-den f (fin false m (negsuc k)) p q h =
-    let a : 2 ^ prec f * 2 ^ suc k < 2 ^ prec f * 2 ^ low f = lt-of-le-of-lt h (rw mul-one (mul-lt-mul-of-pos-right (digits f false m (negsuc k) q .few) (pow-pos (low f)))) in
+    let a : 2 ^ prec f * 2 ^ suc k < 2 ^ prec f * 2 ^ low f =
+    lt-of-le-of-lt h (rw mul-one (mul-lt-mul-of-pos-right (digits f false m (negsuc k) q .few) (pow-pos (low f)))) in
     let b : suc k < low f = pow-lt→lt (suc k) (low f) (lt-of-mul-lt-mul-left (2 ^ prec f) a) in
     le-trans (le-of-eq (sym (pow-suc 2 (suc k)))) (pow-mono b)
 
-pub half-exact-normal : (f : Format) (x : Float) → T (positive x) → T (fits f x) → 2 ^ prec f * den x ≤ num x * 2 ^ low f → HasValue (mul f x half) false (num x) (den x * 2)
+pub half-exact-normal : (f : Format) (x : Float) → T (positive x) → T (fits f x) → 2 ^ prec f * den x ≤ num x * 2 ^ low f
+    → HasValue (mul f x half) false (num x) (den x * 2)
 half-exact-normal f x p q h = half-exact f x p q (normal-den f x p q h)

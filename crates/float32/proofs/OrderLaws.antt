@@ -11,7 +11,8 @@ use lib.Ieee.Fits.{and-l}
 use lib.Ieee.Scale.{finite}
 use lib.Ieee.Positive.{num, den, den-pos}
 use mir.Facts.{or-yes}
-use Rattle.float32.proofs.Order.{over, under, Ordered, from-lowest, to-highest, numbers, le→ordered, ordered→le, le→cross, cross→le, lt→strict, strict→lt, T-ext}
+use Rattle.float32.proofs.Order.{over, under, Ordered, from-lowest, to-highest, numbers, le→ordered}
+use Rattle.float32.proofs.Order.{ordered→le, le→cross, cross→le, lt→strict, strict→lt, T-ext}
 
 -- ---- no NaN is ordered
 pub finite-no-nan : (x : Float) → T (finite x) → T (not (isNan x))
@@ -34,7 +35,8 @@ le-no-nan x y h = ordered-no-nan (le→ordered x y h)
 
 -- ---- transitive
 -- (p - q) / d ≤ (p' - q') / d' ≤ (p'' - q'') / d''
-chain : (p q d p' q' d' p'' q'' d'' : ℕ) → 0 < d' → p * d' + q' * d ≤ p' * d + q * d' → p' * d'' + q'' * d' ≤ p'' * d' + q' * d'' → p * d'' + q'' * d ≤ p'' * d + q * d''
+chain : (p q d p' q' d' p'' q'' d'' : ℕ) → 0 < d' → p * d' + q' * d ≤ p' * d + q * d' → p' * d'' + q'' * d' ≤ p'' * d' + q' * d''
+    → p * d'' + q'' * d ≤ p'' * d + q * d''
 chain p q d p' q' d' p'' q'' d'' D h k =
     let e : (p * d'' + q'' * d) * d' ≤ (p'' * d + q * d'') * d' = omega (arith, mul-le-mul-right d'' h, mul-le-mul-right d k) in
     le-of-mul-le-mul-right e D
@@ -221,7 +223,8 @@ unfolding neg
 ordered-neg (from-lowest {y = y} p) = to-highest (neg-no-nan y p)
 ordered-neg (to-highest {x = x} p) = from-lowest (neg-no-nan x p)
 ordered-neg (numbers {x = x} {y = y} p q h) =
-    numbers {x = neg y} {y = neg x} (neg-finite y q) (neg-finite x p) (rw (neg-over x, neg-over y, neg-under x, neg-under y, neg-den x, neg-den y) (omega arith))
+    numbers {x = neg y} {y = neg x} (neg-finite y q) (neg-finite x p)
+    (rw (neg-over x, neg-over y, neg-under x, neg-under y, neg-den x, neg-den y) (omega arith))
 
 pub neg-le : (x y : Float) → T (le x y) → T (le (neg y) (neg x))
 neg-le x y h = ordered→le (ordered-neg (le→ordered x y h))
@@ -230,6 +233,7 @@ pub neg-lt : (x y : Float) → T (lt x y) → T (lt (neg y) (neg x))
 neg-lt x y h =
     let n = le-no-nan x y (lt-le x y h) in
     elim (le-or-lt (neg x) (neg y) (neg-no-nan x (n .0)) (neg-no-nan y (n .1))) [
-      | inl l ↦ absurd (lt→not-le x y h (subst (λ (z : Float). T (le z x)) (neg-neg y) (subst (λ (z : Float). T (le (neg (neg y)) z)) (neg-neg x) (neg-le (neg x) (neg y) l))))
+      | inl l ↦ absurd (lt→not-le x y h (subst (λ (z : Float). T (le z x)) (neg-neg y)
+          (subst (λ (z : Float). T (le (neg (neg y)) z)) (neg-neg x) (neg-le (neg x) (neg y) l))))
       | inr l ↦ l
     ]

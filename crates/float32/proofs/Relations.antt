@@ -1,4 +1,5 @@
--- The four relations of IEEE 754-2019, 5.11: `relationOf` holds, and no other does. What <, <=, ==, !=, > and >= say of it, NaN and both zeros included. Assumes nothing.
+-- The four relations of IEEE 754-2019, 5.11: `relationOf` holds, and no other does. What <, <=, ==, !=, > and >= say of it, NaN and both zeros
+-- included. Assumes nothing.
 use mathlib.Core.Path.{_≡_, refl, sym, ap, _∙_, subst}
 use mathlib.Core.Logic.{_⊎_, inl, inr}
 use mathlib.Core.Bool.{Bool, true, false, not, _&&_, _||_}
@@ -121,7 +122,8 @@ signed false a true b = compare (a + b) 0
 signed true a false b = compare 0 (a + b)
 signed true a true b = compare b a
 
-relation-signed : (s : Bool) (m : ℕ) (e : ℤ) (t : Bool) (n : ℕ) (d : ℤ) → relationOf (fin s m e) (fin t n d) ≡ ofOrdering (signed s (m * up e * down d) t (n * up d * down e))
+relation-signed : (s : Bool) (m : ℕ) (e : ℤ) (t : Bool) (n : ℕ) (d : ℤ)
+    → relationOf (fin s m e) (fin t n d) ≡ ofOrdering (signed s (m * up e * down d) t (n * up d * down e))
 unfolding relationOf
 relation-signed false m e false n d = simp (zero-mul, add-zero)
 relation-signed false m e true n d = simp (zero-mul, add-zero)
@@ -255,7 +257,8 @@ relate-mirrored highest (ratio p q d) = refl
 relate-mirrored (ratio p q d) none = refl
 relate-mirrored (ratio p q d) lowest = refl
 relate-mirrored (ratio p q d) highest = refl
-relate-mirrored (ratio p q d) (ratio p' q' d') = ap ofOrdering (compare-turned (p * d' + q' * d) (p' * d + q * d')) ∙ go (compare (p * d' + q' * d) (p' * d + q * d'))
+relate-mirrored (ratio p q d) (ratio p' q' d') =
+    ap ofOrdering (compare-turned (p * d' + q' * d) (p' * d + q * d')) ∙ go (compare (p * d' + q' * d) (p' * d + q * d'))
   where
     go : (o : Ordering) → ofOrdering (turned o) ≡ mirrored (ofOrdering o)
     go Ordering·lt = refl

@@ -1,8 +1,10 @@
--- The error of one rounding: in the normal range at most 2 ^ -prec of the exact result, below it at most half of the smallest value. Stated by products, either way.
+-- The error of one rounding: in the normal range at most 2 ^ -prec of the exact result, below it at most half of the smallest value. Stated by
+-- products, either way.
 use mathlib.Core.Path.{_≡_, refl, ap, _∙_, subst}
 use mathlib.Core.Bool.{Bool, true, false, not}
 use Prim.Native.Nat.{ℕ, _+_, _-_, _*_, _/_, _%_, _^_, _≤_, _<_, compare, Ordering, Ordering·lt, Ordering·eq, Ordering·gt}
-use native.Mathlib.Nat.{div-add-mod', mod-lt, mul-le-mul-right, mul-right-comm, mul-assoc, mul-pos, mul-one, sub-eq-zero-of-le, div-lt-iff-lt-mul, le-div-iff-mul-le, le-of-mul-le-mul-right}
+use native.Mathlib.Nat.{div-add-mod', mod-lt, mul-le-mul-right, mul-right-comm, mul-assoc, mul-pos}
+use native.Mathlib.Nat.{mul-one, sub-eq-zero-of-le, div-lt-iff-lt-mul, le-div-iff-mul-le, le-of-mul-le-mul-right}
 use native.Mathlib.Omega.{arith}
 use lib.Dec.{T, isLe, isEq, leb→le, nleb→lt, eqb→eq}
 use lib.Pow.{pow-add, pow-pos}
@@ -36,7 +38,8 @@ closest-near n u U =
 unit : Format → ℕ → ℕ → ℕ
 unit f a c = c * 2 ^ drop (prec f) (a * 2 ^ low f) c
 
-grid-near : (f : Format) (a c : ℕ) → 0 < c → (2 * (grid f a c * c) ≤ 2 * (a * 2 ^ low f) + unit f a c) × (2 * (a * 2 ^ low f) ≤ 2 * (grid f a c * c) + unit f a c)
+grid-near : (f : Format) (a c : ℕ) → 0 < c
+    → (2 * (grid f a c * c) ≤ 2 * (a * 2 ^ low f) + unit f a c) × (2 * (a * 2 ^ low f) ≤ 2 * (grid f a c * c) + unit f a c)
 unfolding unit
 grid-near f a c C =
     let n = a * 2 ^ low f in
@@ -103,7 +106,8 @@ above-relative f a c C h t =
     let x = round f false a c in
     let g = grid-near f a c C in
     rw (twice f)
-    (relative (2 ^ (prec f - 1)) (grid f a c) c (unit f a c) (num x) (den x) a (2 ^ low f) (pow-pos (low f)) (value→cross x (grid f a c) (2 ^ low f) (round-val f a c (round-under f a c t))) (unit-normal f a c C (normal f a c C h)) (g .0) (g .1))
+    (relative (2 ^ (prec f - 1)) (grid f a c) c (unit f a c) (num x) (den x) a (2 ^ low f) (pow-pos (low f))
+    (value→cross x (grid f a c) (2 ^ low f) (round-val f a c (round-under f a c t))) (unit-normal f a c C (normal f a c C h)) (g .0) (g .1))
 
 -- fewer digits than the format keeps: the unit is the smallest value
 below-absolute : (f : Format) (a c : ℕ) → 0 < c → a * 2 ^ low f < 2 ^ prec f * c → T (finite (round f false a c)) → Absolute (low f) (round f false a c) a c
@@ -111,7 +115,8 @@ below-absolute f a c C h t =
     let x = round f false a c in
     let g = grid-near f a c C in
     let u = unit-small f a c C h in
-    absolute (grid f a c) c (num x) (den x) a (2 ^ low f) (pow-pos (low f)) (value→cross x (grid f a c) (2 ^ low f) (round-val f a c (round-under f a c t))) (rw u at (g .0)) (rw u at (g .1))
+    absolute (grid f a c) c (num x) (den x) a (2 ^ low f) (pow-pos (low f))
+    (value→cross x (grid f a c) (2 ^ low f) (round-val f a c (round-under f a c t))) (rw u at (g .0)) (rw u at (g .1))
 
 -- ---- with either sign
 pub round-relative : (f : Format) (s : Bool) (a c : ℕ) → 0 < c → c ≤ a * 2 ^ (emax f - 1) → T (finite (round f s a c)) → Relative (prec f) (round f s a c) a c
@@ -120,14 +125,16 @@ round-relative f true a c C h t =
     let x = round f false a c in
     rw (round-neg f a c, neg-num x, neg-den x) (above-relative f a c C h (neg-finite-back x (rw (round-neg f a c) at t)))
 
-pub round-absolute : (f : Format) (s : Bool) (a c : ℕ) → 0 < c → a * 2 ^ low f < 2 ^ prec f * c → T (finite (round f s a c)) → Absolute (low f) (round f s a c) a c
+pub round-absolute : (f : Format) (s : Bool) (a c : ℕ) → 0 < c → a * 2 ^ low f < 2 ^ prec f * c → T (finite (round f s a c))
+    → Absolute (low f) (round f s a c) a c
 round-absolute f false a c C h t = below-absolute f a c C h t
 round-absolute f true a c C h t =
     let x = round f false a c in
     rw (round-neg f a c, neg-num x, neg-den x) (below-absolute f a c C h (neg-finite-back x (rw (round-neg f a c) at t)))
 
 -- ---- the product and the quotient of any signs, by their sizes
-pub mul-relative : (f : Format) (x y : Float) → T (finite x) → T (finite y) → den x * den y ≤ num x * num y * 2 ^ (emax f - 1) → T (finite (mul f x y)) → Relative (prec f) (mul f x y) (num x * num y) (den x * den y)
+pub mul-relative : (f : Format) (x y : Float) → T (finite x) → T (finite y) → den x * den y ≤ num x * num y * 2 ^ (emax f - 1)
+    → T (finite (mul f x y)) → Relative (prec f) (mul f x y) (num x * num y) (den x * den y)
 unfolding mul
 mul-relative f nan y p q h t = absurd p
 mul-relative f (inf s) y p q h t = absurd p
@@ -135,7 +142,8 @@ mul-relative f (fin s m e) nan p q h t = absurd q
 mul-relative f (fin s m e) (inf u) p q h t = absurd q
 mul-relative f (fin s m e) (fin u n d) p q h t = round-relative f (unlike s u) (m * up e * (n * up d)) (down e * down d) (mul-pos (down-pos e) (down-pos d)) h t
 
-pub div-relative : (f : Format) (x y : Float) → T (finite x) → T (positive y) → num y * den x ≤ num x * den y * 2 ^ (emax f - 1) → T (finite (div f x y)) → Relative (prec f) (div f x y) (num x * den y) (num y * den x)
+pub div-relative : (f : Format) (x y : Float) → T (finite x) → T (positive y) → num y * den x ≤ num x * den y * 2 ^ (emax f - 1)
+    → T (finite (div f x y)) → Relative (prec f) (div f x y) (num x * den y) (num y * den x)
 unfolding div
 div-relative f nan y p q h t = absurd p
 div-relative f (inf s) y p q h t = absurd p
@@ -143,4 +151,5 @@ div-relative f (fin s m e) nan p q h t = absurd q
 div-relative f (fin s m e) (inf u) p q h t = absurd q
 div-relative f (fin s m e) (fin true n d) p q h t = absurd q
 div-relative f (fin s m e) (fin false n d) p q h t =
-    rw (positive-not-zero n q) (round-relative f (unlike s false) (m * up e * down d) (n * up d * down e) (mul-pos (num-pos (fin false n d) q) (down-pos e)) h (rw (positive-not-zero n q) at t))
+    rw (positive-not-zero n q) (round-relative f (unlike s false) (m * up e * down d) (n * up d * down e)
+    (mul-pos (num-pos (fin false n d) q) (down-pos e)) h (rw (positive-not-zero n q) at t))

@@ -1,4 +1,5 @@
--- Each operation on finite values is its exact result, rounded once: a signed fraction (P - Q) / c, of which a zero has either sign. Rounding keeps the order of such fractions.
+-- Each operation on finite values is its exact result, rounded once: a signed fraction (P - Q) / c, of which a zero has either sign. Rounding keeps
+-- the order of such fractions.
 use mathlib.Core.Path.{_≡_, refl, sym, ap, _∙_, subst}
 use mathlib.Core.Logic.{inl, inr}
 use mathlib.Core.Bool.{Bool, true, false, not, cond}
@@ -47,7 +48,8 @@ zero-le-round f a c C = subst (λ (z : Float). T (le z (round f false a c))) (ro
 
 round-le-zero : (f : Format) (a c : ℕ) → 0 < c → T (le (round f true a c) (fin true 0 (pos 0)))
 unfolding neg
-round-le-zero f a c C = subst (λ (z : Float). T (le z (fin true 0 (pos 0)))) (sym (round-neg f a c)) (neg-le (fin false 0 (pos 0)) (round f false a c) (zero-le-round f a c C))
+round-le-zero f a c C =
+    subst (λ (z : Float). T (le z (fin true 0 (pos 0)))) (sym (round-neg f a c)) (neg-le (fin false 0 (pos 0)) (round f false a c) (zero-le-round f a c C))
 
 pub round-no-nan : (f : Format) (s : Bool) (a c : ℕ) → 0 < c → T (not (isNan (round f s a c)))
 round-no-nan f false a c C = le-no-nan (fin false 0 (pos 0)) (round f false a c) (zero-le-round f a c C) .1
@@ -71,7 +73,8 @@ none d c n e C z h = elim (eq-zero-or-pos d) [ inl k ↦ k | inr k ↦ absurd (c
     clash : 0 < d * c → d * c ≤ 0 → ⊥
     clash h k = omega arith
 
-pub rounded-mono : {f : Format} {r r' : Float} {P Q c P' Q' c' : ℕ} → 0 < c → 0 < c' → Rounded f r P Q c → Rounded f r' P' Q' c' → P * c' + Q' * c ≤ P' * c + Q * c' → T (le r r')
+pub rounded-mono : {f : Format} {r r' : Float} {P Q c P' Q' c' : ℕ} → 0 < c → 0 < c' → Rounded f r P Q c → Rounded f r' P' Q' c'
+    → P * c' + Q' * c ≤ P' * c + Q * c' → T (le r r')
 rounded-mono {f} {r} {r'} {P} {Q} {c} {P'} {Q'} {c'} C C' (above p e) (above q e') h =
     rw (e, e') (round-mono f (P - Q) c (P' - Q') c' C C' (gap P Q c P' Q' c' h))
 rounded-mono {f} {r} {r'} {P} {Q} {c} {P'} {Q'} {c'} C C' (below p e) (below q e') h =
@@ -109,12 +112,14 @@ sum-across : (f : Format) (a b c P Q : ℕ) → P ≡ b → Q ≡ a → Rounded 
 unfolding sum
 sum-across f a b c P Q p q = go (ltb a b) (ltb b a) (ltb-true a b) (ltb-false a b) (ltb-false b a)
   where
-    go : (t u : Bool) → (t ≡ true → a < b) → (t ≡ false → b ≤ a) → (u ≡ false → a ≤ b) → Rounded f (cond t (round f false (b - a) c) (round f u (a - b) c)) P Q c
+    go : (t u : Bool) → (t ≡ true → a < b) → (t ≡ false → b ≤ a) → (u ≡ false → a ≤ b)
+        → Rounded f (cond t (round f false (b - a) c) (round f u (a - b) c)) P Q c
     go true u h k l = let i = h refl in above (omega arith) (ap (λ (z : ℕ). round f false z c) (omega arith))
     go false true h k l = let i = k refl in below (omega arith) (ap (λ (z : ℕ). round f true z c) (omega arith))
     go false false h k l = let i = k refl in let j = l refl in above (omega arith) (ap (λ (z : ℕ). round f false z c) (omega arith))
 
-pub add-rounded : (f : Format) (x y : Float) → T (finite x) → T (finite y) → Rounded f (add f x y) (over x * den y + over y * den x) (under x * den y + under y * den x) (den x * den y)
+pub add-rounded : (f : Format) (x y : Float) → T (finite x) → T (finite y)
+    → Rounded f (add f x y) (over x * den y + over y * den x) (under x * den y + under y * den x) (den x * den y)
 unfolding add
 add-rounded f nan y p q = absurd p
 add-rounded f (inf s) y p q = absurd p
@@ -125,12 +130,14 @@ add-rounded f (fin false m e) (fin true n d) p q = sum-apart f (m * up e * down 
 add-rounded f (fin true m e) (fin false n d) p q = sum-across f (m * up e * down d) (n * up d * down e) (down e * down d) _ _ (omega arith) (omega arith)
 add-rounded f (fin true m e) (fin true n d) p q = below (omega arith) (unfold sum in ap (λ (z : ℕ). round f true z (down e * down d)) (omega arith))
 
-pub sub-rounded : (f : Format) (x y : Float) → T (finite x) → T (finite y) → Rounded f (sub f x y) (over x * den y + under y * den x) (under x * den y + over y * den x) (den x * den y)
+pub sub-rounded : (f : Format) (x y : Float) → T (finite x) → T (finite y)
+    → Rounded f (sub f x y) (over x * den y + under y * den x) (under x * den y + over y * den x) (den x * den y)
 unfolding sub
 sub-rounded f x y p q = rw (neg-over y, neg-under y, neg-den y) at (add-rounded f x (neg y) p (neg-finite y q))
 
 -- ---- x * y, and x / y for a y above 0
-pub mul-rounded : (f : Format) (x y : Float) → T (finite x) → T (finite y) → Rounded f (mul f x y) (over x * over y + under x * under y) (over x * under y + under x * over y) (den x * den y)
+pub mul-rounded : (f : Format) (x y : Float) → T (finite x) → T (finite y)
+    → Rounded f (mul f x y) (over x * over y + under x * under y) (over x * under y + under x * over y) (den x * den y)
 unfolding mul
 mul-rounded f nan y p q = absurd p
 mul-rounded f (inf s) y p q = absurd p

@@ -48,7 +48,8 @@ at-zero (inf s) f h = absurd (subst T (sym h) tt)
 at-zero (fin s zero e) f h = ap (fin false 0) (sym (plain e (eqb→eq (up e * down e) 1 f)))
 at-zero (fin s (suc m) e) f h =
     absurd
-    (never m (zero-digits (suc m) e (eqb→eq (suc m * up e * 1) (0 * down e) (and-l (eqb (suc m * up e * 1) (0 * down e)) _ (subst T (sym h) tt)) ∙ zero-mul (down e))))
+    (never m (zero-digits (suc m) e (eqb→eq (suc m * up e * 1) (0 * down e) (and-l (eqb (suc m * up e * 1) (0 * down e)) _ (subst T (sym h) tt))
+    ∙ zero-mul (down e))))
   where
     never : (m : ℕ) → suc m ≡ 0 → ⊥
     never m q = omega arith

@@ -1,4 +1,5 @@
--- The error of a rounded sum or difference: at most 2 ^ -prec of the exact one, however small, since sums of a format's values are whole numbers of its smallest units.
+-- The error of a rounded sum or difference: at most 2 ^ -prec of the exact one, however small, since sums of a format's values are whole numbers of
+-- its smallest units.
 use mathlib.Core.Path.{_≡_, sym, ap, _∙_}
 use mathlib.Core.Bool.{Bool, true, false}
 use Prim.Native.Nat.{ℕ, suc, _+_, _-_, _*_, _^_, _≤_, _<_}
@@ -59,7 +60,8 @@ distance-mul P Q l = rw (mul-comm (P - Q + (Q - P)) l, mul-add l (P - Q) (Q - P)
 whole-distance : (P Q l c p q : ℕ) → P * l ≡ p * c → Q * l ≡ q * c → distance P Q * l ≡ distance p q * c
 whole-distance P Q l c p q h k = distance-mul P Q l ∙ rw (h, k) (sym (distance-mul p q c))
 
-rounded-whole : {f : Format} {r : Float} {P Q c : ℕ} (p q : ℕ) → 0 < c → Rounded f r P Q c → P * 2 ^ low f ≡ p * c → Q * 2 ^ low f ≡ q * c → T (finite r) → Relative (prec f) r (distance P Q) c
+rounded-whole : {f : Format} {r : Float} {P Q c : ℕ} (p q : ℕ) → 0 < c → Rounded f r P Q c → P * 2 ^ low f ≡ p * c → Q * 2 ^ low f ≡ q * c
+    → T (finite r) → Relative (prec f) r (distance P Q) c
 rounded-whole {f} {r} {P} {Q} {c} p q C (above h e) i j t =
     let k = e ∙ ap (λ (z : ℕ). round f false z c) (distance-above P Q h) in
     rw k (whole-relative f false (distance P Q) c (distance p q) C (whole-distance P Q (2 ^ low f) c p q i j) (rw k at t))

@@ -1,14 +1,14 @@
 -- A truncated value by the code's tests: below, above, a NaN, or within 32767 either way, where the clamp keeps x. Assumes nothing.
-use mathlib.Core.Path.{_≡_, refl, sym, ap, _∙_, subst}
-use mathlib.Core.Bool.{Bool, true, false, not, cond}
-use Prim.Native.Nat.{ℕ, _+_, _*_, _≤_, _<_}
+use mathlib.Core.Path.{_≡_, refl, sym, _∙_, subst}
+use mathlib.Core.Bool.{true, false}
+use Prim.Native.Nat.{ℕ, _*_, _≤_, _<_}
 use native.Mathlib.Omega.{arith}
 use borrow.Author.Tests.{ltb-false}
 use lib.Dec.{T}
-use lib.IntN.{ℤ, pos, negsuc}
-use lib.Ieee.{Float, nan, inf, fin, up, down, binary32, ofBits, neg, lt, ne, isNan, toSigned}
+use lib.IntN.{pos, negsuc}
+use lib.Ieee.{Float, nan, inf, fin, up, down, ofBits, neg, lt, ne, isNan, toSigned}
 use lib.Ieee.Fits.{down-pos}
-use Rattle.float32.specs.Casts.{clampOf, limit, truncatedOf}
+use Rattle.float32.specs.Casts.{limit, truncatedOf}
 use Rattle.float32.proofs.Patterns.{ne-self}
 use Rattle.float32.proofs.Range.{Small}
 

@@ -1,17 +1,17 @@
 -- -1 - n, which turns two's complement into a number and back, and what the machine reads of a signed number. Assumes nothing.
 use mathlib.Core.Path.{_≡_, refl, sym, ap, _∙_, subst}
 use mathlib.Core.Bool.{Bool, true, false, cond}
-use Prim.Native.Nat.{ℕ, zero, suc, _+_, _-_, _%_, _^_, _≤_, _<_}
+use Prim.Native.Nat.{ℕ, zero, suc, _-_, _%_, _≤_, _<_}
 use native.Mathlib.Nat.{zero-add}
 use native.Mathlib.Omega.{arith}
 use lib.Dec.{T, ltb, leb·zero}
-use lib.IntN.{ℤ, pos, negsuc, negℤ, natAbs, subℕ, _-ℤ_}
-use lib.Signed.{mag, leZ, nonNeg}
-use mir.Syntax.{Width, w16, w32}
-use mir.Val.{Fits, SFits, toZ, ofZ, hbits, bits}
-use mir.Facts.{toZ-ofZ, sfits-toZ, fits-ofZ, toZ-pos}
+use lib.IntN.{ℤ, pos, negsuc, natAbs, _-ℤ_}
+use lib.Signed.{leZ, nonNeg}
+use mir.Syntax.{w16, w32}
+use mir.Val.{Fits, SFits, toZ, ofZ}
+use mir.Facts.{toZ-ofZ, toZ-pos}
 use borrow.Author.Tests.{le-ltb, lt-ltb, ltb-true, ltb-false}
-use Rattle.float32.specs.Casts.{low16bits, signed16, low16}
+use Rattle.float32.specs.Casts.{low16bits, signed16}
 
 up-one : (k : ℕ) → suc k - 1 ≡ k
 up-one k = omega arith
@@ -39,10 +39,12 @@ pub flip-fits : (y : ℤ) → SFits w32 y → leZ (pos 0) y ≡ false → SFits 
 flip-fits (pos a) h t = absurd (subst T (sym (leb·zero a) ∙ t) tt)
 flip-fits (negsuc a) h t = subst (λ (z : ℤ). SFits w32 z) (sym (flip-neg a)) (record { sfits = h .sfits })
 
-pub flip-cast : (y : ℤ) → SFits w32 y → leZ (pos 0) y ≡ false → T (nonNeg (toZ w32 (ofZ w32 (negsuc 0 -ℤ y)))) × Fits w32 (natAbs (toZ w32 (ofZ w32 (negsuc 0 -ℤ y))))
+pub flip-cast : (y : ℤ) → SFits w32 y → leZ (pos 0) y ≡ false
+    → T (nonNeg (toZ w32 (ofZ w32 (negsuc 0 -ℤ y)))) × Fits w32 (natAbs (toZ w32 (ofZ w32 (negsuc 0 -ℤ y))))
 flip-cast (pos a) h t = absurd (subst T (sym (leb·zero a) ∙ t) tt)
 flip-cast (negsuc a) h t =
-    subst (λ (z : ℤ). T (nonNeg z) × Fits w32 (natAbs z)) (sym (ap (λ (z : ℤ). toZ w32 (ofZ w32 z)) (flip-neg a) ∙ toZ-pos w32 (h .sfits))) (tt, record { fits = wide a (h .sfits) })
+    subst (λ (z : ℤ). T (nonNeg z) × Fits w32 (natAbs z)) (sym (ap (λ (z : ℤ). toZ w32 (ofZ w32 z)) (flip-neg a) ∙ toZ-pos w32 (h .sfits)))
+    (tt, record { fits = wide a (h .sfits) })
 
 pub pos-bits : (y : ℤ) → leZ (pos 0) y ≡ true → natAbs y % 65536 ≡ low16bits y
 pos-bits (pos a) t = refl

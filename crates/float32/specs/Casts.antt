@@ -1,9 +1,9 @@
 -- Floats to integers. Definitions only.
-use Prim.Native.Nat.{ℕ, _-_, _*_, _/_, _%_, _^_, min}
-use mathlib.Core.Bool.{Bool, true, false, cond}
+use Prim.Native.Nat.{ℕ, _-_, _%_}
+use mathlib.Core.Bool.{cond}
 use lib.Dec.{ltb}
-use lib.IntN.{ℤ, pos, negsuc, negℤ}
-use lib.Ieee.{Float, nan, inf, fin, up, down, isNan, lt, neg, ofBits, binary32, toSigned}
+use lib.IntN.{ℤ, pos, negsuc}
+use lib.Ieee.{Float, isNan, lt, neg, ofBits, binary32, toSigned}
 
 -- Rule F6 (Rust Reference, numeric cast): `x as i32`. Toward zero, past either end to that end, 0 for a NaN.
 abbrev pub castI32 : Float → ℤ

@@ -1,7 +1,7 @@
 -- Comparison (IEEE 754-2019, 5.11), on the numbers that floats stand for. Definitions only.
 use Prim.Native.Nat.{ℕ, _+_, _*_, _<_, compare, Ordering, Ordering·lt, Ordering·eq, Ordering·gt}
 use mathlib.Core.Path.{_≡_}
-use mathlib.Core.Bool.{Bool, true, false}
+use mathlib.Core.Bool.{true, false}
 use mathlib.Core.Logic.{_⊎_}
 use lib.Ieee.{Float, nan, inf, fin, up, down}
 use Rattle.float32.specs.declared.compare.Relation.{Relation}

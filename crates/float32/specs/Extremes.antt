@@ -1,6 +1,6 @@
 -- The lesser and the greater of two floats. Definitions only.
 use Prim.Native.Nat.{ℕ}
-use mathlib.Core.Bool.{Bool, true, false, cond}
+use mathlib.Core.Bool.{cond}
 use lib.Ieee.{Float, lt, isNan, binary32, ofBits}
 
 -- Rule F3 (01, Float steps; bounds.rs, vmin): a where a < b, else b. So a NaN on either side keeps b, and so does a tie.

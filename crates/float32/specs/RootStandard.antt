@@ -1,5 +1,7 @@
--- What IEEE 754-2019 says of a square root: squareRoot (5.4.1) with roundTiesToEven (4.3.1), infinities (6.1), NaN (6.2), the sign of a zero (6.3), operands below zero (7.2). Definitions only.
--- A finite value is the fraction ± num / den, its significand times a power of two. √x itself may be no fraction, so how near a value lies to it is told by squares:
+-- What IEEE 754-2019 says of a square root: squareRoot (5.4.1) with roundTiesToEven (4.3.1), infinities (6.1), NaN (6.2), the sign of a zero (6.3),
+-- operands below zero (7.2). Definitions only.
+-- A finite value is the fraction ± num / den, its significand times a power of two. √x itself may be no fraction, so how near a value lies to it is
+-- told by squares:
 -- of two numbers the lower is the nearer to √x where √x lies below their mean, and the upper where it lies above.
 -- And √x ≤ (r + y) / 2 says the same as 4 * x ≤ (r + y)², for an r + y that is not below zero.
 use Prim.Native.Nat.{ℕ, _+_, _-_, _*_, _%_, _≤_, _<_}
@@ -35,7 +37,8 @@ NoNearer x r y = (T (lt y r) → sumSquared x r y ≤ fourTimes x r y) × (T (lt
 abbrev pub AsNear : Float → Float → Float → Type 0
 AsNear x r y = sumSquared x r y ≡ fourTimes x r y
 
--- Rule F10 (4.3.1, roundTiesToEven): r is √x, for an x above zero, rounded to the format f: of f's numbers none is nearer, and where another is as near, r is the even one, by its last digit.
+-- Rule F10 (4.3.1, roundTiesToEven): r is √x, for an x above zero, rounded to the format f: of f's numbers none is nearer, and where another is as
+-- near, r is the even one, by its last digit.
 -- An infinity or a NaN is no number. No root overflows, as √x is at most x or at most 1.
 pub record Rounded (f : Format) (x r : Float) : Type 0 where
   pub held : T (fits f r)

@@ -1,4 +1,7 @@
--- One axis of the box of all items, from lo to hi, under the pair's premises: the value that the walk gives the query grows with the query, and the value that the build gives a point from lo to hi is the walk's; so the two values are in the order of the floats. With a half extent of 2 ^ -100 or more by the error of three roundings (Quantum), with a half extent of 0 because the inverse is +infinity, and a zero times that is a NaN, of value 0.
+-- One axis of the box of all items, from lo to hi, under the pair's premises: the value that the walk gives the query grows with the query, and the
+-- value that the build gives a point from lo to hi is the walk's; so the two values are in the order of the floats. With a half extent of 2 ^ -100 or
+-- more by the error of three roundings (Quantum), with a half extent of 0 because the inverse is +infinity, and a zero times that is a NaN, of value
+-- 0.
 use mathlib.Core.Path.{_≡_, refl, ap, _∙_}
 use mathlib.Core.Logic.{inl, inr}
 use mathlib.Core.Bool.{true, false, not}
@@ -91,12 +94,14 @@ module _ (lo hi : Float) (m : Measured lo hi) where
   centre-above : T (le (neg largest) (centre lo hi))
   centre-above =
       le-trans (neg largest) ((neg largest ⊕ neg largest) ⊗ half) (centre lo hi) (unfold le add mul neg ofBits in tt)
-      (mul-mono binary32 (neg largest ⊕ neg largest) (lo ⊕ hi) half half-positive (add-mono-both binary32 (neg largest) lo (neg largest) hi (low-in .0) (high-in .0) (unfold isNan add neg in tt) sum-number))
+      (mul-mono binary32 (neg largest ⊕ neg largest) (lo ⊕ hi) half half-positive
+      (add-mono-both binary32 (neg largest) lo (neg largest) hi (low-in .0) (high-in .0) (unfold isNan add neg in tt) sum-number))
 
   centre-below : T (le (centre lo hi) largest)
   centre-below =
       le-trans (centre lo hi) ((largest ⊕ largest) ⊗ half) largest
-      (mul-mono binary32 (lo ⊕ hi) (largest ⊕ largest) half half-positive (add-mono-both binary32 lo largest hi largest (low-in .1) (high-in .1) sum-number (unfold isNan add in tt)))
+      (mul-mono binary32 (lo ⊕ hi) (largest ⊕ largest) half half-positive
+      (add-mono-both binary32 lo largest hi largest (low-in .1) (high-in .1) sum-number (unfold isNan add in tt)))
       (unfold le add mul ofBits in tt)
 
   pub centre-finite : T (finite (centre lo hi))
@@ -108,14 +113,17 @@ module _ (lo hi : Float) (m : Measured lo hi) where
       let c = centre lo hi in
       abs-le (x ⊖ c) most
       (le-trans (neg most) (neg largest ⊖ largest) (x ⊖ c) (unfold le sub neg in tt)
-      (le-trans (neg largest ⊖ largest) (neg largest ⊖ c) (x ⊖ c) (sub-anti binary32 (neg largest) c largest (unfold neg in tt) centre-below) (sub-mono binary32 (neg largest) x c centre-finite h)))
+      (le-trans (neg largest ⊖ largest) (neg largest ⊖ c) (x ⊖ c) (sub-anti binary32 (neg largest) c largest (unfold neg in tt) centre-below)
+      (sub-mono binary32 (neg largest) x c centre-finite h)))
       (le-trans (x ⊖ c) (largest ⊖ neg largest) most
-      (le-trans (x ⊖ c) (largest ⊖ c) (largest ⊖ neg largest) (sub-mono binary32 x largest c centre-finite k) (sub-anti binary32 largest (neg largest) c tt centre-above))
+      (le-trans (x ⊖ c) (largest ⊖ c) (largest ⊖ neg largest) (sub-mono binary32 x largest c centre-finite k)
+      (sub-anti binary32 largest (neg largest) c tt centre-above))
       (unfold le sub neg in tt))
 
   extent-most : T (le (extent lo hi) most)
   extent-most =
-      vmaxOf-least (absOf (lo ⊖ centre lo hi)) (absOf (hi ⊖ centre lo hi)) most (distance-most lo (low-in .0) (low-in .1)) (distance-most hi (high-in .0) (high-in .1))
+      vmaxOf-least (absOf (lo ⊖ centre lo hi)) (absOf (hi ⊖ centre lo hi)) most (distance-most lo (low-in .0) (low-in .1))
+      (distance-most hi (high-in .0) (high-in .1))
 
   -- from lo to hi no distance from the centre exceeds the half extent
   distance-number : (x : Float) → T (finite x) → T (not (isNan (x ⊖ centre lo hi)))

@@ -8,7 +8,7 @@ use lib.Ieee.{ofBits, add, sub, mul, div, lt, toSigned}
 use Rattle.float32.specs.Casts.{shortOf}
 use Rattle.float32.specs.Extremes.{vmaxOf}
 use Rattle.float32.specs.Signs as Signs
-use Rattle.records.specs.LittleEndian.{littleEndian}
+use Rattle.base.specs.LittleEndian.{littleEndian, leAt}
 use Rattle.records.specs.Shorts.{shortBytes, shortAt}
 use Rattle.records.specs.Records.{vertexBytes, boxedBytes, nodeBytes, nodeAt, treeBytes}
 use Rattle.records.specs.Quantise.{quantiseOf}
@@ -63,7 +63,7 @@ unfolding treeBytes boxedBytes vertexBytes shortBytes littleEndian
 tree-0 = refl
 
 pub node-1-read : nodeAt (lowBytes ++ node1Bytes) 6 ≡ node1
-unfolding shortAt
+unfolding shortAt leAt
 node-1-read = refl
 
 -- the whole box, from -1 to 1 on each axis, in words
@@ -89,11 +89,13 @@ header trees =
       «trees_count» = trees;
     }
 
-pub node-list : nodeListBytes (header 1) ≡ (0x00 ∷ 0x00 ∷ 0x00 ∷ 0x50 ∷ 0x00 ∷ 0x00 ∷ 0x00 ∷ 0x00 ∷ 0x03 ∷ 0x00 ∷ 0x00 ∷ 0x00 ∷ 0x05 ∷ 0x00 ∷ 0x00 ∷ 0x00 ∷ []) ++ replicate 16 0
+pub node-list : nodeListBytes (header 1) ≡
+    (0x00 ∷ 0x00 ∷ 0x00 ∷ 0x50 ∷ 0x00 ∷ 0x00 ∷ 0x00 ∷ 0x00 ∷ 0x03 ∷ 0x00 ∷ 0x00 ∷ 0x00 ∷ 0x05 ∷ 0x00 ∷ 0x00 ∷ 0x00 ∷ []) ++ replicate 16 0
 unfolding nodeListBytes littleEndian
 node-list = refl
 
-pub box-max : pointBytes (header 1 .«bb_max») ≡ 0x00 ∷ 0x00 ∷ 0x80 ∷ 0x3f ∷ 0x00 ∷ 0x00 ∷ 0x80 ∷ 0x3f ∷ 0x00 ∷ 0x00 ∷ 0x80 ∷ 0x3f ∷ 0x00 ∷ 0x00 ∷ 0xc0 ∷ 0xff ∷ []
+pub box-max : pointBytes (header 1 .«bb_max»)
+    ≡ 0x00 ∷ 0x00 ∷ 0x80 ∷ 0x3f ∷ 0x00 ∷ 0x00 ∷ 0x80 ∷ 0x3f ∷ 0x00 ∷ 0x00 ∷ 0x80 ∷ 0x3f ∷ 0x00 ∷ 0x00 ∷ 0xc0 ∷ 0xff ∷ []
 unfolding pointBytes littleEndian
 box-max = refl
 

@@ -7,18 +7,15 @@ use lib.Ieee.{Float}
 use lib.Signed.{mag}
 use lib.Seq.{sets}
 use mir.Syntax.{w16}
-use mir.Val.{SFits, toZ, ofZ}
-use mir.Facts.{toZ-ofZ}
+use mir.Val.{toZ, ofZ}
+use Rattle.base.proofs.ShortLaws.{same-short}
 use Rattle.math.specs.declared.vec3.Vec3.{Vec3}
 use Rattle.records.specs.Shorts.{shortBytes}
 use Rattle.records.specs.declared.BoundVertex.{BoundVertex}
 
--- A field that is read is the field's number.
-pub same-short : (v : ℤ) → mag v < 2 ^ 15 → toZ w16 (ofZ w16 v) ≡ v
-same-short v h = toZ-ofZ (record { sfits = h })
-
--- So are the bytes stored of it.
-pub same-stored : (a : List ℕ) (at : ℕ) (v : ℤ) {b : List ℕ} → mag v < 2 ^ 15 → b ≡ sets a at (shortBytes (toZ w16 (ofZ w16 v))) → b ≡ sets a at (shortBytes v)
+-- The bytes stored of a field that is read are those of the field's number.
+pub same-stored : (a : List ℕ) (at : ℕ) (v : ℤ) {b : List ℕ} → mag v < 2 ^ 15
+    → b ≡ sets a at (shortBytes (toZ w16 (ofZ w16 v))) → b ≡ sets a at (shortBytes v)
 same-stored a at v h e = e ∙ ap (λ (z : ℤ). sets a at (shortBytes z)) (same-short v h)
 
 -- A point of three such fields, each the cast of an axis.
@@ -28,7 +25,8 @@ castBy cast d = record { 0 = cast (d .x); 1 = cast (d .y); 2 = cast (d .z) }
 abbrev pub seen : ℤ → ℤ → ℤ → BoundVertex
 seen x y z = record { 0 = toZ w16 (ofZ w16 x); 1 = toZ w16 (ofZ w16 y); 2 = toZ w16 (ofZ w16 z) }
 
-pub same-vertex : (cast : Float → ℤ) (d : Vec3) (x y z : ℤ) → mag x < 2 ^ 15 → mag y < 2 ^ 15 → mag z < 2 ^ 15 → x ≡ cast (d .x) → y ≡ cast (d .y) → z ≡ cast (d .z) → seen x y z ≡ castBy cast d
+pub same-vertex : (cast : Float → ℤ) (d : Vec3) (x y z : ℤ) → mag x < 2 ^ 15 → mag y < 2 ^ 15 → mag z < 2 ^ 15
+    → x ≡ cast (d .x) → y ≡ cast (d .y) → z ≡ cast (d .z) → seen x y z ≡ castBy cast d
 same-vertex cast d x y z hx hy hz ex ey ez =
     let rx = same-short x hx in
     let ry = same-short y hy in

@@ -18,6 +18,7 @@ module _ {n : ℕ} where
   all-passed [] ks = tt
   all-passed (s ∷ ss) ks = (passed-on s (ks .0), all-passed ss (ks .1))
 
-  pub all-go : {M : Type 1} (𝓤 : URA M) (H : Heap 𝓤) (A : Atoms 𝓤) (W : Given 𝓤 H A) (ss : List (Slot n)) (ks : Kepts ss) → AllGo 𝓤 H A W n ss ks (all-passed ss ks)
+  pub all-go : {M : Type 1} (𝓤 : URA M) (H : Heap 𝓤) (A : Atoms 𝓤) (W : Given 𝓤 H A) (ss : List (Slot n)) (ks : Kepts ss)
+      → AllGo 𝓤 H A W n ss ks (all-passed ss ks)
   all-go 𝓤 H A W [] ks = tt
   all-go 𝓤 H A W (s ∷ ss) ks = (λ κs x f vs ok. W .laws .⇛-intro _, all-go 𝓤 H A W ss (ks .1))

@@ -3,8 +3,6 @@ pub mod Examples
 mod Fields
 pub mod Fitting
 pub mod HandWalk
-pub mod LittleEndian
 pub mod Quantum
 pub mod ReadBack
 pub mod Sizes
-pub mod Stores

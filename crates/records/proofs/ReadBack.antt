@@ -1,19 +1,20 @@
 -- Reading after writing is the identity, for nodes and trees by one lemma over what they have in common. Assumes nothing.
-use mathlib.Core.Path.{_≡_, sym, ap, ap₂, _∙_}
+use mathlib.Core.Path.{_≡_, sym, ap, _∙_}
 use mathlib.Core.Bool.{Bool, cond}
-use mathlib.Core.List.{List, _++_}
-use Prim.Native.Nat.{ℕ, _+_, _-_, _*_, _/_, _%_, _≤_}
+use mathlib.Core.List.{List, [], _++_}
+use Prim.Native.Nat.{ℕ, _+_, _-_, _%_, _≤_}
 use native.Mathlib.Nat.{add-assoc, add-zero}
 use native.Mathlib.Omega.{arith}
 use lib.IntN.{ℤ, pos, negsuc}
-use lib.ListN.{length, take, getD}
-use lib.Seq.{getD-append-add, length-take-le}
+use lib.ListN.{length, take}
+use lib.Seq.{length-take-le}
 use mir.Syntax.{w16}
 use mir.Val.{SFits}
 use borrow.Author.Tests.{lt-ltb, le-ltb}
 use Rattle.float32.specs.Casts.{low16bits, signed16}
 use Rattle.float32.proofs.Wrap.{low-lt}
-use Rattle.records.specs.LittleEndian.{littleEndian}
+use Rattle.base.specs.LittleEndian.{littleEndian, leAt}
+use Rattle.base.proofs.LittleEndian.{le-after, le-back}
 use Rattle.records.specs.Shorts.{shortBytes, shortAt}
 use Rattle.records.specs.Records.{vertexBytes, vertexAt, boxedBytes, nodeBytes, nodeAt, treeBytes, treeAt, BoxedFits, NodeFits, TreeFits}
 use Rattle.records.specs.declared.BoundVertex.{BoundVertex}
@@ -28,23 +29,18 @@ signed-low (pos n) h =
 signed-low (negsuc n) h =
     let large : 32768 ≤ 65535 - n % 65536 = omega (arith, h .sfits) in
     let back : 65535 - (65535 - n % 65536) ≡ n = omega (arith, h .sfits) in
-    ap (λ (b : Bool). cond b (pos (65535 - n % 65536)) (negsuc (65535 - (65535 - n % 65536)))) (le-ltb (65535 - n % 65536) 32768 large) ∙ ap negsuc back
+    let m : ℕ = 65535 - n % 65536 in
+    ap (λ (b : Bool). cond b (pos m) (negsuc (65535 - m))) (le-ltb m 32768 large) ∙ ap negsuc back
 
 -- So do its two bytes.
-short-back : (v : ℤ) → SFits w16 v → signed16 (low16bits v % 256 + 256 * (low16bits v / 256 % 256)) ≡ v
-short-back v h =
-    let below = low-lt v in
-    let whole : low16bits v % 256 + 256 * (low16bits v / 256 % 256) ≡ low16bits v = omega arith in
-    ap signed16 whole ∙ signed-low v h
+short-back : (v : ℤ) (rest : List ℕ) → SFits w16 v → shortAt (shortBytes v ++ rest) 0 ≡ v
+unfolding shortBytes shortAt
+short-back v rest h = ap signed16 (le-back 2 (low16bits v) rest (low-lt v)) ∙ signed-low v h
 
 -- What stands after p is read as if it stood alone.
-byte-after : (p q : List ℕ) (at j : ℕ) → length p ≡ at → getD (p ++ q) (at + j) 0 ≡ getD q j 0
-byte-after p q at j e = ap (λ (k : ℕ). getD (p ++ q) (k + j) 0) (sym e) ∙ getD-append-add p q j 0
-
 short-after : (p q : List ℕ) (at j : ℕ) → length p ≡ at → shortAt (p ++ q) (at + j) ≡ shortAt q j
 unfolding shortAt
-short-after p q at j e =
-    ap₂ (λ (low high : ℕ). signed16 (low + 256 * high)) (byte-after p q at j e) (ap (λ (k : ℕ). getD (p ++ q) k 0) (add-assoc at j 1) ∙ byte-after p q at (j + 1) e)
+short-after p q at j e = ap signed16 (le-after 2 p q at j e)
 
 vertex-after : (p q : List ℕ) (at j : ℕ) → length p ≡ at → vertexAt (p ++ q) (at + j) ≡ vertexAt q j
 vertex-after p q at j e =
@@ -63,17 +59,19 @@ record Reads (bytes : List ℕ) (at : ℕ) (min max : BoundVertex) (first second
 vertex-back : (x y z : ℤ) (v : BoundVertex) → x ≡ v .0 → y ≡ v .1 → z ≡ v .2 → _≡_ {A = BoundVertex} (record { 0 = x; 1 = y; 2 = z }) v
 vertex-back x y z v ex ey ez = λ i. record { 0 = ex i; 1 = ey i; 2 = ez i }
 
-boxed-alone : (rest : List ℕ) (min max : BoundVertex) (first second : ℤ) → BoxedFits min max first second → Reads (boxedBytes min max first second ++ rest) 0 min max first second
-unfolding boxedBytes vertexBytes shortBytes littleEndian shortAt
+boxed-alone : (rest : List ℕ) (min max : BoundVertex) (first second : ℤ) → BoxedFits min max first second
+    → Reads (boxedBytes min max first second ++ rest) 0 min max first second
+unfolding boxedBytes vertexBytes shortBytes littleEndian shortAt leAt
 boxed-alone rest min max first second f =
     record {
-      low = vertex-back _ _ _ min (short-back (min .0) (f .low .0)) (short-back (min .1) (f .low .1)) (short-back (min .2) (f .low .2));
-      high = vertex-back _ _ _ max (short-back (max .0) (f .high .0)) (short-back (max .1) (f .high .1)) (short-back (max .2) (f .high .2));
-      one = short-back first (f .one);
-      two = short-back second (f .two);
+      low = vertex-back _ _ _ min (short-back (min .0) [] (f .low .0)) (short-back (min .1) [] (f .low .1)) (short-back (min .2) [] (f .low .2));
+      high = vertex-back _ _ _ max (short-back (max .0) [] (f .high .0)) (short-back (max .1) [] (f .high .1)) (short-back (max .2) [] (f .high .2));
+      one = short-back first [] (f .one);
+      two = short-back second [] (f .two);
     }
 
-boxed-back : (p rest : List ℕ) (at : ℕ) (min max : BoundVertex) (first second : ℤ) → length p ≡ at → BoxedFits min max first second → Reads (p ++ (boxedBytes min max first second ++ rest)) at min max first second
+boxed-back : (p rest : List ℕ) (at : ℕ) (min max : BoundVertex) (first second : ℤ) → length p ≡ at → BoxedFits min max first second
+    → Reads (p ++ (boxedBytes min max first second ++ rest)) at min max first second
 boxed-back p rest at min max first second e f =
     let q = boxedBytes min max first second ++ rest in
     let r = boxed-alone rest min max first second f in
@@ -98,8 +96,10 @@ tree-back p rest at t e f =
     λ i. record { min = r .low i; max = r .high i; «node_index1» = r .one i; «node_index2» = r .two i }
 
 -- The same in the shape in which `put_node` and `put_tree` leave the bytes.
-pub node-put-back : (bytes rest : List ℕ) (at : ℕ) (n : BvhNode) → at ≤ length bytes → NodeFits n → nodeAt (take at bytes ++ (nodeBytes n ++ rest)) at ≡ n
+pub node-put-back : (bytes rest : List ℕ) (at : ℕ) (n : BvhNode) → at ≤ length bytes → NodeFits n
+    → nodeAt (take at bytes ++ (nodeBytes n ++ rest)) at ≡ n
 node-put-back bytes rest at n h f = node-back (take at bytes) rest at n (length-take-le at bytes h) f
 
-pub tree-put-back : (bytes rest : List ℕ) (at : ℕ) (t : BvhTree) → at ≤ length bytes → TreeFits t → treeAt (take at bytes ++ (treeBytes t ++ rest)) at ≡ t
+pub tree-put-back : (bytes rest : List ℕ) (at : ℕ) (t : BvhTree) → at ≤ length bytes → TreeFits t
+    → treeAt (take at bytes ++ (treeBytes t ++ rest)) at ≡ t
 tree-put-back bytes rest at t h f = tree-back (take at bytes) rest at t (length-take-le at bytes h) f

@@ -1,18 +1,9 @@
 -- How many bytes each record has, each below 256, part by part. Assumes nothing.
-use mathlib.Core.Path.{_≡_, refl, sym, ap, ap₂, _∙_}
-use mathlib.Core.Bool.{true, _&&_, and-assoc}
-use mathlib.Core.List.{List, [], _∷_, _++_}
-use Prim.Native.Nat.{ℕ, zero, suc, _+_, _/_, _%_, _<_}
-use native.Mathlib.Omega.{arith}
-use lib.Dec.{ltb}
 use lib.IntN.{ℤ}
-use lib.ListN.{length, replicate, length-append}
-use lib.Pow.{areBytes}
-use borrow.Author.Tests.{lt-ltb}
 use Rattle.float32.specs.Casts.{low16bits}
 use Rattle.math.specs.Stored.{bitsOf}
 use Rattle.math.specs.declared.words3.Words3.{Words3}
-use Rattle.records.specs.LittleEndian.{littleEndian}
+use Rattle.base.proofs.LittleEndian.{Bytes, joined, number-bytes, zero-bytes}
 use Rattle.records.specs.Shorts.{shortBytes}
 use Rattle.records.specs.Records.{vertexBytes, boxedBytes, nodeBytes, treeBytes}
 use Rattle.records.specs.Header.{nodeListBytes, pointBytes, pointsBytes, treeListBytes, headerBytes}
@@ -20,34 +11,6 @@ use Rattle.records.specs.declared.BoundVertex.{BoundVertex}
 use Rattle.records.specs.declared.BvhNode.{BvhNode}
 use Rattle.records.specs.declared.BvhTree.{BvhTree}
 use Rattle.records.specs.declared.header.Bvh.{Bvh}
-
--- l is `n` bytes.
-pub record Bytes (n : ℕ) (l : List ℕ) : Type 0 where
-  pub size : length l ≡ n
-  pub each : areBytes l ≡ true
-
-each-joined : (a b : List ℕ) → areBytes (a ++ b) ≡ areBytes a && areBytes b
-each-joined [] b = refl
-each-joined (d ∷ ds) b = ap (_&&_ (ltb d 256)) (each-joined ds b) ∙ sym (and-assoc (ltb d 256) (areBytes ds) (areBytes b))
-
-pub joined : {m n : ℕ} {a b : List ℕ} → Bytes m a → Bytes n b → Bytes (m + n) (a ++ b)
-joined {m} {n} {a} {b} p q =
-    record {
-      size = length-append a b ∙ ap₂ _+_ (p .size) (q .size);
-      each = each-joined a b ∙ ap₂ _&&_ (p .each) (q .each);
-    }
-
-pub number-bytes : (n x : ℕ) → Bytes n (littleEndian n x)
-unfolding littleEndian
-number-bytes zero x = record { size = refl; each = refl }
-number-bytes (suc n) x =
-    let low : x % 256 < 256 = omega arith in
-    let rest = number-bytes n (x / 256) in
-    record { size = ap suc (rest .size); each = ap₂ _&&_ (lt-ltb (x % 256) 256 low) (rest .each) }
-
-pub zero-bytes : (n : ℕ) → Bytes n (replicate n 0)
-zero-bytes zero = record { size = refl; each = refl }
-zero-bytes (suc n) = record { size = ap suc (zero-bytes n .size); each = zero-bytes n .each }
 
 pub short-bytes : (v : ℤ) → Bytes 2 (shortBytes v)
 unfolding shortBytes

@@ -1,6 +1,5 @@
 pub mod Axis
 pub mod Header
-pub mod LittleEndian
 pub mod Quantise
 pub mod Records
 pub mod Scale

@@ -1,10 +1,9 @@
 -- An i16 as bytes. Definitions only.
-use Prim.Native.Nat.{ℕ, _+_, _*_}
+use Prim.Native.Nat.{ℕ}
 use mathlib.Core.List.{List}
 use lib.IntN.{ℤ}
-use lib.ListN.{getD}
 use Rattle.float32.specs.Casts.{low16bits, signed16}
-use Rattle.records.specs.LittleEndian.{littleEndian}
+use Rattle.base.specs.LittleEndian.{littleEndian, leAt}
 
 -- Rule R2 (mod.rs, Writer::i16): two bytes, in two's complement.
 unfoldable pub shortBytes : ℤ → List ℕ
@@ -12,4 +11,4 @@ shortBytes v = littleEndian 2 (low16bits v)
 
 -- Rule R2 (mod.rs, Pod for i16): the number that the two bytes from k on stand for.
 unfoldable pub shortAt : List ℕ → ℕ → ℤ
-shortAt bytes k = signed16 (getD bytes k 0 + 256 * getD bytes (k + 1) 0)
+shortAt bytes k = signed16 (leAt 2 bytes k)

@@ -1,6 +1,6 @@
 // The header of a tree: where its nodes and ranges are, the box around its items, and the units of its records.
-use crate::little_endian::put_le;
 use crate::scale::Scale;
+use base::little_endian::put_le;
 use math::words3::Words3;
 ghost use mathlib.Core.Path.{_≡_};
 ghost use Prim.Native.Nat.{_+_, _≤_};

@@ -1,6 +1,5 @@
 // The records of a tree, as the source keeps them: a box in units of the quantum, then two numbers, 16 bytes in all.
 pub mod header;
-pub mod little_endian;
 pub mod quantise;
 pub mod scale;
 pub mod shorts;

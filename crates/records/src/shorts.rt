@@ -1,6 +1,6 @@
 // An i16 as two bytes, and back.
 ghost use mathlib.Core.Path.{_≡_};
-ghost use Prim.Native.Nat.{_+_, _≤_, _<_};
+ghost use Prim.Native.Nat.{_+_, _≤_};
 ghost use lib.ListN.{length};
 ghost use lib.Seq.{sets};
 ghost use Rattle.records.specs.Shorts.{shortBytes, shortAt};
@@ -11,13 +11,7 @@ pub fn put_short(out: &mut [u8], at: usize, v: i16)
     ensures { λ _. ⌜ now (out .exit) ≡ sets (now (out .entry)) at (shortBytes v) ⌝ }
 {
     let low = float32::casts::low_bits(v as i32);
-    crate::little_endian::put_le(out, at, 2, low as u64);
-}
-
-fn wide(byte: u8) -> u32
-    ensures { λ r. ⌜ (r ≡ byte) × (r < 256) ⌝ }
-{
-    byte as u32
+    base::little_endian::put_le(out, at, 2, low as u64);
 }
 
 // The i16 that stands at `at`.
@@ -25,7 +19,5 @@ pub fn short_at(bytes: &[u8], at: usize) -> i16
     requires { ⌜ at + 2 ≤ length (now bytes) ⌝ }
     ensures { λ r. ⌜ r ≡ shortAt (now (bytes .entry)) at ⌝ }
 {
-    let low = wide(bytes[at]);
-    let high = wide(bytes[at + 1]);
-    float32::casts::wrap_i16((low + 256 * high) as i32)
+    float32::casts::wrap_i16(base::little_endian::two_at(bytes, at) as i32)
 }

@@ -1,7 +1,7 @@
 -- Document 01, "Values to check": those marked to be proved, each by computing the definition that a contract cites. Assumes nothing.
 use mathlib.Core.Path.{_≡_, refl}
-use mathlib.Core.Bool.{true, false}
-use lib.IntN.{ℤ, pos, negsuc}
+use mathlib.Core.Bool.{false}
+use lib.IntN.{pos, negsuc}
 use lib.Ieee.{nan, inf, neg, lt, isNan, toSigned, binary32, ofBits, toBits}
 use Rattle.float32.specs.Casts.{shortOf, clampOf, truncatedOf, vertexOf}
 use Rattle.float32.specs.SquareRoot.{sqrtOf}

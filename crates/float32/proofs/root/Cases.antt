@@ -1,4 +1,5 @@
--- √x by x's pattern, for every pattern: above zero and finite, where the code works the root out; its own root; or none. By the number that a pattern stands for.
+-- √x by x's pattern, for every pattern: above zero and finite, where the code works the root out; its own root; or none. By the number that a pattern
+-- stands for.
 use mathlib.Core.Path.{_≡_, refl, sym, ap, _∙_, subst}
 use mathlib.Core.Logic.{inl, inr}
 use mathlib.Core.Bool.{Bool, true, false, cond}
@@ -28,7 +29,8 @@ fields : (s : Bool) (x t : ℕ) → x < 255 → HasValue (ofFields binary32 s x 
 unfolding ofFields
 fields s zero t h = subst (λ (z : ℕ). HasValue (odd 24 s t 0 149) s z (2 ^ 149)) (mul-one t) (odd-sign 24 s t 0 149)
 fields s (suc x) t h =
-    subst (λ (b : Bool). HasValue (cond b (cond (eqb t 0) (inf s) nan) (odd 24 s (0x80_0000 + t) x 149)) s (amount (suc x) t) (2 ^ 149)) (sym (ne-eqb (suc x) 255 (omega arith)))
+    subst (λ (b : Bool). HasValue (cond b (cond (eqb t 0) (inf s) nan) (odd 24 s (0x80_0000 + t) x 149)) s (amount (suc x) t) (2 ^ 149))
+    (sym (ne-eqb (suc x) 255 (omega arith)))
     (subst (λ (z : ℕ). HasValue (odd 24 s (0x80_0000 + t) x 149) s z (2 ^ 149))
     (ap (λ (z : ℕ). (0x80_0000 + t) * 2 ^ z) less ∙ sym (ap (λ (b : Bool). cond b t ((0x80_0000 + t) * 2 ^ (suc x - 1))) (ne-eqb (suc x) 0 (omega arith))))
     (odd-sign 24 s (0x80_0000 + t) x 149))
@@ -67,7 +69,8 @@ value-is b s c sign rest h =
     ∙ ap (λ (s : Bool). ofFields binary32 s (b % 0x8000_0000 / 0x80_0000) (b % 0x80_0000)) sign
     ∙ ap (λ (c : ℕ). ofFields binary32 s (c / 0x80_0000) (b % 0x80_0000)) rest
     ∙ ap (λ (t : ℕ). ofFields binary32 s (c / 0x80_0000) t) digits))
-    (subst (λ (z : ℕ). HasValue (ofFields binary32 s (c / 0x80_0000) (c % 0x80_0000)) s z (2 ^ 149)) (amount-is c) (fields s (c / 0x80_0000) (c % 0x80_0000) (omega arith)))
+    (subst (λ (z : ℕ). HasValue (ofFields binary32 s (c / 0x80_0000) (c % 0x80_0000)) s z (2 ^ 149)) (amount-is c)
+    (fields s (c / 0x80_0000) (c % 0x80_0000) (omega arith)))
   where
     digits : b % 0x80_0000 ≡ c % 0x80_0000
     digits = omega arith
@@ -102,12 +105,14 @@ scaled n d a m h e k =
     ∙ mul-right-comm a d (2 ^ 149)
     ∙ ap (λ (z : ℕ). z * d) (sym (mul-assoc a (2 ^ 126) 0x80_0000) ∙ ap (λ (z : ℕ). z * 0x80_0000) (sym k) ∙ sym (radicand-is m h))
 
-root-of-scaled : (v : Float) (b m h : ℕ) → 0 < b → Scales b m h → HasValue v false (magnitude b) (2 ^ 149) → sqrtOf binary32 v ≡ units binary32 false (rounded (radicand m h) (isqrt (radicand m h))) (h / 2)
+root-of-scaled : (v : Float) (b m h : ℕ) → 0 < b → Scales b m h → HasValue v false (magnitude b) (2 ^ 149)
+    → sqrtOf binary32 v ≡ units binary32 false (rounded (radicand m h) (isqrt (radicand m h))) (h / 2)
 unfolding sqrtOf
 root-of-scaled nan b m h B s k = absurd k
 root-of-scaled (inf t) b m h B s k = absurd k
 root-of-scaled (fin t n e) b m h B s k =
-    ap (λ (z : Bool). cond z (fin t n e) (cond t nan (root binary32 (n * up e) (down e)))) (ne-eqb n 0 (some n (magnitude b) (up e) (down e) (magnitude-pos b B) (down-pos e) (k .1)))
+    ap (λ (z : Bool). cond z (fin t n e) (cond t nan (root binary32 (n * up e) (down e))))
+    (ne-eqb n 0 (some n (magnitude b) (up e) (down e) (magnitude-pos b B) (down-pos e) (k .1)))
     ∙ ap (λ (z : Bool). cond z nan (root binary32 (n * up e) (down e))) (k .0)
     ∙ root-is binary32 (radicand m h) (h / 2) (radicand-ge m h (s .least) (s .most)) (radicand-lt m h (s .least) (s .most)) (n * up e) (down e) (down-pos e)
     (scaled (n * up e) (down e) (magnitude b) m h (k .1) (s .same))
@@ -152,7 +157,8 @@ negative-root (fin t n e) a A k =
     ap (λ (z : Bool). cond z (fin t n e) (cond t nan (root binary32 (n * up e) (down e)))) (ne-eqb n 0 (some n a (up e) (down e) A (down-pos e) (k .1)))
     ∙ ap (λ (z : Bool). cond z nan (root binary32 (n * up e) (down e))) (k .0)
 
-pub no-root : (b : ℕ) → b < 0x1_0000_0000 → 0x7f80_0000 ≤ b → (b ≡ 0x7f80_0000 → ⊥) → (b ≡ 0x8000_0000 → ⊥) → div binary32 (ofBits binary32 0) (ofBits binary32 0) ≡ sqrtOf binary32 (ofBits binary32 b)
+pub no-root : (b : ℕ) → b < 0x1_0000_0000 → 0x7f80_0000 ≤ b → (b ≡ 0x7f80_0000 → ⊥) → (b ≡ 0x8000_0000 → ⊥)
+    → div binary32 (ofBits binary32 0) (ofBits binary32 0) ≡ sqrtOf binary32 (ofBits binary32 b)
 no-root b w h x y = zero-by-zero ∙ sym (go (decLe 0x7f80_0000 (b % 0x8000_0000)))
   where
     go : Dec (0x7f80_0000 ≤ b % 0x8000_0000) → sqrtOf binary32 (ofBits binary32 b) ≡ nan

@@ -1,9 +1,11 @@
--- What `root` gives: q or q + 1, times 2 ^ k smallest values, the two numbers of the format next to √(n / d), and of them the one that the mean tells to be the nearer. By the digits of the whole root.
+-- What `root` gives: q or q + 1, times 2 ^ k smallest values, the two numbers of the format next to √(n / d), and of them the one that the mean tells
+-- to be the nearer. By the digits of the whole root.
 use mathlib.Core.Path.{_≡_, refl, sym, ap, _∙_}
 use mathlib.Core.Logic.{_⊎_, inl, inr}
 use mathlib.Core.Bool.{false}
 use Prim.Native.Nat.{ℕ, _+_, _-_, _*_, _/_, _%_, _^_, _≤_, _<_, compare}
-use native.Mathlib.Nat.{le-trans, le-of-eq, lt-of-lt-of-le, lt-of-not-le, not-le-of-lt, lt-suc-self, mul-comm, mul-le-mul, mul-le-mul-right, mul-pos, div-mul-le-self, eq-zero-or-pos, div-lt-iff-lt-mul, le-div-iff-mul-le}
+use native.Mathlib.Nat.{le-trans, le-of-eq, lt-of-lt-of-le, lt-of-not-le, not-le-of-lt, lt-suc-self, mul-comm}
+use native.Mathlib.Nat.{mul-le-mul, mul-le-mul-right, mul-pos, div-mul-le-self, eq-zero-or-pos, div-lt-iff-lt-mul, le-div-iff-mul-le}
 use native.Mathlib.Omega.{arith}
 use lib.Pow.{pow-pos, pow-mono}
 use lib.Ieee.{Float, Format, prec, low, hid, size, nearest, units}
@@ -46,7 +48,8 @@ module _ (n d p k w : ℕ) (i : Whole n d w) where
   few : (q : ℕ) → w < 2 ^ (p + k) → q * q * (d * 4 ^ k) ≤ n → q < 2 ^ p
   few q h low =
       lt-of-not-le (λ (g : 2 ^ p ≤ q).
-      not-le-of-lt (lt-of-lt-of-le (i .high) (mul-le-mul-right {m = (w + 1) * (w + 1)} d (mul-le-mul {n₁ = w + 1} {n₂ = 2 ^ (p + k)} (omega arith) (omega arith))))
+      not-le-of-lt
+      (lt-of-lt-of-le (i .high) (mul-le-mul-right {m = (w + 1) * (w + 1)} d (mul-le-mul {n₁ = w + 1} {n₂ = 2 ^ (p + k)} (omega arith) (omega arith))))
       (le-trans (le-of-eq (scaled-square p k d)) (le-trans (mul-le-mul-right (d * 4 ^ k) (mul-le-mul g g)) low)))
 
   all : 2 ^ (p - 1 + k) ≤ w → 2 ^ (p - 1) * 2 ^ (p - 1) * (d * 4 ^ k) ≤ n
@@ -74,7 +77,8 @@ chosen f a d D =
       digits = few n d p k w (whole n d D) q (lt-of-lt-of-le (size-lt w) (pow-mono (omega arith))) (i .low);
       leads = elim (eq-zero-or-pos k) [
         | inl z ↦ inl z
-        | inr g ↦ inr (below-root (hid f) (n / u) (le-div-iff-mul-le U .1 (all n d p k w (whole n d D) (size-reaches w (p - 1 + k) (omega (arith, prec-pos f))))))
+        | inr g ↦ inr (below-root (hid f) (n / u)
+            (le-div-iff-mul-le U .1 (all n d p k w (whole n d D) (size-reaches w (p - 1 + k) (omega (arith, prec-pos f))))))
       ];
     }
 

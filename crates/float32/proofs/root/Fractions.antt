@@ -1,8 +1,11 @@
--- `Neighbours`, said of fractions: r = a / b and y = ± c / g are R and Y smallest values, p of which make 1, and x = num / d is n squares of one. By cross-multiplying.
+-- `Neighbours`, said of fractions: r = a / b and y = ± c / g are R and Y smallest values, p of which make 1, and x = num / d is n squares of one. By
+-- cross-multiplying.
 use mathlib.Core.Path.{_≡_, sym, ap, _∙_, subst}
 use mathlib.Core.Logic.{_⊎_, inl}
 use Prim.Native.Nat.{ℕ, _+_, _-_, _*_, _≤_, _<_, zero-le}
-use native.Mathlib.Nat.{le-trans, le-of-eq, le-antisymm, lt-of-le-of-lt, lt-of-lt-of-le, sub-le, add-zero, mul-comm, mul-sub, mul-le-mul, mul-le-mul-right, mul-lt-mul-of-pos-left, mul-pos, le-of-mul-le-mul-right, lt-of-mul-lt-mul-left, eq-of-mul-eq-mul-right}
+use native.Mathlib.Nat.{le-trans, le-of-eq, le-antisymm, lt-of-le-of-lt, lt-of-lt-of-le, sub-le, add-zero, mul-comm, mul-sub, mul-pos}
+use native.Mathlib.Nat.{mul-le-mul, mul-le-mul-right, mul-lt-mul-of-pos-left}
+use native.Mathlib.Nat.{le-of-mul-le-mul-right, lt-of-mul-lt-mul-left, eq-of-mul-eq-mul-right}
 use native.Mathlib.Omega.{arith}
 use Rattle.float32.proofs.root.Neighbours.{Between, Outside, below, above, tie, other-side}
 
@@ -86,6 +89,7 @@ module _ (num d n p L H R : ℕ) (P : 0 < p) (x : n ≡ num * (p * p)) (i : Betw
         tied = λ other t. tie n d L H R Y i o other (equal num d n p (b * g) P W x (a * g + c * b) (R + Y) plus t);
         tied-negative = λ t.
             tie n d L H R 0 i (inl zero-le) (omega arith)
-            (subst (λ (z : ℕ). z * z * d ≡ 4 * n) (sym (add-zero R)) (le-antisymm square-le (le-trans (le-of-eq (sym (equal num d n p (b * g) P W x (a * g - c * b) (R - Y) minus t))) minus-le)));
+            (subst (λ (z : ℕ). z * z * d ≡ 4 * n) (sym (add-zero R))
+            (le-antisymm square-le (le-trans (le-of-eq (sym (equal num d n p (b * g) P W x (a * g - c * b) (R - Y) minus t))) minus-le)));
         neighbour = λ other t. other-side n d L H R Y i o other (equal num d n p (b * g) P W x (a * g + c * b) (R + Y) plus t);
       }

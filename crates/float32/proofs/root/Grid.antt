@@ -1,4 +1,5 @@
--- The numbers of a format, in smallest values: each is m * 2 ^ j with an m of the format's digits, and so none lies between q * 2 ^ k and (q + 1) * 2 ^ k, where q has all of those digits or k is 0.
+-- The numbers of a format, in smallest values: each is m * 2 ^ j with an m of the format's digits, and so none lies between q * 2 ^ k and (q + 1) * 2
+-- ^ k, where q has all of those digits or k is 0.
 use mathlib.Core.Path.{_≡_, sym, ap, _∙_, subst}
 use mathlib.Core.Logic.{inl, inr}
 use mathlib.Core.Bool.{Bool, _&&_}
@@ -39,8 +40,11 @@ fitting f s (suc m) e M h =
 place-of : (l m : ℕ) (e : ℤ) → down e ≤ 2 ^ l → (j : ℕ) × (m * up e * 2 ^ l ≡ m * 2 ^ j * down e)
 place-of l m (pos a) h = (a + l, rw (pow-add 2 a l) (omega arith))
 place-of l m (negsuc a) h =
-    let le : suc a ≤ l = le-of-suc-le-suc (lt-of-not-le (λ (g : suc l ≤ suc a). lt-irrefl (2 ^ l) (lt-of-lt-of-le (pow-lt g) h))) in
-    (l - suc a, subst (λ (z : ℕ). m * 1 * z ≡ m * 2 ^ (l - suc a) * 2 ^ suc a) (sym (pow-add 2 (l - suc a) (suc a)) ∙ ap (λ (z : ℕ). 2 ^ z) (back l (suc a) le)) (omega arith))
+    let le : suc a ≤ l = le-of-suc-le-suc (lt-of-not-le (λ (g : suc l ≤ suc a). lt-irrefl (2 ^ l) (lt-of-lt-of-le (pow-lt g) h))) in (
+      l - suc a,
+      subst (λ (z : ℕ). m * 1 * z ≡ m * 2 ^ (l - suc a) * 2 ^ suc a)
+          (sym (pow-add 2 (l - suc a) (suc a)) ∙ ap (λ (z : ℕ). 2 ^ z) (back l (suc a) le)) (omega arith),
+    )
 
 pub record OnGrid (f : Format) (m : ℕ) (e : ℤ) : Type 0 where
   pub j : ℕ

@@ -26,7 +26,12 @@ pub step-above : (n r : ℕ) → 0 < r → isqrt n ≤ step n r
 step-above n r h = either (decLe r (2 * isqrt n))
   where
     either : Dec (r ≤ 2 * isqrt n) → isqrt n ≤ step n r
-    either (yes k) = omega (arith, le-div-iff-mul-le {x = 2 * isqrt n - r} {y = n} h .1 (le-trans (product-le-square (2 * isqrt n - r) r (isqrt n) (omega arith)) (isqrt-is n .low)))
+    either (yes k) =
+        omega (
+          arith,
+          le-div-iff-mul-le {x = 2 * isqrt n - r} {y = n} h .1
+              (le-trans (product-le-square (2 * isqrt n - r) r (isqrt n) (omega arith)) (isqrt-is n .low)),
+        )
     either (no f) = omega arith
 
 pub square-pos : (n r : ℕ) → n < r * r → 0 < r

@@ -1,8 +1,10 @@
--- What `root` keeps of √(num / den): for M * 4 ^ g squares of the smallest value, with a root of M that has the format's digits, the whole part of √M, rounded, times 2 ^ g smallest values.
+-- What `root` keeps of √(num / den): for M * 4 ^ g squares of the smallest value, with a root of M that has the format's digits, the whole part of √M,
+-- rounded, times 2 ^ g smallest values.
 use mathlib.Core.Path.{_≡_, refl, sym, ap, _∙_, subst}
 use mathlib.Core.Bool.{Bool, true, false, cond, not}
 use Prim.Native.Nat.{ℕ, zero, suc, _+_, _-_, _*_, _/_, _^_, _≤_, _<_, compare, Ordering, Ordering·lt, Ordering·eq, Ordering·gt}
-use native.Mathlib.Nat.{le-trans, le-of-eq, lt-of-lt-of-le, lt-of-le-of-lt, lt-of-not-le, not-le-of-lt, le-antisymm, mul-le-mul, mul-assoc, mul-comm, mul-right-comm, mul-le-mul-right, mul-lt-mul-of-pos-right, mul-pos, mul-div-cancel, pow-succ'}
+use native.Mathlib.Nat.{le-trans, le-of-eq, lt-of-lt-of-le, lt-of-le-of-lt, lt-of-not-le, not-le-of-lt, le-antisymm, mul-le-mul}
+use native.Mathlib.Nat.{mul-assoc, mul-comm, mul-right-comm, mul-le-mul-right, mul-lt-mul-of-pos-right, mul-pos, mul-div-cancel, pow-succ'}
 use native.Mathlib.Omega.{arith}
 use native.Mathlib.Numerals.{add-one}
 use lib.Dec.{T, ltb, isLe, isEq, leb→le, nleb→lt, eqb→eq}
@@ -53,9 +55,14 @@ pick M q u U = go (ltb q (M - q * q)) (ltb-true q (M - q * q)) (ltb-false q (M -
     under : M - q * q ≤ q → M * 4 < (2 * q + 1) * (2 * q + 1)
     under h = omega arith
 
-    go : (b : Bool) → (b ≡ true → q < M - q * q) → (b ≡ false → M - q * q ≤ q) → nearest q (compare (M * u * 4) ((2 * q + 1) * (2 * q + 1) * u)) ≡ cond b (q + 1) q
-    go true h k = ap (nearest q) (compare-gt (M * u * 4) ((2 * q + 1) * (2 * q + 1) * u) (lt-of-lt-of-le (mul-lt-mul-of-pos-right (over (h refl)) U) (le-of-eq (mul-right-comm M 4 u)))) ∙ sym (add-one q)
-    go false h k = ap (nearest q) (compare-lt (M * u * 4) ((2 * q + 1) * (2 * q + 1) * u) (lt-of-le-of-lt (le-of-eq (mul-right-comm M u 4)) (mul-lt-mul-of-pos-right (under (k refl)) U)))
+    go : (b : Bool) → (b ≡ true → q < M - q * q) → (b ≡ false → M - q * q ≤ q)
+        → nearest q (compare (M * u * 4) ((2 * q + 1) * (2 * q + 1) * u)) ≡ cond b (q + 1) q
+    go true h k =
+        ap (nearest q) (compare-gt (M * u * 4) ((2 * q + 1) * (2 * q + 1) * u)
+        (lt-of-lt-of-le (mul-lt-mul-of-pos-right (over (h refl)) U) (le-of-eq (mul-right-comm M 4 u)))) ∙ sym (add-one q)
+    go false h k =
+        ap (nearest q)
+        (compare-lt (M * u * 4) ((2 * q + 1) * (2 * q + 1) * u) (lt-of-le-of-lt (le-of-eq (mul-right-comm M u 4)) (mul-lt-mul-of-pos-right (under (k refl)) U)))
 
 -- ---- the digits of the root of M * 4 ^ g, and what is kept of it
 module _ (f : Format) (M g : ℕ) (least : hid f * hid f ≤ M) (most : M < 2 ^ prec f * 2 ^ prec f) where
@@ -65,7 +72,8 @@ module _ (f : Format) (M g : ℕ) (least : hid f * hid f ≤ M) (most : M < 2 ^ 
       let p = prec f in
       let some : 2 ^ (p - 1 + g) ≤ isqrt n = below-root (2 ^ (p - 1 + g)) n (le-trans (le-of-eq (square-pow (p - 1) g)) (mul-le-mul-right (4 ^ g) least)) in
       let few : isqrt n < 2 ^ (p + g) =
-      lt-of-not-le (λ (h : 2 ^ (p + g) ≤ isqrt n). not-le-of-lt (mul-lt-mul-of-pos-right most (four-pos g)) (le-trans (le-of-eq (sym (square-pow p g))) (le-trans (mul-le-mul h h) (isqrt-is n .low)))) in
+      lt-of-not-le (λ (h : 2 ^ (p + g) ≤ isqrt n). not-le-of-lt (mul-lt-mul-of-pos-right most (four-pos g))
+      (le-trans (le-of-eq (sym (square-pow p g))) (le-trans (mul-le-mul h h) (isqrt-is n .low)))) in
       le-antisymm (size-le (isqrt n) (p + g) few) (next p (prec-pos f) (size-gt (isqrt n) (p - 1 + g) some))
     where
       next : (p : ℕ) → 0 < p → p - 1 + g < size (isqrt (M * 4 ^ g)) → p + g ≤ size (isqrt (M * 4 ^ g))
@@ -77,10 +85,13 @@ module _ (f : Format) (M g : ℕ) (least : hid f * hid f ≤ M) (most : M < 2 ^ 
       let n = num * 4 ^ low f in
       let u = den * 4 ^ g in
       let U : 0 < u = mul-pos D (four-pos g) in
-      let k : size (isqrt (n / den)) - prec f ≡ g = ap (λ (z : ℕ). size (isqrt (z / den)) - prec f) e ∙ ap (λ (z : ℕ). size (isqrt z) - prec f) (mul-div-cancel (M * 4 ^ g) D) ∙ ap (λ (z : ℕ). z - prec f) root-size ∙ off (prec f) in
+      let k : size (isqrt (n / den)) - prec f ≡ g =
+      ap (λ (z : ℕ). size (isqrt (z / den)) - prec f) e ∙ ap (λ (z : ℕ). size (isqrt z) - prec f) (mul-div-cancel (M * 4 ^ g) D)
+      ∙ ap (λ (z : ℕ). z - prec f) root-size ∙ off (prec f) in
       let n-is : n ≡ M * u = e ∙ mul-assoc M (4 ^ g) den ∙ ap (λ (z : ℕ). M * z) (mul-comm (4 ^ g) den) in
       let q : isqrt (n / u) ≡ isqrt M = ap (λ (z : ℕ). isqrt (z / u)) n-is ∙ ap isqrt (mul-div-cancel M U) in
-      ap (λ (k : ℕ). units f false (nearest (isqrt (n / (den * 4 ^ k))) (compare (n * 4) ((2 * isqrt (n / (den * 4 ^ k)) + 1) * (2 * isqrt (n / (den * 4 ^ k)) + 1) * (den * 4 ^ k)))) k) k
+      ap (λ (k : ℕ). units f false (nearest (isqrt (n / (den * 4 ^ k)))
+      (compare (n * 4) ((2 * isqrt (n / (den * 4 ^ k)) + 1) * (2 * isqrt (n / (den * 4 ^ k)) + 1) * (den * 4 ^ k)))) k) k
       ∙ ap (λ (q : ℕ). units f false (nearest q (compare (n * 4) ((2 * q + 1) * (2 * q + 1) * u))) g) q
       ∙ ap (λ (n : ℕ). units f false (nearest (isqrt M) (compare (n * 4) ((2 * isqrt M + 1) * (2 * isqrt M + 1) * u))) g) n-is
       ∙ ap (λ (z : ℕ). units f false z g) (pick M (isqrt M) u U)

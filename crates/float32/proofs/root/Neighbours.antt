@@ -1,10 +1,12 @@
--- Two neighbours L < H with L² ≤ n / d < H², and the one of them, R, that their mean tells to be the nearer to √(n / d): no other number outside the two is nearer than R, and one that is as near makes the mean the root.
+-- Two neighbours L < H with L² ≤ n / d < H², and the one of them, R, that their mean tells to be the nearer to √(n / d): no other number outside the
+-- two is nearer than R, and one that is as near makes the mean the root.
 -- By monotone squares, on plain numbers.
 use mathlib.Core.Path.{_≡_, refl, sym, _∙_, subst}
 use mathlib.Core.Logic.{_⊎_, inl, inr}
 use mathlib.Core.Bool.{not}
 use Prim.Native.Nat.{ℕ, zero, suc, _+_, _*_, _%_, _≤_, _<_, compare, Ordering, Ordering·lt, Ordering·eq, Ordering·gt}
-use native.Mathlib.Nat.{le-trans, le-of-eq, le-of-lt, lt-of-le-of-lt, lt-of-lt-of-le, lt-irrefl, lt-of-not-le, not-le-of-lt, le-of-suc-le-suc, le-antisymm, mul-le-mul, mul-le-mul-left, mul-le-mul-right, mul-lt-mul-of-pos-left, mul-lt-mul-of-pos-right}
+use native.Mathlib.Nat.{le-trans, le-of-eq, le-of-lt, lt-of-le-of-lt, lt-of-lt-of-le, lt-irrefl, lt-of-not-le, not-le-of-lt}
+use native.Mathlib.Nat.{le-of-suc-le-suc, le-antisymm, mul-le-mul, mul-le-mul-left, mul-le-mul-right, mul-lt-mul-of-pos-left, mul-lt-mul-of-pos-right}
 use native.Mathlib.Omega.{arith}
 use lib.Dec.{T, isLe, isEq, leb→le, nleb→lt, eqb→eq, eqb, eqb-refl}
 use lib.Ieee.{nearest}
@@ -72,12 +74,14 @@ module _ (n d L H R Y : ℕ) (b : Between n d L H R) (o : Outside L H Y) where
       go : ((R ≡ L) × (4 * n ≤ (L + H) * (L + H) * d)) ⊎ ((R ≡ H) × ((L + H) * (L + H) * d ≤ 4 * n)) → Outside L H Y → (L + H) * (L + H) * d ≡ 4 * n
       go (inl p) (inl y) =
           absurd (lt-irrefl (4 * n)
-          (lt-of-lt-of-le (lt-of-le-of-lt (le-of-eq (sym e)) (square-lt (R + Y) (L + L) d (b .some) (omega arith))) (le-trans (le-of-eq (twice-square L d)) (mul-le-mul-left 4 (b .low)))))
+          (lt-of-lt-of-le (lt-of-le-of-lt (le-of-eq (sym e)) (square-lt (R + Y) (L + L) d (b .some) (omega arith)))
+          (le-trans (le-of-eq (twice-square L d)) (mul-le-mul-left 4 (b .low)))))
       go (inl p) (inr y) = le-antisymm (le-trans (square-le (L + H) (R + Y) d (omega arith)) (le-of-eq e)) (p .1)
       go (inr p) (inl y) = le-antisymm (p .1) (le-trans (le-of-eq (sym e)) (square-le (R + Y) (L + H) d (omega arith)))
       go (inr p) (inr y) =
           absurd (lt-irrefl (4 * n)
-          (lt-of-lt-of-le (mul-lt-mul-of-pos-left {k = 4} (b .high) (omega arith)) (le-trans (le-of-eq (sym (twice-square H d))) (le-trans (square-le (H + H) (R + Y) d (omega arith)) (le-of-eq e)))))
+          (lt-of-lt-of-le (mul-lt-mul-of-pos-left {k = 4} (b .high) (omega arith))
+          (le-trans (le-of-eq (sym (twice-square H d))) (le-trans (square-le (H + H) (R + Y) d (omega arith)) (le-of-eq e)))))
 
   -- The number that is as near is the other neighbour.
   pub other-side : (Y ≡ R → ⊥) → (R + Y) * (R + Y) * d ≡ 4 * n → ((R ≡ L) × (Y ≡ H)) ⊎ ((R ≡ H) × (Y ≡ L))

@@ -1,4 +1,5 @@
--- The radicand of `root_bits` has 47 or 48 digits, so its whole root has 24, and the rounded root has no more: the largest radicand is a * (a + 1) for the largest such number a.
+-- The radicand of `root_bits` has 47 or 48 digits, so its whole root has 24, and the rounded root has no more: the largest radicand is a * (a + 1) for
+-- the largest such number a.
 use mathlib.Core.Path.{_≡_, refl}
 use mathlib.Core.Bool.{Bool, true, false, cond}
 use Prim.Native.Nat.{ℕ, _+_, _-_, _*_, _%_, _^_, _≤_, _<_}

@@ -1,4 +1,5 @@
--- What `parts` makes of a pattern scales its number: a normal pattern by its exponent's field, a subnormal one by the places that its leading zeros leave below 24 digits.
+-- What `parts` makes of a pattern scales its number: a normal pattern by its exponent's field, a subnormal one by the places that its leading zeros
+-- leave below 24 digits.
 use mathlib.Core.Path.{_≡_, sym, ap, _∙_, subst}
 use mathlib.Core.Bool.{Bool, cond}
 use Prim.Native.Nat.{ℕ, suc, _+_, _-_, _*_, _/_, _%_, _^_, _≤_, _<_}
@@ -31,7 +32,9 @@ moved b p h = let l = leading-top 32 b p (omega arith) in go (l .0) (l .1) (l .2
           enough = omega arith;
           few = omega arith;
           least = subst (λ (z : ℕ). 2 ^ z ≤ b * 2 ^ places b) sum (le-trans (le-of-eq (pow-add 2 j (places b))) (mul-le-mul-right (2 ^ places b) low));
-          most = subst (λ (z : ℕ). b * 2 ^ places b < 2 ^ z) sum-suc (lt-of-lt-of-le (mul-lt-mul-of-pos-right high (pow-pos (places b))) (le-of-eq (sym (pow-add 2 (suc j) (places b)))));
+          most =
+              subst (λ (z : ℕ). b * 2 ^ places b < 2 ^ z) sum-suc
+              (lt-of-lt-of-le (mul-lt-mul-of-pos-right high (pow-pos (places b))) (le-of-eq (sym (pow-add 2 (suc j) (places b)))));
         }
 
 pub subnormal : (b : ℕ) → 0 < b → b < 0x80_0000 → Scales b (b * 2 ^ places b) (126 - places b)

@@ -1,4 +1,5 @@
--- `sqrtOf` is the square root of IEEE 754, in either format: what it gives is no farther from √x than its neighbour (`Chosen`, `Neighbours`), and no number of the format lies between the two (`Grid`).
+-- `sqrtOf` is the square root of IEEE 754, in either format: what it gives is no farther from √x than its neighbour (`Chosen`, `Neighbours`), and no
+-- number of the format lies between the two (`Grid`).
 use mathlib.Core.Path.{_≡_, refl, sym, ap, _∙_, subst}
 use mathlib.Core.Bool.{Bool, true, false, cond, true≢false}
 use Prim.Native.Nat.{ℕ, suc, _+_, _*_, _%_, _^_, _≤_, _<_}
@@ -79,7 +80,8 @@ module _ (f : Format) (m : ℕ) (e : ℤ) (v : Float) (c : Chosen f (m * up e * 
   root-le : R * R * down e ≤ 4 * n
   root-le = square-le (m * up e) (down e) n (2 ^ low f) L H R (pow-pos (low f)) in-squares next R-pos
 
-  pub beside-of : (a : ℕ) (b : ℤ) (a' : ℕ) (b' : ℤ) → a * up b * 2 ^ low f ≡ R * down b → (y : OnGrid f a' b') → Beside (m * up e) (down e) n L H R (a * up b) (down b) (a' * up b') (down b') (a' * 2 ^ y .j)
+  pub beside-of : (a : ℕ) (b : ℤ) (a' : ℕ) (b' : ℤ) → a * up b * 2 ^ low f ≡ R * down b → (y : OnGrid f a' b')
+      → Beside (m * up e) (down e) n L H R (a * up b) (down b) (a' * up b') (down b') (a' * 2 ^ y .j)
   beside-of a b a' b' r y =
       beside (m * up e) (down e) n (2 ^ low f) L H R (pow-pos (low f)) in-squares next R-pos (a * up b) (down b) (a' * up b') (down b') (a' * 2 ^ y .j)
       (mul-pos (down-pos b) (down-pos b')) r (y .same) (gap f a' (y .j) (c .q) (c .k) (y .digits) (c .leads))
@@ -95,13 +97,15 @@ module _ (f : Format) (m : ℕ) (e : ℤ) (v : Float) (c : Chosen f (m * up e * 
       let s = beside-of a b a' b' (h .1) (on-grid f false a' b' i) in
       (λ t. s .near-below (lt-less a' b' a b t), λ t. s .near-above (lt-less a b a' b' t))
 
-  pub tied : (r y : Float) → T (fits f r) → HasValue r false R (2 ^ low f) → T (fits f y) → T (finite y) → (y ≡ r → ⊥) → AsNear (fin false m e) r y → c .Q % 2 ≡ 0
+  pub tied : (r y : Float) → T (fits f r) → HasValue r false R (2 ^ low f) → T (fits f y) → T (finite y) → (y ≡ r → ⊥)
+      → AsNear (fin false m e) r y → c .Q % 2 ≡ 0
   tied nan y j h i g other t = absurd h
   tied (inf s) y j h i g other t = absurd h
   tied (fin true a b) y j h i g other t = absurd (true≢false (h .0))
   tied (fin false a b) nan j h i g other t = absurd g
   tied (fin false a b) (inf s) j h i g other t = absurd g
-  tied (fin false a b) (fin true a' b') j h i g other t = even f n (down e) v (down-pos e) c (beside-of a b a' b' (h .1) (on-grid f true a' b' i) .tied-negative t)
+  tied (fin false a b) (fin true a' b') j h i g other t =
+      even f n (down e) v (down-pos e) c (beside-of a b a' b' (h .1) (on-grid f true a' b' i) .tied-negative t)
   tied (fin false a b) (fin false a' b') j h i g other t =
       let y = on-grid f false a' b' i in
       let differ : a' * 2 ^ y .j ≡ R → ⊥ =

@@ -20,7 +20,8 @@ use Rattle.float32.proofs.root.Grid.{OnGrid, on-grid}
 use Rattle.float32.proofs.root.Standard.{Found, found, rounded, tied, beside-of, less-lt, positive-root, square-root}
 
 -- ---- of two values above zero neither is nearer to √x than the other
-module _ (x : Float) (a : ℕ) (b : ℤ) (a' : ℕ) (b' : ℤ) (i : NoNearer x (fin false a b) (fin false a' b')) (j : NoNearer x (fin false a' b') (fin false a b)) where
+module _ (x : Float) (a : ℕ) (b : ℤ) (a' : ℕ) (b' : ℤ) (i : NoNearer x (fin false a b) (fin false a' b'))
+    (j : NoNearer x (fin false a' b') (fin false a b)) where
   sums : sumSquared x (fin false a b) (fin false a' b') ≡ sumSquared x (fin false a' b') (fin false a b)
   sums = ap (λ (z : ℕ). z * z * den x) (add-comm (a * up b * down b') (a' * up b' * down b))
 
@@ -63,7 +64,8 @@ odd-neighbour f q k Q r Y hi l e o h (inr p) =
     omega (arith, odd-sum f k q (sym (ap (λ (b : ℕ). b % 2) (written f r q k hi l h')) ∙ o))
 
 -- ---- so a second rounded root is the first
-module _ (f : Format) (m : ℕ) (e : ℤ) (a : ℕ) (b : ℤ) (a' : ℕ) (b' : ℤ) (i : Found f m e (fin false a b)) (j : Rounded f (fin false m e) (fin false a' b')) where
+module _ (f : Format) (m : ℕ) (e : ℤ) (a : ℕ) (b : ℤ) (a' : ℕ) (b' : ℤ) (i : Found f m e (fin false a b))
+    (j : Rounded f (fin false m e) (fin false a' b')) where
   abbrev x : Float
   x = fin false m e
 
@@ -89,7 +91,8 @@ module _ (f : Format) (m : ℕ) (e : ℤ) (a : ℕ) (b : ℤ) (a' : ℕ) (b' : �
   clash differ t =
       let c = i .choice in
       let other : r ≡ v → ⊥ =
-      λ z. differ (eq-of-mul-eq-mul-right (down b') (down-pos b') (a' * 2 ^ y .j) R (sym (y .same) ∙ subst (λ (u : Float). HasValue u false R (2 ^ low f)) (sym z) (i .value) .1)) in
+      λ z. differ (eq-of-mul-eq-mul-right (down b') (down-pos b') (a' * 2 ^ y .j) R
+      (sym (y .same) ∙ subst (λ (u : Float). HasValue u false R (2 ^ low f)) (sym z) (i .value) .1)) in
       odd-neighbour f (c .q) (c .k) (c .Q) r (a' * 2 ^ y .j) (c .digits) (c .leads)
       (tied f m e v c (i .some) v r (i .held) (i .value) (j .held) tt other t)
       (j .even v (i .held) tt (λ z. other (sym z)) (turned x a b a' b' no-nearer none-nearer t))
@@ -100,9 +103,14 @@ module _ (f : Format) (m : ℕ) (e : ℤ) (a : ℕ) (b : ℤ) (a' : ℕ) (b' : �
   one-root = either (decLe (a' * 2 ^ y .j) R) (decLe R (a' * 2 ^ y .j))
     where
       either : Dec (a' * 2 ^ y .j ≤ R) → Dec (R ≤ a' * 2 ^ y .j) → r ≡ v
-      either (yes p) (yes q) = same-value f false r v R (j .held) (i .held) (refl, subst (λ (z : ℕ). a' * up b' * 2 ^ low f ≡ z * down b') (le-antisymm p q) (y .same)) (i .value)
-      either (yes p) (no q) = absurd (clash (omega arith) (as-near-below x a b a' b' no-nearer none-nearer (less-lt a' b' a b (beside-of f m e v (i .choice) (i .some) a b a' b' (i .value .1) y .more-back (omega arith)))))
-      either (no p) q = absurd (clash (omega arith) (as-near-above x a b a' b' no-nearer none-nearer (less-lt a b a' b' (beside-of f m e v (i .choice) (i .some) a b a' b' (i .value .1) y .less-back (omega arith)))))
+      either (yes p) (yes q) =
+          same-value f false r v R (j .held) (i .held) (refl, subst (λ (z : ℕ). a' * up b' * 2 ^ low f ≡ z * down b') (le-antisymm p q) (y .same)) (i .value)
+      either (yes p) (no q) =
+          absurd (clash (omega arith) (as-near-below x a b a' b' no-nearer none-nearer
+          (less-lt a' b' a b (beside-of f m e v (i .choice) (i .some) a b a' b' (i .value .1) y .more-back (omega arith)))))
+      either (no p) q =
+          absurd (clash (omega arith) (as-near-above x a b a' b' no-nearer none-nearer
+          (less-lt a b a' b' (beside-of f m e v (i .choice) (i .some) a b a' b' (i .value .1) y .less-back (omega arith)))))
 
 pub unique : (f : Format) (m : ℕ) (e : ℤ) (v r : Float) → Found f m e v → Rounded f (fin false m e) r → r ≡ v
 unique f m e nan r i j = absurd (i .value)
@@ -125,8 +133,10 @@ pub only : (f : Format) (g : Float → Float) → SquareRoot f g → (x : Float)
 only f g i nan h = i .of-nan ∙ sym (square-root f .of-nan)
 only f g i (inf true) h = i .of-minus-infinity ∙ sym (square-root f .of-minus-infinity)
 only f g i (inf false) h = i .of-infinity ∙ sym (square-root f .of-infinity)
-only f g i (fin s zero e) h = subst (λ (e : ℤ). g (fin s 0 e) ≡ sqrtOf f (fin s 0 e)) (sym (zero-exponent f s e h)) (i .of-zero s ∙ sym (square-root f .of-zero s))
+only f g i (fin s zero e) h =
+    subst (λ (e : ℤ). g (fin s 0 e) ≡ sqrtOf f (fin s 0 e)) (sym (zero-exponent f s e h)) (i .of-zero s ∙ sym (square-root f .of-zero s))
 only f g i (fin true (suc m) e) h = i .of-negative (suc m) e (zero-lt-suc m) ∙ sym (square-root f .of-negative (suc m) e (zero-lt-suc m))
 only f g i (fin false (suc m) e) h =
-    unique f (suc m) e (root f (suc m * up e) (down e)) (g (fin false (suc m) e)) (found f (suc m) e (zero-lt-suc m) h) (i .of-positive (suc m) e (zero-lt-suc m) h)
+    unique f (suc m) e (root f (suc m * up e) (down e)) (g (fin false (suc m) e)) (found f (suc m) e (zero-lt-suc m) h)
+    (i .of-positive (suc m) e (zero-lt-suc m) h)
     ∙ sym (positive-root f (suc m) e (zero-lt-suc m))

@@ -1,4 +1,5 @@
--- `isqrt n` is the whole part of √n, the one r with r² ≤ n < (r + 1)²: by induction on the number of digits of base 4, of which the root has one binary digit each.
+-- `isqrt n` is the whole part of √n, the one r with r² ≤ n < (r + 1)²: by induction on the number of digits of base 4, of which the root has one
+-- binary digit each.
 use mathlib.Core.Path.{_≡_, refl}
 use mathlib.Core.Bool.{Bool, true, false, cond}
 use Prim.Native.Nat.{ℕ, zero, suc, _+_, _*_, _/_, _^_, _≤_, _<_}
@@ -15,7 +16,8 @@ pub record WholeRoot (n r : ℕ) : Type 0 where
   pub high : n < (r + 1) * (r + 1)
 
 -- one more digit: 2 s or 2 s + 1, for the root s of n / 4
-next : (n s : ℕ) (b : Bool) → (b ≡ true → (2 * s + 1) * (2 * s + 1) ≤ n) → (b ≡ false → n < (2 * s + 1) * (2 * s + 1)) → WholeRoot (n / 4) s → WholeRoot n (cond b (2 * s + 1) (2 * s))
+next : (n s : ℕ) (b : Bool) → (b ≡ true → (2 * s + 1) * (2 * s + 1) ≤ n) → (b ≡ false → n < (2 * s + 1) * (2 * s + 1)) → WholeRoot (n / 4) s
+    → WholeRoot n (cond b (2 * s + 1) (2 * s))
 next n s true h k i = record { low = h refl; high = omega (arith, i .high) }
 next n s false h k i = record { low = omega (arith, i .low); high = k refl }
 

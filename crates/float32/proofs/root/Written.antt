@@ -1,9 +1,11 @@
--- A number of q * 2 ^ k smallest values, with a q of the format's digits, is a value of the format, and its pattern is k * hid + q: by the digits that q * 2 ^ k has.
+-- A number of q * 2 ^ k smallest values, with a q of the format's digits, is a value of the format, and its pattern is k * hid + q: by the digits that
+-- q * 2 ^ k has.
 use mathlib.Core.Path.{_≡_, refl, sym, ap, _∙_, subst}
 use mathlib.Core.Logic.{_⊎_, inl, inr}
 use mathlib.Core.Bool.{Bool, false, cond}
 use Prim.Native.Nat.{ℕ, suc, _+_, _-_, _*_, _/_, _%_, _^_, _≤_, _<_}
-use native.Mathlib.Nat.{le-trans, le-of-eq, le-of-lt, lt-of-lt-of-le, lt-of-le-of-lt, lt-of-not-le, not-le-of-lt, mul-le-mul-right, mul-div-cancel, le-refl, eq-or-lt-of-le}
+use native.Mathlib.Nat.{le-trans, le-of-eq, le-of-lt, lt-of-lt-of-le, lt-of-le-of-lt, lt-of-not-le}
+use native.Mathlib.Nat.{not-le-of-lt, mul-le-mul-right, mul-div-cancel, le-refl, eq-or-lt-of-le}
 use native.Mathlib.Omega.{arith}
 use lib.Dec.{T, lit≤, lit<}
 use lib.Pow.{pow-add, pow-pos, pow-mono, pow-lt, shl-lt}
@@ -40,7 +42,8 @@ dropped f q k hi l = go l (size-le (q * 2 ^ k) (prec f + k) (shl-lt (prec f) k h
         s
 
 -- ---- the pattern is told by the number, a smallest values, and its sign
-pattern-of : (f : Format) (s : Bool) (v : Float) (a : ℕ) → HasValue v s a (2 ^ low f) → toBits f v ≡ cond s (top f) 0 + (size a - prec f) * hid f + a / 2 ^ (size a - prec f)
+pattern-of : (f : Format) (s : Bool) (v : Float) (a : ℕ) → HasValue v s a (2 ^ low f)
+    → toBits f v ≡ cond s (top f) 0 + (size a - prec f) * hid f + a / 2 ^ (size a - prec f)
 unfolding toBits
 pattern-of f s nan a h = absurd h
 pattern-of f s (inf t) a h = absurd h
@@ -50,7 +53,8 @@ pattern-of f s (fin t m e) a h =
 
 -- So a value is told by its number and sign.
 pub same-value : (f : Format) (s : Bool) (v w : Float) (a : ℕ) → T (fits f v) → T (fits f w) → HasValue v s a (2 ^ low f) → HasValue w s a (2 ^ low f) → v ≡ w
-same-value f s v w a v-fits w-fits h k = sym (ofBits-toBits f v v-fits) ∙ ap (ofBits f) (pattern-of f s v a h ∙ sym (pattern-of f s w a k)) ∙ ofBits-toBits f w w-fits
+same-value f s v w a v-fits w-fits h k =
+    sym (ofBits-toBits f v v-fits) ∙ ap (ofBits f) (pattern-of f s v a h ∙ sym (pattern-of f s w a k)) ∙ ofBits-toBits f w w-fits
 
 pub written : (f : Format) (v : Float) (q k : ℕ) → q < 2 ^ prec f → Leads f q k → HasValue v false (q * 2 ^ k) (2 ^ low f) → toBits f v ≡ k * hid f + q
 written f v q k hi l h =
@@ -68,7 +72,8 @@ units-fits f q k hi fine =
     subst (λ (b : Bool). T (fits f (cond b (odd (suc (prec f)) false q k (low f)) (inf false)))) (sym (lt-ltb (q * 2 ^ k) (2 ^ (low f + suc (emax f))) fine))
     (odd-fits f (suc (prec f)) false q k (lt-of-le-of-lt hi (pow-lt (le-refl (suc (prec f))))) hi fine)
 
-pub units-pattern : (f : Format) (q k : ℕ) → q < 2 ^ prec f → Leads f q k → q * 2 ^ k < 2 ^ (low f + suc (emax f)) → ofBits f (k * hid f + q) ≡ units f false q k
+pub units-pattern : (f : Format) (q k : ℕ) → q < 2 ^ prec f → Leads f q k → q * 2 ^ k < 2 ^ (low f + suc (emax f))
+    → ofBits f (k * hid f + q) ≡ units f false q k
 units-pattern f q k hi l fine =
     let v = units f false q k in
     ap (ofBits f) (sym (written f v q k hi l (units-val f false q k fine))) ∙ ofBits-toBits f v (units-fits f q k (le-of-lt hi) fine)
@@ -94,7 +99,8 @@ hid-even binary64 = refl
 pub even-pattern : (f : Format) (v : Float) (q k : ℕ) → q ≤ 2 ^ prec f → Leads f q k → HasValue v false (q * 2 ^ k) (2 ^ low f) → q % 2 ≡ 0 → toBits f v % 2 ≡ 0
 even-pattern f v q k hi l h e = elim (eq-or-lt-of-le hi) [
   | inl z ↦
-      ap (λ (b : ℕ). b % 2) (written f v (hid f) (suc k) (hid-lt f) (inr (le-refl (hid f))) (subst (λ (a : ℕ). HasValue v false a (2 ^ low f)) (ap (λ (q : ℕ). q * 2 ^ k) z ∙ carried f k) h))
+      ap (λ (b : ℕ). b % 2) (written f v (hid f) (suc k) (hid-lt f) (inr (le-refl (hid f)))
+      (subst (λ (a : ℕ). HasValue v false a (2 ^ low f)) (ap (λ (q : ℕ). q * 2 ^ k) z ∙ carried f k) h))
       ∙ even-sum f (suc k) (hid f) (hid-even f)
   | inr g ↦ ap (λ (b : ℕ). b % 2) (written f v q k g l h) ∙ even-sum f k q e
 ]

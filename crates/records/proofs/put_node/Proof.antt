@@ -5,7 +5,7 @@ use Prim.Native.Nat.{_+_}
 use lib.IntN.{ℤ}
 use lib.ListN.{take, drop}
 use Rattle.records.specs.Records.{boxedBytes, nodeBytes}
-use Rattle.records.proofs.Fields.{same-short}
+use Rattle.base.proofs.ShortLaws.{same-short}
 use borrow.Author.Needs.{needs}
 use Rattle.records.proofs.put_node.Statement.{statement}
 use Rattle.records.proofs.put_node.Tie as tie

@@ -4,8 +4,9 @@ use Prim.Native.Nat.{_+_}
 use Rattle.records.specs.Shorts.{shortBytes}
 use Rattle.records.specs.Records.{vertexBytes}
 use Rattle.records.proofs.Fields.{same-stored}
-use Rattle.records.proofs.Sizes.{joined, short-bytes}
-use Rattle.records.proofs.Stores.{store-next}
+use Rattle.base.proofs.LittleEndian.{joined}
+use Rattle.records.proofs.Sizes.{short-bytes}
+use Rattle.base.proofs.StoreLaws.{store-next}
 use borrow.Author.Needs.{needs}
 use Rattle.records.proofs.put_vertex.Statement.{statement}
 use Rattle.records.proofs.put_vertex.Tie as tie
@@ -40,7 +41,8 @@ returns c =
     let y = same-stored _ (a .at + 2) (v .1) (second .before .struct-told2 .given .1 .0 .1) (second .put-short2 .ensures) in
     let z = same-stored _ (a .at + 4) (v .2) (third .before .struct-told3 .given .1 .1 .0 .1) (third .put-short3 .ensures) in
     let xy = store-next (a .out .now) (shortBytes (v .0)) (shortBytes (v .1)) (a .at) 2 (short-bytes (v .0) .size) x y in
-    store-next (a .out .now) (shortBytes (v .0) ++ shortBytes (v .1)) (shortBytes (v .2)) (a .at) 4 (joined (short-bytes (v .0)) (short-bytes (v .1)) .size) xy z
+    store-next (a .out .now) (shortBytes (v .0) ++ shortBytes (v .1)) (shortBytes (v .2)) (a .at) 4
+    (joined (short-bytes (v .0)) (short-bytes (v .1)) .size) xy z
 
 pub put-vertex-spec : {M : Type 1} → statement M
 put-vertex-spec =

@@ -1,6 +1,6 @@
 -- `tree_at` meets its contract: field by field what the calls ensure.
 use mathlib.Core.Path.{_∙_}
-use Rattle.records.proofs.Fields.{same-short}
+use Rattle.base.proofs.ShortLaws.{same-short}
 use borrow.Author.Needs.{needs}
 use Rattle.records.proofs.tree_at.Statement.{statement}
 use Rattle.records.proofs.tree_at.Tie as tie

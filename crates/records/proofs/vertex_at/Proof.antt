@@ -1,6 +1,6 @@
 -- `vertex_at` meets its contract: axis by axis what `short_at` ensures.
 use mathlib.Core.Path.{_∙_}
-use Rattle.records.proofs.Fields.{same-short}
+use Rattle.base.proofs.ShortLaws.{same-short}
 use borrow.Author.Needs.{needs}
 use Rattle.records.proofs.vertex_at.Statement.{statement}
 use Rattle.records.proofs.vertex_at.Tie as tie

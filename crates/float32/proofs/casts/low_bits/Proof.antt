@@ -1,5 +1,5 @@
 use borrow.Author.Needs.{needs}
-use mathlib.Core.Path.{_≡_, sym, ap, _∙_}
+use mathlib.Core.Path.{_≡_, ap, _∙_}
 use lib.IntN.{ℤ}
 use mir.Syntax.{w32}
 use mir.Val.{SFits, toZ, ofZ}
@@ -8,8 +8,6 @@ use Rattle.float32.specs.Casts.{low16bits}
 use Rattle.float32.proofs.Wrap.{cast-pos, flip-fits, flip-cast, pos-bits, neg-bits}
 use Rattle.float32.proofs.casts.low_bits.Statement.{statement}
 use Rattle.float32.proofs.casts.low_bits.Tie as tie
-use Rattle.float32.proofs.casts.low_bits.Reads as reads
-use Rattle.float32.proofs.casts.low_bits.Lts as lts
 
 -- n, as the machine reads it from its bits
 seen : (c : tie.Start) → ℤ

@@ -2,8 +2,6 @@ use borrow.Author.Needs.{needs}
 use Rattle.float32.proofs.Wrap.{back-fits, back-low, back-high}
 use Rattle.float32.proofs.casts.of_bits.Statement.{statement}
 use Rattle.float32.proofs.casts.of_bits.Tie as tie
-use Rattle.float32.proofs.casts.of_bits.Reads as reads
-use Rattle.float32.proofs.casts.of_bits.Lts as lts
 
 cast-result : tie.Need-cast-result
 cast-result c = search needs

@@ -12,7 +12,8 @@ unfolding ofBits neg
 in-range c = Range.small (c .before .before .args .x) (c .if2 .taken) (c .before .if1 .left)
 
 truncating-f32-to-i64-requires : tie.Need-truncating-f32-to-i64-requires
-truncating-f32-to-i64-requires c κs = (Range.wide-low 31 tt (c .before .before .args .x) (in-range c), Range.wide-high 31 tt (c .before .before .args .x) (in-range c))
+truncating-f32-to-i64-requires c κs =
+    (Range.wide-low 31 tt (c .before .before .args .x) (in-range c), Range.wide-high 31 tt (c .before .before .args .x) (in-range c))
 
 cast-result : tie.Need-cast-result
 cast-result c =

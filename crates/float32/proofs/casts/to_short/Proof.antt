@@ -10,10 +10,6 @@ use Rattle.float32.proofs.Wrap.{signed-fits}
 use borrow.Author.Needs.{needs}
 use Rattle.float32.proofs.casts.to_short.Statement.{statement}
 use Rattle.float32.proofs.casts.to_short.Tie as tie
-use Rattle.float32.proofs.casts.to_short.Reads as reads
-use Rattle.float32.proofs.casts.to_short.Lts as lts
-use Rattle.float32.proofs.casts.to_i32.Reads as to-i32-reads
-use Rattle.float32.proofs.casts.wrap_i16.Reads as wrap-i16-reads
 
 to-i32-requires : tie.Need-to-i32-requires
 to-i32-requires c κs = search needs
@@ -26,7 +22,8 @@ unfolding shortOf
 returns c =
     let e = c .wrap-i16 .ensures in
     let t = c .before .to-i32 .ensures in
-    let fits : SFits w32 (c .before .to-i32 .result) = subst (λ (z : ℤ). SFits w32 z) (sym t) (record { sfits = toSigned-in 31 (c .before .before .args .x) }) in
+    let fits : SFits w32 (c .before .to-i32 .result) =
+    subst (λ (z : ℤ). SFits w32 z) (sym t) (record { sfits = toSigned-in 31 (c .before .before .args .x) }) in
     toZ-ofZ (subst (λ (z : ℤ). SFits w16 z) (sym e) (signed-fits (low16bits (toZ w32 (ofZ w32 (c .before .to-i32 .result)))))) ∙ e ∙ ap low16 (toZ-ofZ fits ∙ t)
 
 pub to-short-spec : {M : Type 1} → statement M

@@ -1,7 +1,6 @@
 -- `casts::truncated` meets its contract: past a test the clamp gives that end, and within both the wider cast gives the same number.
 use mir.Syntax.{w16}
 use mathlib.Core.Path.{_∙_}
-use lib.Ieee.{Float, ofBits, neg}
 use Rattle.float32.proofs.Range as Range
 use Rattle.float32.proofs.Truncation as Truncation
 use Rattle.float32.proofs.casts.truncated.Statement.{statement}
@@ -11,11 +10,13 @@ in-range : (c : tie.Else3) → Range.Small 15 (c .before .before .before .args .
 in-range c = Truncation.small15 (c .before .before .before .args .x) (c .before .before .if1 .left) (c .before .if2 .left) (c .if3 .left)
 
 truncating-f32-to-i64-requires : tie.Need-truncating-f32-to-i64-requires
-truncating-f32-to-i64-requires c κs = (Range.wide-low 15 tt (c .before .before .before .args .x) (in-range c), Range.wide-high 15 tt (c .before .before .before .args .x) (in-range c))
+truncating-f32-to-i64-requires c κs =
+    (Range.wide-low 15 tt (c .before .before .before .args .x) (in-range c), Range.wide-high 15 tt (c .before .before .before .args .x) (in-range c))
 
 cast-result : tie.Need-cast-result
 cast-result c =
-    Range.cast-fits w16 tt (c .before .before .before .before .args .x) (c .truncating-f32-to-i64 .result) (in-range (c .before)) (c .truncating-f32-to-i64 .ensures)
+    Range.cast-fits w16 tt (c .before .before .before .before .args .x) (c .truncating-f32-to-i64 .result) (in-range (c .before))
+    (c .truncating-f32-to-i64 .ensures)
 
 returns : tie.Need-returns
 returns c = Truncation.low-end (c .before .args .x) (c .if1 .taken)

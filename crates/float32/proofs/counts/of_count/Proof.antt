@@ -4,8 +4,6 @@ use Rattle.float32.specs.Counts.{ofCount}
 use borrow.Author.Needs.{needs}
 use Rattle.float32.proofs.counts.of_count.Statement.{statement}
 use Rattle.float32.proofs.counts.of_count.Tie as tie
-use Rattle.float32.proofs.counts.of_count.Reads as reads
-use Rattle.float32.proofs.counts.of_count.Lts as lts
 
 int-to-float-result : tie.Need-int-to-float-result
 int-to-float-result c = search needs

@@ -4,8 +4,6 @@ use Rattle.float32.specs.Extremes.{maxNumberOf}
 use Rattle.float32.proofs.Patterns.{ne-self}
 use Rattle.float32.proofs.extremes.max_number.Statement.{statement}
 use Rattle.float32.proofs.extremes.max_number.Tie as tie
-use Rattle.float32.proofs.extremes.max_number.Reads as reads
-use Rattle.float32.proofs.extremes.max_number.Lts as lts
 
 returns : tie.Need-returns
 unfolding maxNumberOf

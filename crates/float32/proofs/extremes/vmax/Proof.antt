@@ -2,8 +2,6 @@
 use Rattle.float32.specs.Extremes.{vmaxOf}
 use Rattle.float32.proofs.extremes.vmax.Statement.{statement}
 use Rattle.float32.proofs.extremes.vmax.Tie as tie
-use Rattle.float32.proofs.extremes.vmax.Reads as reads
-use Rattle.float32.proofs.extremes.vmax.Lts as lts
 
 returns : tie.Need-returns
 unfolding vmaxOf

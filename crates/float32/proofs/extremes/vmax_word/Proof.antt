@@ -1,12 +1,8 @@
 -- `extremes::vmax_word` meets its contract: the test is on the words' floats, the answer a copy.
-use mathlib.Core.Path.{sym, ap, _∙_}
 use Rattle.float32.specs.Extremes.{vmaxWord}
 use borrow.Author.Needs.{needs}
 use Rattle.float32.proofs.extremes.vmax_word.Statement.{statement}
 use Rattle.float32.proofs.extremes.vmax_word.Tie as tie
-use Rattle.float32.proofs.extremes.vmax_word.Reads as reads
-use Rattle.float32.proofs.extremes.vmax_word.Lts as lts
-use Rattle.float32.proofs.words.value.Reads as value-reads
 
 value-requires : tie.Need-value-requires
 value-requires c κs = search needs

@@ -2,8 +2,6 @@
 use Rattle.float32.specs.Extremes.{vminOf}
 use Rattle.float32.proofs.extremes.vmin.Statement.{statement}
 use Rattle.float32.proofs.extremes.vmin.Tie as tie
-use Rattle.float32.proofs.extremes.vmin.Reads as reads
-use Rattle.float32.proofs.extremes.vmin.Lts as lts
 
 returns : tie.Need-returns
 unfolding vminOf

@@ -1,4 +1,5 @@
--- `root::isqrt` meets its contract. The loop's invariant: the guess is not below the whole root, and its square fits. It falls, and stops where its square is at most n.
+-- `root::isqrt` meets its contract. The loop's invariant: the guess is not below the whole root, and its square fits. It falls, and stops where its
+-- square is at most n.
 use Prim.Native.Nat.{ℕ, _+_, _/_, _^_, _≤_, _<_}
 use native.Mathlib.Nat.{le-antisymm, mul-le-mul, div-le-self, div-lt-iff-lt-mul}
 use native.Mathlib.Omega.{arith}

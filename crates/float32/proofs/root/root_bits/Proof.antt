@@ -24,7 +24,8 @@ q-is : (c : tie.After-isqrt) → c .isqrt .result ≡ isqrt (radicand-of (c .bef
 q-is c = c .isqrt .ensures ∙ ap isqrt (n-is (c .before))
 
 q-le : (c : tie.After-isqrt) → c .isqrt .result ≤ 0xff_ffff
-q-le c = subst (λ (q : ℕ). q ≤ 0xff_ffff) (sym (q-is c)) (root-le (c .before .args .significand) (c .before .args .exponent) (c .before .pre .0) (c .before .pre .1))
+q-le c =
+    subst (λ (q : ℕ). q ≤ 0xff_ffff) (sym (q-is c)) (root-le (c .before .args .significand) (c .before .args .exponent) (c .before .pre .0) (c .before .pre .1))
 
 add-n : tie.Need-add-n
 add-n c = search needs

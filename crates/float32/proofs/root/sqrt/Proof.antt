@@ -22,7 +22,8 @@ pattern-lt : (c : tie.After-bits) → c .bits .result < 0x1_0000_0000
 pattern-lt c = subst (λ (b : ℕ). b < 0x1_0000_0000) (sym (c .bits .ensures)) (toBits-lt binary32 (c .before .args .x) (held (c .before)))
 
 -- a pattern whose number is its own root
-itself : (c : tie.After-bits) (n : ℕ) → c .bits .result ≡ n → ofBits binary32 n ≡ sqrtOf binary32 (ofBits binary32 n) → c .before .args .x ≡ sqrtOf binary32 (c .before .args .x)
+itself : (c : tie.After-bits) (n : ℕ) → c .bits .result ≡ n → ofBits binary32 n ≡ sqrtOf binary32 (ofBits binary32 n)
+    → c .before .args .x ≡ sqrtOf binary32 (c .before .args .x)
 itself c n e h = subst (λ (x : Float). x ≡ sqrtOf binary32 x) (ap (ofBits binary32) (sym e) ∙ x-is c) h
 
 bits-requires : tie.Need-bits-requires
@@ -45,7 +46,8 @@ returns-2 c =
     let at = c .before .before .before .before .before in
     c .value .ensures
     ∙ ap (ofBits binary32) (c .before .root-bits .ensures)
-    ∙ above-zero (at .bits .result) _ _ (omega (arith, c .before .before .before .before .if1 .left)) (c .before .before .before .if2 .taken) (c .before .before .parts .ensures)
+    ∙ above-zero (at .bits .result) _ _ (omega (arith, c .before .before .before .before .if1 .left)) (c .before .before .before .if2 .taken)
+    (c .before .before .parts .ensures)
     ∙ ap (sqrtOf binary32) (x-is at)
 
 returns-3 : tie.Need-returns-3

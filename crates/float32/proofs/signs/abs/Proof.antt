@@ -1,7 +1,7 @@
 -- `signs::abs` meets its contract: what is below zero is negated, a zero is +0, and what is left has its sign clear.
 use mathlib.Core.Path.{subst, sym}
 use lib.Dec.{T}
-use lib.Ieee.{binary32, fits, ofBits}
+use lib.Ieee.{ofBits}
 use Rattle.float32.proofs.SignLaws.{below-zero, at-zero, else-clear}
 use Rattle.float32.proofs.signs.abs.Statement.{statement}
 use Rattle.float32.proofs.signs.abs.Tie as tie

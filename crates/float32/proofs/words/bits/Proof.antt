@@ -4,8 +4,6 @@ use Rattle.float32.proofs.Patterns.{nan-if, no-nan-if, nan-pattern}
 use borrow.Author.Needs.{needs}
 use Rattle.float32.proofs.words.bits.Statement.{statement}
 use Rattle.float32.proofs.words.bits.Tie as tie
-use Rattle.float32.proofs.words.bits.Reads as reads
-use Rattle.float32.proofs.words.bits.Lts as lts
 
 float-to-bits-result : tie.Need-float-to-bits-result
 float-to-bits-result c = no-nan-if (c .before .args .x) (c .if1 .left)

@@ -3,8 +3,6 @@ use mathlib.Core.Path.{sym, _∙_}
 use Rattle.float32.proofs.Patterns.{no-nan, a-nan, zero-by-zero}
 use Rattle.float32.proofs.words.value.Statement.{statement}
 use Rattle.float32.proofs.words.value.Tie as tie
-use Rattle.float32.proofs.words.value.Reads as reads
-use Rattle.float32.proofs.words.value.Lts as lts
 
 float-from-bits-result : tie.Need-float-from-bits-result
 float-from-bits-result c = no-nan (c .before .args .word) (c .if1 .left)

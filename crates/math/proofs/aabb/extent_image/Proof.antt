@@ -30,7 +30,8 @@ returns c =
     let m = c .before .before .before .before .before .args .m in
     let e = c .before .before .before .scale .ensures ∙ ap (λ (v : Vec3). scaleOf v half) (c .before .before .before .before .sub .ensures) in
     c .abs2 .ensures
-    ∙ ap absOf (c .before .transform-vector .ensures ∙ ap (λ (a : Mat4). vectorOf a (c .before .before .before .scale .result)) (c .before .before .abs .ensures) ∙ ap (vectorOf (absMatrix m)) e)
+    ∙ ap absOf (c .before .transform-vector .ensures
+    ∙ ap (λ (a : Mat4). vectorOf a (c .before .before .before .scale .result)) (c .before .before .abs .ensures) ∙ ap (vectorOf (absMatrix m)) e)
 
 pub extent-image-spec : {M : Type 1} → statement M
 extent-image-spec =

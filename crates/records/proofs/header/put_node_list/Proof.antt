@@ -1,14 +1,9 @@
 -- `header::put_node_list` meets its contract: four runs of stores, each from where the last one ended, are one run, and the bytes of 0 are zeros.
-use mathlib.Core.Path.{_∙_, ap}
-use mathlib.Core.List.{List}
-use Prim.Native.Nat.{ℕ}
 use lib.ListN.{replicate}
-use lib.Seq.{sets}
-use Rattle.records.specs.LittleEndian.{littleEndian}
+use Rattle.base.specs.LittleEndian.{littleEndian}
 use Rattle.records.specs.Header.{nodeListBytes}
-use Rattle.records.proofs.LittleEndian.{zeros-stored}
-use Rattle.records.proofs.Sizes.{joined, number-bytes}
-use Rattle.records.proofs.Stores.{four-stores}
+use Rattle.base.proofs.LittleEndian.{zeros-stored, joined, number-bytes}
+use Rattle.base.proofs.StoreLaws.{four-stores}
 use borrow.Author.Needs.{needs}
 use Rattle.records.proofs.header.put_node_list.Statement.{statement}
 use Rattle.records.proofs.header.put_node_list.Tie as tie
@@ -44,7 +39,8 @@ returns c =
     let a = first .before .before .before .args in
     let h = a .h in
     let two = joined (number-bytes 8 (h .«nodes_address»)) (number-bytes 4 (h .«nodes_count»)) in
-    four-stores (a .out .now) (littleEndian 8 (h .«nodes_address»)) (littleEndian 4 (h .«nodes_count»)) (littleEndian 4 (h .«nodes_capacity»)) (replicate 16 0) 0 8 12 16
+    four-stores (a .out .now) (littleEndian 8 (h .«nodes_address»)) (littleEndian 4 (h .«nodes_count»)) (littleEndian 4 (h .«nodes_capacity»))
+    (replicate 16 0) 0 8 12 16
     (number-bytes 8 (h .«nodes_address») .size) (two .size) (joined two (number-bytes 4 (h .«nodes_capacity»)) .size)
     (first .put-le .ensures) (second .put-le2 .ensures) (third .put-le3 .ensures) (zeros-stored _ 16 16 (fourth .put-le4 .ensures))
 

@@ -1,8 +1,8 @@
 -- `header::put_point` meets its contract: four runs of four stores, each from where the last one ended, are one run.
-use Rattle.records.specs.LittleEndian.{littleEndian}
+use Rattle.base.specs.LittleEndian.{littleEndian}
 use Rattle.records.specs.Header.{pointBytes}
-use Rattle.records.proofs.Sizes.{joined, number-bytes}
-use Rattle.records.proofs.Stores.{four-stores}
+use Rattle.base.proofs.LittleEndian.{joined, number-bytes}
+use Rattle.base.proofs.StoreLaws.{four-stores}
 use borrow.Author.Needs.{needs}
 use Rattle.records.proofs.header.put_point.Statement.{statement}
 use Rattle.records.proofs.header.put_point.Tie as tie

@@ -5,8 +5,9 @@ use lib.Seq.{sets}
 use Rattle.math.specs.Stored.{bitsOf}
 use Rattle.math.specs.declared.words3.Words3.{Words3}
 use Rattle.records.specs.Header.{pointBytes, pointsBytes}
-use Rattle.records.proofs.Sizes.{joined, point-bytes}
-use Rattle.records.proofs.Stores.{store-next, four-stores}
+use Rattle.base.proofs.LittleEndian.{joined}
+use Rattle.records.proofs.Sizes.{point-bytes}
+use Rattle.base.proofs.StoreLaws.{store-next, four-stores}
 use borrow.Author.Needs.{needs}
 use Rattle.records.proofs.header.put_points.Statement.{statement}
 use Rattle.records.proofs.header.put_points.Tie as tie
@@ -54,10 +55,13 @@ returns c =
     let third = cen .put-point3 .ensures ∙ ap (λ (p : Words3). sets (max .put-point2 .last .0) 64 (pointBytes p)) (cen .before .bits .ensures) in
     let fourth = inverse .put-point4 .ensures ∙ ap (λ (p : Words3). sets (cen .put-point3 .last .0) 80 (pointBytes p)) (inverse .before .bits2 .ensures) in
     let fifth = quantum .put-point5 .ensures ∙ ap (λ (p : Words3). sets (inverse .put-point4 .last .0) 96 (pointBytes p)) (quantum .before .bits3 .ensures) in
-    let four = four-stores (a .out .now) (pointBytes (h .«bb_min»)) (pointBytes (h .«bb_max»)) (pointBytes (bitsOf (s .cen))) (pointBytes (bitsOf (s .inverse))) 32 16 32 48
+    let four = four-stores (a .out .now) (pointBytes (h .«bb_min»)) (pointBytes (h .«bb_max»)) (pointBytes (bitsOf (s .cen)))
+    (pointBytes (bitsOf (s .inverse))) 32 16 32 48
     (point-bytes (h .«bb_min») .size) (box .size) (three .size)
     (min .put-point .ensures) (max .put-point2 .ensures) third fourth in
-    store-next (a .out .now) (pointBytes (h .«bb_min») ++ pointBytes (h .«bb_max») ++ pointBytes (bitsOf (s .cen)) ++ pointBytes (bitsOf (s .inverse))) (pointBytes (bitsOf (s .quantum))) 32 64
+    store-next (a .out .now)
+    (pointBytes (h .«bb_min») ++ pointBytes (h .«bb_max») ++ pointBytes (bitsOf (s .cen)) ++ pointBytes (bitsOf (s .inverse)))
+    (pointBytes (bitsOf (s .quantum))) 32 64
     (joined three (point-bytes (bitsOf (s .inverse))) .size) four fifth
 
 pub put-points-spec : {M : Type 1} → statement M

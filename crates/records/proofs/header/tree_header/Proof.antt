@@ -8,14 +8,16 @@ use lib.ListN.{length, drop}
 use borrow.Author.Tests.{lt-ltb, le-ltb}
 use Rattle.records.specs.Header.{nodeListBytes, pointsBytes, treeListBytes, headerBytes, headerAnswer, headerExit}
 use Rattle.records.specs.declared.header.Bvh.{Bvh}
-use Rattle.records.proofs.Sizes.{joined, node-list-bytes, points-bytes, header-bytes}
-use Rattle.records.proofs.Stores.{store-next, stores-leave}
+use Rattle.base.proofs.LittleEndian.{joined}
+use Rattle.records.proofs.Sizes.{node-list-bytes, points-bytes, header-bytes}
+use Rattle.base.proofs.StoreLaws.{store-next, stores-leave}
 use borrow.Author.Needs.{needs}
 use Rattle.records.proofs.header.tree_header.Statement.{statement}
 use Rattle.records.proofs.header.tree_header.Tie as tie
 
 -- the answer, by the outcomes of the two checks
-answer : (h : Bvh) (out : List ℕ) {many short : Bool} → ltb 65535 (h .«trees_count») ≡ many → ltb (length out) 128 ≡ short → headerAnswer h out ≡ cond many 1 (cond short 2 0)
+answer : (h : Bvh) (out : List ℕ) {many short : Bool} → ltb 65535 (h .«trees_count») ≡ many → ltb (length out) 128 ≡ short
+    → headerAnswer h out ≡ cond many 1 (cond short 2 0)
 answer h out m s = ap₂ (λ (many short : Bool). cond many 1 (cond short 2 0)) m s
 
 exit : (h : Bvh) (out : List ℕ) (n : ℕ) → headerAnswer h out ≡ n → headerExit h out ≡ cond (eqb n 0) (headerBytes h ++ drop 128 out) out
@@ -58,7 +60,9 @@ returns-3 c =
     let out = a .out .now in
     let e = answer h out (le-ltb _ _ (tests .before .if1 .left)) (le-ltb _ _ (tests .if2 .left)) in
     let two = store-next out (nodeListBytes h) (pointsBytes h) 0 32 (node-list-bytes h .size) (nodes .put-node-list .ensures) (points .put-points .ensures) in
-    let three = store-next out (nodeListBytes h ++ pointsBytes h) (treeListBytes h) 0 112 (joined (node-list-bytes h) (points-bytes h) .size) two (trees .put-tree-list .ensures) in
+    let three =
+    store-next out (nodeListBytes h ++ pointsBytes h) (treeListBytes h) 0 112 (joined (node-list-bytes h) (points-bytes h) .size) two
+    (trees .put-tree-list .ensures) in
     record { answer = sym e; bytes = three ∙ stores-leave out (headerBytes h) 0 128 (header-bytes h .size) (tests .if2 .left) ∙ sym (exit h out 0 e) }
 
 pub tree-header-spec : {M : Type 1} → statement M

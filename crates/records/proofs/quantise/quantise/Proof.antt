@@ -35,8 +35,11 @@ returns c =
     let z = c .to-short3 in
     let d = c .before .before .before in
     let a = d .before .before .before .args in
-    let scaled = d .vmul .ensures ∙ ap (λ (v : Vec3). vmulOf v (a .inverse)) (d .before .sub .ensures ∙ ap (λ (v : Vec3). subOf v (a .cen)) (d .before .before .values .ensures)) in
-    same-vertex shortOf (d .vmul .result) (x .result) (y .result) (z .result) (x .ok) (y .ok) (z .ok) (x .ensures) (y .ensures) (z .ensures) ∙ ap (castBy shortOf) scaled
+    let scaled =
+    d .vmul .ensures ∙ ap (λ (v : Vec3). vmulOf v (a .inverse))
+    (d .before .sub .ensures ∙ ap (λ (v : Vec3). subOf v (a .cen)) (d .before .before .values .ensures)) in
+    same-vertex shortOf (d .vmul .result) (x .result) (y .result) (z .result) (x .ok) (y .ok) (z .ok) (x .ensures) (y .ensures) (z .ensures)
+    ∙ ap (castBy shortOf) scaled
 
 pub quantise-spec : {M : Type 1} → statement M
 quantise-spec =

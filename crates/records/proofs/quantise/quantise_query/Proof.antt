@@ -33,7 +33,8 @@ returns c =
     let d = c .before .before .before in
     let a = d .before .before .args in
     let scaled = d .vmul .ensures ∙ ap (λ (v : Vec3). vmulOf v (a .inverse)) (d .before .sub .ensures) in
-    same-vertex truncatedOf (d .vmul .result) (x .result) (y .result) (z .result) (x .ok) (y .ok) (z .ok) (x .ensures) (y .ensures) (z .ensures) ∙ ap (castBy truncatedOf) scaled
+    same-vertex truncatedOf (d .vmul .result) (x .result) (y .result) (z .result) (x .ok) (y .ok) (z .ok) (x .ensures) (y .ensures) (z .ensures)
+    ∙ ap (castBy truncatedOf) scaled
 
 pub quantise-query-spec : {M : Type 1} → statement M
 quantise-query-spec =

@@ -1,6 +1,5 @@
 -- `shorts::put_short` meets its contract: v's low 16 bits are stored, and widening v to an i32 changes no number.
-use mathlib.Core.Path.{_≡_, ap, subst, sym, _∙_}
-use mathlib.Core.List.{List}
+use mathlib.Core.Path.{ap, subst, sym, _∙_}
 use Prim.Native.Nat.{ℕ}
 use lib.IntN.{ℤ}
 use lib.Seq.{sets}
@@ -8,7 +7,7 @@ use mir.Syntax.{w16, w32}
 use mir.Val.{SFits, toZ, ofZ}
 use mir.Facts.{toZ-ofZ, sfits-widen}
 use Rattle.float32.specs.Casts.{low16bits}
-use Rattle.records.specs.LittleEndian.{littleEndian}
+use Rattle.base.specs.LittleEndian.{littleEndian}
 use Rattle.records.specs.Shorts.{shortBytes}
 use borrow.Author.Needs.{needs}
 use Rattle.records.proofs.shorts.put_short.Statement.{statement}

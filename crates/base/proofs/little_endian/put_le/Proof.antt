@@ -5,10 +5,10 @@ use Prim.Native.Nat.{ℕ, _+_, _-_, _≤_}
 use native.Mathlib.Omega.{arith}
 use lib.ListN.{length, length-set}
 use lib.Seq.{sets}
-use Rattle.records.specs.LittleEndian.{littleEndian}
-use Rattle.records.proofs.LittleEndian.{store-lowest}
-use Rattle.records.proofs.little_endian.put_le.Statement.{statement}
-use Rattle.records.proofs.little_endian.put_le.Tie as tie
+use Rattle.base.specs.LittleEndian.{littleEndian}
+use Rattle.base.proofs.LittleEndian.{store-lowest}
+use Rattle.base.proofs.little_endian.put_le.Statement.{statement}
+use Rattle.base.proofs.little_endian.put_le.Tie as tie
 
 record Storing (out₀ : List ℕ) (at size n : ℕ) (out : List ℕ) (rest i : ℕ) : Type 0 where
   pub within : i ≤ size
