@@ -4,13 +4,13 @@ use native.Mathlib.Omega.{arith}
 use mathlib.Core.Path.{_≡_, refl, ap}
 use mathlib.Core.List.{List, [], _∷_}
 use lib.ListN.{length}
+use Rattle.base.specs.Lists.{oneIf, sift}
 use Rattle.base.proofs.ListLaws.{length-kept, length-sift}
 use Rattle.math.specs.declared.vec3.Vec3.{Vec3}
 use Rattle.math.specs.declared.axis.Axis.{Axis}
 use Rattle.math.specs.declared.axis.Axis.the-variants.{X, Y, Z}
 use Rattle.split.specs.declared.boxes.BoxWords.{BoxWords}
 use Rattle.split.specs.declared.groups.Counts.{Counts}
-use Rattle.base.specs.Lists.{oneIf, sift}
 use Rattle.split.specs.Rule.{below, countBelow}
 use Rattle.split.specs.steps.Groups.{countsOf, countMore}
 use Rattle.split.proofs.Places.{Pass}

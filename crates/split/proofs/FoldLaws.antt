@@ -12,9 +12,11 @@ use lib.IntN.{pos}
 use lib.Ieee.{Float, fin, ofBits, neg, le, isNan}
 use lib.Ieee.Scale.{finite}
 use lib.ListN.{length}
+use Rattle.base.specs.Lists.{Among}
+use Rattle.base.proofs.ListLaws.{among-head, among-tail, among-cases}
 use Rattle.float32.specs.Extremes.{vminOf, vmaxOf}
-use Rattle.float32.proofs.ExtremeLaws.{vminOf-both, vmaxOf-both, vminOf-le, vmaxOf-ge, vminWord-value, vmaxWord-value}
 use Rattle.float32.specs.Signs.{absOf}
+use Rattle.float32.proofs.ExtremeLaws.{vminOf-both, vmaxOf-both, vminOf-le, vmaxOf-ge, vminWord-value, vmaxWord-value}
 use Rattle.float32.proofs.OrderLaws.{le-refl, le-trans, finite-no-nan, neg-le}
 use Rattle.float32.proofs.SignLaws.{abs-ge-zero, abs-bounds, abs-le}
 use Rattle.math.specs.declared.axis.Axis.{Axis}
@@ -22,8 +24,6 @@ use Rattle.math.specs.declared.axis.Axis.the-variants.{X, Y, Z}
 use Rattle.split.specs.declared.boxes.BoxWords.{BoxWords}
 use Rattle.split.specs.Ends.{low, high, Proper, Bounded, Each}
 use Rattle.split.specs.Folding.{startBox, foldStep, foldFrom, foldBox}
-use Rattle.base.specs.Lists.{Among}
-use Rattle.base.proofs.ListLaws.{among-head, among-tail, among-cases}
 
 -- ---- one step, on an axis
 step-low : (a : Axis) (acc b : BoxWords) → low a (foldStep acc b) ≡ vminOf (low a acc) (low a b)

@@ -9,15 +9,15 @@ use mathlib.Core.List.{List, [], _∷_, _++_, append-assoc, append-nil}
 use lib.ListN.{length, getD, set, take, drop, length-set, drop-of-length-le}
 use lib.Seq.{take-suc-set, take-set-le, drop-set-lt, length-take-le, paste}
 use lib.Ieee.{Float, lt}
+use Rattle.base.specs.Lists.{oneIf, sift}
+use Rattle.base.proofs.StoreLaws.{rest-one}
 use Rattle.math.specs.declared.vec3.Vec3.{Vec3}
 use Rattle.math.specs.declared.axis.Axis.{Axis}
 use Rattle.math.specs.declared.axis.Axis.the-variants.{X, Y, Z}
 use Rattle.math.specs.Axes.{coordinate}
 use Rattle.split.specs.Boxes.{boxAt, centreOf}
-use Rattle.base.specs.Lists.{oneIf, sift}
 use Rattle.split.specs.Rule.{above}
 use Rattle.split.specs.steps.Groups.{stepOf, centreAt, passes, Parted}
-use Rattle.base.proofs.StoreLaws.{rest-one}
 
 -- the two words of an axis are those that stand `step` after x's
 centre-along : (ws : List ℕ) (p : ℕ) (a : Axis) → centreAt ws (stepOf a) p ≡ coordinate a (centreOf (boxAt ws p))

@@ -6,17 +6,17 @@ use mathlib.Core.Bool.{Bool, true, false, not, cond}
 use mathlib.Core.List.{List, _++_}
 use lib.ListN.{length, take, drop, length-append, take-append-drop}
 use lib.Seq.{length-take-le, take-append-seam, drop-append-seam}
+use Rattle.base.specs.Lists.{sift, Within}
+use Rattle.base.proofs.ListLaws.{length-both}
+use Rattle.base.proofs.SortLaws.{sort-length}
+use Rattle.base.proofs.WithinLaws.{within-sift, within-append}
 use Rattle.math.specs.declared.vec3.Vec3.{Vec3}
 use Rattle.math.specs.declared.axis.Axis.{Axis}
 use Rattle.split.specs.declared.boxes.BoxWords.{BoxWords}
 use Rattle.split.specs.declared.groups.Counts.{Counts}
-use Rattle.base.specs.Lists.{sift, Within}
 use Rattle.split.specs.Rule.{averageOf, above, axisOf, chosen, one, two, stuck, groupOne, groupTwo, twoLeads, firstOf, secondOf, Divided}
 use Rattle.split.specs.Sorted.{atMost, sortBoxes}
 use Rattle.split.specs.steps.Groups.{countsOf, axisBy, Parted, Settled, LeaderFirst}
-use Rattle.base.proofs.ListLaws.{length-both}
-use Rattle.base.proofs.SortLaws.{sort-length}
-use Rattle.base.proofs.WithinLaws.{within-sift, within-append}
 use Rattle.split.proofs.DivideLaws.{divide-total, divide-some-first, divide-some-second}
 
 -- where the groups meet in a list that holds one after the other

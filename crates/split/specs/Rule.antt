@@ -9,13 +9,13 @@ use lib.Ieee.{binary32, ofBits, lt}
 use Rattle.base.specs.Lists.{sift}
 use Rattle.float32.specs.Counts.{ofCount}
 use Rattle.math.specs.declared.vec3.Vec3.{Vec3}
+use Rattle.math.specs.declared.axis.Axis.{Axis}
+use Rattle.math.specs.declared.axis.Axis.the-variants.{X, Y, Z}
 use Rattle.math.specs.Stored.{valuesOf}
 use Rattle.math.specs.Vec3s.{_⊘_, addOf, scaleOf}
 use Rattle.math.specs.Transform.{half}
-use Rattle.split.specs.declared.boxes.BoxWords.{BoxWords}
-use Rattle.math.specs.declared.axis.Axis.{Axis}
-use Rattle.math.specs.declared.axis.Axis.the-variants.{X, Y, Z}
 use Rattle.math.specs.Axes.{coordinate}
+use Rattle.split.specs.declared.boxes.BoxWords.{BoxWords}
 use Rattle.split.specs.Boxes.{centreOf}
 use Rattle.split.specs.Sorted.{sortBoxes}
 

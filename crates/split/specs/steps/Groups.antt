@@ -8,11 +8,11 @@ use lib.ListN.{length, take, drop, getD}
 use lib.Ieee.{Float, binary32, ofBits, lt}
 use Rattle.base.specs.Lists.{oneIf, sift}
 use Rattle.math.specs.declared.vec3.Vec3.{Vec3}
+use Rattle.math.specs.declared.axis.Axis.{Axis}
+use Rattle.math.specs.declared.axis.Axis.the-variants.{X, Y, Z}
 use Rattle.math.specs.Vec3s.{_⊕_, _⊗_}
 use Rattle.math.specs.Transform.{half}
 use Rattle.split.specs.declared.boxes.BoxWords.{BoxWords}
-use Rattle.math.specs.declared.axis.Axis.{Axis}
-use Rattle.math.specs.declared.axis.Axis.the-variants.{X, Y, Z}
 use Rattle.split.specs.declared.groups.Counts.{Counts}
 use Rattle.split.specs.Rule.{below, countBelow, offset, nearestAxis, twoLeads}
 use Rattle.split.specs.Sorted.{sortBoxes}

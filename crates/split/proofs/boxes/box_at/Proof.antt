@@ -1,12 +1,12 @@
 -- `boxes::box_at` meets its contract: six reads in a row, the max three words after the min.
-use Prim.Native.Nat.{_+_, _*_}
-use mathlib.Core.Path.{_≡_}
 use native.Mathlib.Omega.{arith}
 use borrow.Author.Needs.{needs}
 use Rattle.split.proofs.boxes.box_at.Statement.{statement}
 use Rattle.split.proofs.boxes.box_at.Tie as tie
 use Rattle.split.proofs.boxes.box_at.Reads as reads
 use Rattle.split.proofs.boxes.box_at.Lts as lts
+use Prim.Native.Nat.{_+_, _*_}
+use mathlib.Core.Path.{_≡_}
 
 cast-at : tie.Need-cast-at
 cast-at c = search needs

@@ -1,5 +1,6 @@
 -- `boxes::put_box` meets its contract: six stores in a row are one run of stores.
 use borrow.Author.Needs.{needs}
+use native.Mathlib.Omega.{arith}
 use Rattle.split.proofs.boxes.put_box.Statement.{statement}
 use Rattle.split.proofs.boxes.put_box.Tie as tie
 use Prim.Native.Nat.{ℕ, _+_}
@@ -8,7 +9,6 @@ use mathlib.Core.List.{List, [], _∷_}
 use lib.ListN.{set, length-set}
 use lib.Seq.{sets}
 use native.Mathlib.Numerals.{towards-suc}
-use native.Mathlib.Omega.{arith}
 
 six-stores : (l : List ℕ) (at a b c d e f : ℕ)
     → set (set (set (set (set (set l at a) (at + 1) b) (at + 2) c) (at + 3) d) (at + 4) e) (at + 5) f

@@ -1,5 +1,6 @@
 -- `divide::divide_by` meets its contract: each step by what its call ensures, and the steps by the rule's laws.
 use borrow.Author.Needs.{needs}
+use native.Mathlib.Omega.{arith}
 use Rattle.split.proofs.divide.divide_by.Statement.{statement}
 use Rattle.split.proofs.divide.divide_by.Tie as tie
 use Prim.Native.Nat.{ℕ}
@@ -14,7 +15,6 @@ use Rattle.split.specs.Rule.{chosen, groupOne, groupTwo}
 use Rattle.split.specs.steps.Groups.{Parted}
 use Rattle.split.proofs.Counting.{count-le}
 use Rattle.split.proofs.Steps.{Met, chosen-by, parted-met, met-divided, met-inside, parted-within}
-use native.Mathlib.Omega.{arith}
 
 -- the function's entry, from after the partition; and the partition, from after it is settled
 abbrev entry : tie.After-partition → tie.Start

@@ -1,12 +1,12 @@
 -- `divide::settle` meets its contract: sorted where one of the two tests holds, else as it was.
 use borrow.Author.Needs.{needs}
+use borrow.Author.Tests.{eq-eqb, ne-eqb}
 use Rattle.split.proofs.divide.settle.Statement.{statement}
 use Rattle.split.proofs.divide.settle.Tie as tie
 use mathlib.Core.Path.{_≡_}
 use mathlib.Core.Bool.{true, or-true}
 use mathlib.Core.Logic.{⊎-elim}
 use lib.ListN.{length}
-use borrow.Author.Tests.{eq-eqb, ne-eqb}
 use Rattle.split.specs.steps.Groups.{oneSided}
 
 either-test : (c : tie.Joined1) → oneSided (c .before .before .before .before .args .k) (length (c .before .before .before .before .args .a .now)) ≡ true

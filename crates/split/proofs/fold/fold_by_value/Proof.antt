@@ -1,9 +1,9 @@
 -- `fold::fold_by_value` meets its contract: by the fold of the words where there is a NaN, else by the law that a number has one word.
 use borrow.Author.Needs.{needs}
+use native.Mathlib.Omega.{arith}
 use Rattle.split.proofs.fold.fold_by_value.Statement.{statement}
 use Rattle.split.proofs.fold.fold_by_value.Tie as tie
 use mathlib.Core.Path.{sym, _∙_}
-use native.Mathlib.Omega.{arith}
 use Rattle.split.proofs.TotalLaws.{by-value}
 
 either-nan-requires : tie.Need-either-nan-requires

@@ -1,4 +1,6 @@
 -- `fold::fold_words` meets its contract. The loop's invariant: the rest folded onto the box so far is the whole fold.
+use native.Mathlib.Omega.{arith}
+use borrow.Author.Needs.{needs}
 use Rattle.split.proofs.fold.fold_words.Statement.{statement}
 use Rattle.split.proofs.fold.fold_words.Tie as tie
 use Prim.Native.Nat.{_+_, _-_}
@@ -8,8 +10,6 @@ use Rattle.split.specs.declared.boxes.BoxWords.{BoxWords}
 use Rattle.split.specs.Boxes.{boxAt}
 use Rattle.split.specs.Folding.{startBox, foldStep, foldFrom, foldBox}
 use Rattle.split.proofs.Places.{Pass, begin, taken, finished, next-within}
-use native.Mathlib.Omega.{arith}
-use borrow.Author.Needs.{needs}
 
 abbrev Inv-loop : tie.InvT-loop
 Inv-loop entries places acc₀ i₀ acc i = Pass (foldFrom (boxAt entries)) (length entries) places startBox acc i

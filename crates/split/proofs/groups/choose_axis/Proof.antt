@@ -1,12 +1,12 @@
 -- `groups::choose_axis` meets its contract: each answer is the one that the definition picks by the same tests.
 use borrow.Author.Needs.{needs}
+use borrow.Author.Tests.{le-leb, lt-leb}
 use Rattle.split.proofs.groups.choose_axis.Statement.{statement}
 use Rattle.split.proofs.groups.choose_axis.Tie as tie
 use mathlib.Core.Path.{_≡_}
 use mathlib.Core.Logic.{⊎-elim}
 use mathlib.Core.Bool.{false, _&&_, and-false}
 use lib.Dec.{leb}
-use borrow.Author.Tests.{le-leb, lt-leb}
 use Rattle.split.specs.Rule.{nearestAxis}
 use Rattle.split.specs.steps.Groups.{axisBy}
 

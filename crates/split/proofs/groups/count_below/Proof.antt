@@ -1,24 +1,24 @@
 -- `groups::count_below` meets its contract. The loop's invariant: the counts of the rest added to those so far are the whole counts.
+use native.Mathlib.Omega.{arith}
+use borrow.Author.Needs.{needs}
 use Rattle.split.proofs.groups.count_below.Statement.{statement}
 use Rattle.split.proofs.groups.count_below.Tie as tie
 use Prim.Native.Nat.{_+_, _-_}
 use mathlib.Core.Path.{_≡_, ap, _∙_}
 use lib.ListN.{length, getD, drop}
 use lib.Ieee.{lt}
+use Rattle.base.specs.Lists.{oneIf}
+use Rattle.base.proofs.ListLaws.{one-or-none}
 use Rattle.math.specs.declared.vec3.Vec3.{Vec3}
-use Rattle.split.specs.declared.groups.Counts.{Counts}
 use Rattle.math.specs.Vec3s.{addOf, scaleOf}
 use Rattle.math.specs.Transform.{half}
+use Rattle.split.specs.declared.groups.Counts.{Counts}
 use Rattle.split.specs.declared.boxes.Corners.{Corners}
 use Rattle.split.specs.Boxes.{boxAt}
-use Rattle.base.specs.Lists.{oneIf}
 use Rattle.split.specs.Rule.{below}
 use Rattle.split.specs.steps.Groups.{countMore}
 use Rattle.split.proofs.Places.{Pass, begin, taken, finished, next-within}
 use Rattle.split.proofs.Counting.{onto, none, onto-more, onto-none, none-onto, small}
-use Rattle.base.proofs.ListLaws.{one-or-none}
-use native.Mathlib.Omega.{arith}
-use borrow.Author.Needs.{needs}
 
 abbrev Inv-loop : tie.InvT-loop
 Inv-loop entries places avg plain counts₀ i₀ counts i = Pass (onto (boxAt entries) avg) (length entries) places (none (boxAt entries) avg) counts i

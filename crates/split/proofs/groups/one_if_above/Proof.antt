@@ -5,9 +5,9 @@ use Rattle.split.proofs.groups.one_if_above.Tie as tie
 use Prim.Native.Nat.{_+_, _*_}
 use mathlib.Core.Path.{_≡_, sym, ap, _∙_}
 use lib.Ieee.{lt}
+use Rattle.base.specs.Lists.{oneIf}
 use Rattle.math.specs.Vec3s.{_⊕_, _⊗_}
 use Rattle.math.specs.Transform.{half}
-use Rattle.base.specs.Lists.{oneIf}
 use Rattle.split.specs.steps.Groups.{passes}
 
 -- the function's entry, from after the two words are read

@@ -1,15 +1,15 @@
 -- `groups::partition` meets its contract. The loop's invariant: what is stored so far, followed by what the rest gives, is the whole of each group.
+use native.Mathlib.Omega.{arith}
+use borrow.Author.Needs.{needs}
 use Rattle.split.proofs.groups.partition.Statement.{statement}
 use Rattle.split.proofs.groups.partition.Tie as tie
 use Prim.Native.Nat.{_-_}
 use mathlib.Core.Path.{_∙_}
 use lib.ListN.{getD}
-use Rattle.split.specs.Rule.{above}
-use Rattle.split.specs.steps.Groups.{passes}
 use Rattle.base.proofs.WithinLaws.{within-at}
 use Rattle.base.proofs.ListLaws.{one-or-none}
-use native.Mathlib.Omega.{arith}
-use borrow.Author.Needs.{needs}
+use Rattle.split.specs.Rule.{above}
+use Rattle.split.specs.steps.Groups.{passes}
 use Rattle.split.proofs.Parting.{Parting, begin, next-same, turn, parted, passes-above, step-small}
 
 abbrev Inv-loop : tie.InvT-loop

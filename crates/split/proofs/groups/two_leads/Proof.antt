@@ -1,7 +1,7 @@
 -- `groups::two_leads` meets its contract: the sizes of the two groups are those of the parts.
+use borrow.Author.Needs.{needs}
 use Rattle.split.proofs.groups.two_leads.Statement.{statement}
 use Rattle.split.proofs.groups.two_leads.Tie as tie
-use borrow.Author.Needs.{needs}
 use lib.ListN.{length-drop}
 use lib.Seq.{length-take-le}
 use Rattle.split.specs.Rule.{twoLeads}

@@ -1,4 +1,6 @@
 -- `totals::total` meets its contract. The loop's invariant: the rest taken into the totals so far gives those of all.
+use native.Mathlib.Omega.{arith}
+use borrow.Author.Needs.{needs}
 use Rattle.split.proofs.totals.total.Statement.{statement}
 use Rattle.split.proofs.totals.total.Tie as tie
 use Prim.Native.Nat.{_+_, _-_}
@@ -11,8 +13,6 @@ use Rattle.split.specs.Rule.{origin}
 use Rattle.split.specs.steps.Totals.{totalsOf, totalStep}
 use Rattle.split.proofs.TotalLaws.{totalsFrom, all-totals}
 use Rattle.split.proofs.Places.{Pass, begin, taken, finished, next-within}
-use native.Mathlib.Omega.{arith}
-use borrow.Author.Needs.{needs}
 
 abbrev Inv-loop : tie.InvT-loop
 Inv-loop entries places plain t₀ i₀ t i = Pass (totalsFrom (boxAt entries)) (length entries) places (totalsOf startBox origin) t i
