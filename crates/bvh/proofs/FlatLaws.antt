@@ -50,6 +50,6 @@ module _ (b : Builder) (th : ℕ) (ps order first count boxes : List ℕ) (r : �
       }
 
   -- As many records as nodes are room enough.
-  pub grown-scannable : (trees : List ℕ) → 16 * r ≤ length trees → Scannable (take r first) (take r count) boxes trees
-  grown-scannable trees h =
-      record { tree = grow b th ps; flat = grown-flat; room = omega (arith, ranges-few 0 (grow b th ps), g .size-is) }
+  pub grown-scannable : (limit : ℕ) → 0 < limit → (trees : List ℕ) → 16 * r ≤ length trees → Scannable limit (take r first) (take r count) boxes trees
+  grown-scannable limit some trees h =
+      record { limit-some = some; tree = grow b th ps; flat = grown-flat; room = omega (arith, ranges-few limit some 0 (grow b th ps), g .size-is) }

@@ -195,7 +195,14 @@ fn write_tree(
         threshold,
         n,
     );
-    let parts = crate::ranges::put_trees(trees, &first[..m], &count[..m], boxes, scale);
+    let parts = crate::ranges::put_trees(
+        trees,
+        &first[..m],
+        &count[..m],
+        boxes,
+        scale,
+        crate::ranges::RANGE_LIMIT,
+    );
     write_order(order, entries, n, threshold, &places[..k], temp);
     BuiltTree {
         nodes: m,

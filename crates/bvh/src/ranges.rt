@@ -12,6 +12,9 @@ ghost use Rattle.bvh.specs.Flat.{treeSize, Flat, Scannable, TreesPut};
 ghost use Rattle.bvh.specs.Output.{treeRecord};
 ghost use Rattle.bvh.specs.Tree.{Node};
 
+// Rule R14: no range of a build has more nodes.
+pub const RANGE_LIMIT: usize = 127;
+
 // The box of row i.
 pub fn row_box(boxes: &[u32], i: usize) -> BoxWords
     requires { ⌜ 6 * i + 6 ≤ length (now boxes) ⌝ }
@@ -48,22 +51,23 @@ fn tree_size(first: &[u32], count: &[u32], i: usize) -> usize
     }
 }
 
-// The records of the ranges of the tree whose rows the slices hold, and how many they are. From the first row on: a tree over 127 nodes is left for its children, any other is a range, and its rows are passed.
+// The records of the ranges of the tree whose rows the slices hold, and how many they are. From the first row on: a tree over `limit` nodes is left for its children, any other is a range, and its rows are passed.
 pub fn put_trees(
     trees: &mut [u8],
     first: &[u32],
     count: &[u32],
     boxes: &[u32],
     scale: Scale,
+    limit: usize,
 ) -> usize
-    requires { ⌜ Scannable (now first) (now count) (now boxes) (now trees) ⌝ }
-    ensures { λ r. ⌜ ((t : Node) → Flat t (now (first .entry)) (now (count .entry)) (now (boxes .entry)) → TreesPut scale t (now (trees .entry)) (now (trees .exit)) r) ⌝ }
+    requires { ⌜ Scannable limit (now first) (now count) (now boxes) (now trees) ⌝ }
+    ensures { λ r. ⌜ ((t : Node) → Flat t (now (first .entry)) (now (count .entry)) (now (boxes .entry)) → TreesPut limit scale t (now (trees .entry)) (now (trees .exit)) r) ⌝ }
 {
     let mut i = 0;
     let mut k = 0;
     while i < first.len() {
         let size = tree_size(first, count, i);
-        if 127 < size {
+        if limit < size {
             i += 1;
         } else {
             put_range(trees, 16 * k, boxes, i, i + size, scale);

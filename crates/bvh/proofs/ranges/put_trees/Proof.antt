@@ -8,14 +8,14 @@ use Rattle.bvh.proofs.ranges.Scanning.{Going, Turn, start, finish, coun
 use native.Mathlib.Omega.{arith}
 
 abbrev Inv-loop : tie.InvT-loop
-Inv-loop trees₀ first count boxes scale i₀ k₀ trees i k = Going scale first count boxes trees₀ trees i k
+Inv-loop trees₀ first count boxes scale limit i₀ k₀ trees i k = Going limit scale first count boxes trees₀ trees i k
 
 abbrev μ-loop : tie.MeasureT-loop
-μ-loop trees₀ first count boxes scale i₀ k₀ trees i k = length first - i
+μ-loop trees₀ first count boxes scale limit i₀ k₀ trees i k = length first - i
 
 -- what is known before a record is written, and after it
 before-it : (c : tie.After-put-range-arg Inv-loop μ-loop) → Turn (c .before .before .before .before .before .before .before .before .before .args .boxes .now) (c .before .before .before .before .loop .trees) (c .before .before .before .before .loop .i) (c .before .before .before .before .loop .k) (c .before .before .tree-size .result)
-before-it c = turn _ _ _ _ _ _ _ _ _ (c .before .before .before .before .before .before .before .before .before .pre) (c .before .before .before .before .loop .inv) (c .before .before .before .loop-test .taken) (c .before .before .tree-size .ensures) (c .before .if1 .left)
+before-it c = turn _ _ _ _ _ _ _ _ _ _ (c .before .before .before .before .before .before .before .before .before .pre) (c .before .before .before .before .loop .inv) (c .before .before .before .loop-test .taken) (c .before .before .tree-size .ensures) (c .before .if1 .left)
 
 after-it : (c : tie.After-slice-known2 Inv-loop μ-loop) → Turn (c .before .before .before .before .before .before .before .before .before .before .before .before .args .boxes .now) (c .before .before .before .before .before .before .before .loop .trees) (c .before .before .before .before .before .before .before .loop .i) (c .before .before .before .before .before .before .before .loop .k) (c .before .before .before .before .before .tree-size .result)
 after-it c = before-it (c .before .before .before)
@@ -23,10 +23,10 @@ after-it c = before-it (c .before .before .before)
 loop-holds : tie.Need-loop-holds Inv-loop μ-loop
 loop-holds c =
     let a = c .before .before .before .before .args in
-    start (a .scale) (a .first .now) (a .count .now) (a .boxes .now) (a .trees .now)
+    start (a .limit) (a .scale) (a .first .now) (a .count .now) (a .boxes .now) (a .trees .now) (c .before .before .before .before .pre)
 
 tree-size-requires : tie.Need-tree-size-requires Inv-loop μ-loop
-tree-size-requires c κs = omega (arith, counts-number _ _ _ _ (c .before .before .before .before .before .before .pre))
+tree-size-requires c κs = omega (arith, counts-number _ _ _ _ _ (c .before .before .before .before .before .before .pre))
 
 add-i : tie.Need-add-i Inv-loop μ-loop
 add-i c = omega arith
@@ -35,7 +35,7 @@ loop-less : tie.Need-loop-less Inv-loop μ-loop
 loop-less c = omega arith
 
 loop-again : tie.Need-loop-again Inv-loop μ-loop
-loop-again c = pass _ _ _ _ _ _ _ _ _ (c .before .before .before .before .before .before .before .before .pre) (c .before .before .before .loop .inv) (c .before .before .loop-test .taken) (c .before .tree-size .ensures) (c .if1 .taken)
+loop-again c = pass _ _ _ _ _ _ _ _ _ _ (c .before .before .before .before .before .before .before .before .pre) (c .before .before .before .loop .inv) (c .before .before .loop-test .taken) (c .before .tree-size .ensures) (c .if1 .taken)
 
 mul-put-range : tie.Need-mul-put-range Inv-loop μ-loop
 mul-put-range c =
@@ -68,13 +68,13 @@ loop-less-2 c =
     omega arith
 
 loop-again-2 : tie.Need-loop-again-2 Inv-loop μ-loop
-loop-again-2 c = write _ _ _ _ _ _ _ _ _ (c .before .before .before .before .before .before .before .before .before .before .before .before .pre) (c .before .before .before .before .before .before .before .loop .inv) (c .before .before .before .before .before .before .loop-test .taken) (c .before .before .before .before .before .tree-size .ensures) (c .before .before .before .before .if1 .left) _ (c .before .before .put-range .kept .0) (c .before .before .put-range .ensures)
+loop-again-2 c = write _ _ _ _ _ _ _ _ _ _ (c .before .before .before .before .before .before .before .before .before .before .before .before .pre) (c .before .before .before .before .before .before .before .loop .inv) (c .before .before .before .before .before .before .loop-test .taken) (c .before .before .before .before .before .tree-size .ensures) (c .before .before .before .before .if1 .left) _ (c .before .before .put-range .kept .0) (c .before .before .put-range .ensures)
 
 same-length : tie.Need-same-length Inv-loop μ-loop
 same-length c = c .before .loop .inv .same-length
 
 returns : tie.Need-returns Inv-loop μ-loop
-returns c = finish _ _ _ _ _ _ _ _ (c .before .loop .inv) (c .loop-test .left)
+returns c = finish _ _ _ _ _ _ _ _ _ (c .before .loop .inv) (c .loop-test .left)
 
 pub put-trees-spec : {M : Type 1} → statement M
 put-trees-spec =
