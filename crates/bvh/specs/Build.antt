@@ -15,7 +15,7 @@ use Rattle.bvh.specs.declared.core.BuiltTree.{BuiltTree}
 use Rattle.bvh.specs.declared.core.Lengths.{Lengths}
 use Rattle.bvh.specs.Tree.{Node, grow, builder, boxOf, leafOrder, size}
 use Rattle.bvh.specs.Rows.{rows}
-use Rattle.bvh.specs.Ranges.{ranges}
+use Rattle.bvh.specs.Ranges.{ranges, rangeLimit}
 use Rattle.bvh.specs.Output.{over, nodesBytes, padBytes, capacityOf, treesBytes, orderOf}
 
 -- What a build is of: the entries' number, the box at each place, and the places of the present ones.
@@ -43,7 +43,7 @@ builtOf e th t =
     record {
       nodes = size t;
       capacity = capacityOf th (e .number) (size t);
-      trees = length (ranges 0 t);
+      trees = length (ranges rangeLimit 0 t);
       present = length (e .places);
       min = boxOf t .min;
       max = boxOf t .max;
@@ -89,7 +89,7 @@ nodesWritten e th =
 -- Rule R14.
 unfoldable pub treesWritten : Entries → ℕ → List ℕ
 unfolding treeOf
-treesWritten e th = treesBytes (scaleIn (treeOf e th)) (ranges 0 (treeOf e th))
+treesWritten e th = treesBytes (scaleIn (treeOf e th)) (ranges rangeLimit 0 (treeOf e th))
 
 -- Rule R13.
 unfoldable pub orderWritten : Entries → ℕ → List ℕ

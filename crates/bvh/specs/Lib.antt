@@ -1,6 +1,5 @@
 pub mod Build
 pub mod Entry
-pub mod Flat
 pub mod Items
 pub mod Numbers
 pub mod Output

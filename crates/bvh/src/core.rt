@@ -1,5 +1,6 @@
 // The build on plain slices: the checks, the tree in the work buffers, and last the outputs, so that a refusal changes none of them.
 // The work buffer is lent in four parts, since two parts of one slice cannot be lent at once.
+use crate::ranges::RANGE_LIMIT;
 use math::words3::Words3;
 use records::scale::Scale;
 ghost use mathlib.Core.Path.{_≡_};
@@ -164,7 +165,7 @@ fn write_tree(
     let max = all.max;
     let scale = records::scale::scale_of(min, max);
     let capacity = write_nodes(node_bytes, rows, m, &places[..k], scale, task);
-    let parts = crate::ranges::put_trees(tree_bytes, rows, m, scale);
+    let parts = crate::ranges::put_trees(tree_bytes, rows, m, scale, RANGE_LIMIT);
     write_order(order, entries, &places[..k], temp, task);
     BuiltTree {
         nodes: m,

@@ -9,10 +9,13 @@ ghost use mathlib.Core.List.{_++_};
 ghost use Prim.Native.Nat.{_+_, _*_, _≤_, _<_};
 ghost use lib.ListN.{length, take, drop};
 ghost use Rattle.records.specs.Records.{treeBytes};
-ghost use Rattle.bvh.specs.Flat.{treeSize, Flat, Scannable, TreesPut};
+ghost use Rattle.bvh.specs.steps.Flat.{treeSize, Flat, Scannable, TreesPut};
 ghost use Rattle.bvh.specs.Output.{treeRecord};
 ghost use Rattle.bvh.specs.Tree.{Node};
 ghost use Rattle.bvh.specs.steps.Table.{rowAt};
+
+// Rule R14: no range of a build has more nodes.
+pub const RANGE_LIMIT: usize = 127;
 
 // The record of the tree at row `first`, whose nodes end before `last`.
 fn put_range(tree_bytes: &mut [u8], at: usize, rows: &[u32], first: usize, last: usize, scale: Scale)
@@ -45,17 +48,18 @@ fn tree_size(rows: &[u32], i: usize) -> usize
     }
 }
 
-// The records of the ranges of the tree whose m rows the table holds, and how many they are. From the first row on: a tree over 127 nodes is
-// left for its children, any other is a range, and its rows are passed.
-pub fn put_trees(tree_bytes: &mut [u8], rows: &[u32], m: usize, scale: Scale) -> usize
-    requires { ⌜ Scannable m (now rows) (now «tree_bytes») ⌝ }
-    ensures { λ r. ⌜ ((t : Node) → Flat t m (now (rows .entry)) → TreesPut scale t (now («tree_bytes» .entry)) (now («tree_bytes» .exit)) r) ⌝ }
+// The records of the ranges of the tree whose m rows the table holds, and how many they are. From the first row on: a tree over `limit` nodes
+// is left for its children, any other is a range, and its rows are passed.
+pub fn put_trees(tree_bytes: &mut [u8], rows: &[u32], m: usize, scale: Scale, limit: usize) -> usize
+    requires { ⌜ Scannable limit m (now rows) (now «tree_bytes») ⌝ }
+    ensures { λ r. ⌜ ((t : Node) → Flat t m (now (rows .entry))
+        → TreesPut limit scale t (now («tree_bytes» .entry)) (now («tree_bytes» .exit)) r) ⌝ }
 {
     let mut i = 0;
     let mut k = 0;
     while i < m {
         let size = tree_size(rows, i);
-        if 127 < size {
+        if limit < size {
             i += 1;
         } else {
             put_range(tree_bytes, 16 * k, rows, i, i + size, scale);

@@ -17,9 +17,9 @@ use Rattle.bvh.specs.Build.{scaleIn, treeOf, nodesWritten, treesWritten,
 use Rattle.bvh.specs.Core.{NodesWritten, Writable, Written}
 use Rattle.bvh.specs.Decode.{marked, rowsIn, Below, RowsFit, SmallRows}
 use Rattle.bvh.specs.Entry.{entriesIn}
-use Rattle.bvh.specs.Flat.{Flat, Scannable, TreesPut}
+use Rattle.bvh.specs.steps.Flat.{Flat, Scannable, TreesPut}
 use Rattle.bvh.specs.Output.{over, nodesBytes, padBytes, capacityOf, treesBytes, orderOf}
-use Rattle.bvh.specs.Ranges.{ranges}
+use Rattle.bvh.specs.Ranges.{ranges, rangeLimit}
 use Rattle.bvh.specs.Rows.{rows, rowBox, words, counts}
 use Rattle.bvh.specs.Tree.{Node, leaf, inner, Builder, builder, grow, boxOf, leafOrder, size}
 use Rattle.bvh.proofs.EmitLaws.{padded, length-nodes}
@@ -131,12 +131,12 @@ module _ (n th : ℕ) (p : Planted) (entries places temp first count boxes nodes
   pub flat : Flat t (take (p .nodes) first) (take (p .nodes) count) boxes
   flat = grown-flat by th marks (take (p .present) places) first count boxes (p .nodes) (w .planted .grown) (grow-filled by th marks (grow-full by (lawful (boxAt entries)) th (w .threshold) marks)) (w .nodes-few)
 
-  pub scannable : Scannable (take (p .nodes) first) (take (p .nodes) count) boxes trees
-  scannable = grown-scannable by th marks (take (p .present) places) first count boxes (p .nodes) (w .planted .grown) (grow-filled by th marks (grow-full by (lawful (boxAt entries)) th (w .threshold) marks)) (w .nodes-few) trees (omega (arith, size-most, w .trees-room))
+  pub scannable : Scannable rangeLimit (take (p .nodes) first) (take (p .nodes) count) boxes trees
+  scannable = grown-scannable by th marks (take (p .present) places) first count boxes (p .nodes) (w .planted .grown) (grow-filled by th marks (grow-full by (lawful (boxAt entries)) th (w .threshold) marks)) (w .nodes-few) rangeLimit (omega arith) trees (omega (arith, size-most, w .trees-room))
 
   pub written : (all : BoxWords) (s : Scale) (cap parts : ℕ) (nodes′ trees′ order′ : List ℕ) → all ≡ rowBox boxes 0 → s ≡ scaleOfBox (all .min) (all .max)
       → NodesWritten s th n (take (p .nodes) first) (take (p .nodes) count) boxes (take (p .present) places) nodes nodes′ cap
-      → ((t : Node) → Flat t (take (p .nodes) first) (take (p .nodes) count) boxes → TreesPut s t trees trees′ parts)
+      → ((t : Node) → Flat t (take (p .nodes) first) (take (p .nodes) count) boxes → TreesPut rangeLimit s t trees trees′ parts)
       → order′ ≡ over (orderOf th (marked 0 n entries) (take (p .present) places)) order
       → Written (entriesIn n entries) th (record { nodes = p .nodes; capacity = cap; trees = parts; present = p .present; min = all .min; max = all .max; scale = s }) nodes trees order nodes′ trees′ order′
   unfolding entriesIn treeOf nodesWritten treesWritten orderWritten
@@ -146,10 +146,10 @@ module _ (n th : ℕ) (p : Planted) (entries places temp first count boxes nodes
       let long : length (take (p .nodes) first) ≡ size t = heads-long ∙ w .planted .grown .size-is in
       let cap-is : cap ≡ capacityOf th n (size t) = wn .capacity-is ∙ ap (capacityOf th n) long in
       let leaves-are : take (p .present) places ≡ leafOrder t = w .planted .grown .order-is in
-      let put : TreesPut s t trees trees′ parts = wt t flat in
+      let put : TreesPut rangeLimit s t trees trees′ parts = wt t flat in
       record {
         built = λ i. record { nodes = w .planted .grown .size-is i; capacity = cap-is i; trees = put .number-is i; present = w .planted .present-is i; min = box-is i .min; max = box-is i .max; scale = scale-is i };
         nodes-are = wn .bytes-are ∙ (λ i. over (nodesBytes (scale-is i) th (leaves-are i) (rows-are i) ++ padBytes (cap-is i - long i)) nodes);
-        trees-are = put .bytes-are ∙ ap (λ (u : Scale). over (treesBytes u (ranges 0 t)) trees) scale-is;
+        trees-are = put .bytes-are ∙ ap (λ (u : Scale). over (treesBytes u (ranges rangeLimit 0 t)) trees) scale-is;
         order-is = wo ∙ ap (λ (l : List ℕ). over (orderOf th marks l) order) leaves-are;
       }

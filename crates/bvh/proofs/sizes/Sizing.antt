@@ -8,7 +8,7 @@ use mathlib.Core.Path.{_≡_, refl, sym, ap, ap₂, _∙_}
 use lib.Dec.{eqb}
 use lib.ListN.{length, getD}
 use borrow.Author.Tests.{ne-eqb}
-use Rattle.bvh.specs.Flat.{Full}
+use Rattle.bvh.specs.steps.Flat.{Full}
 use Rattle.bvh.specs.Rows.{Row, rows}
 use Rattle.bvh.specs.Tree.{Node, leaf, inner, leafOrder, size}
 use Rattle.bvh.specs.steps.Sizes.{bareRows, sizeAt, sized}

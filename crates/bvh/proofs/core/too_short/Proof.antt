@@ -1,64 +1,93 @@
+-- `core::too_short` meets its contract: the tests are the definition's, in its order.
 use borrow.Author.Needs.{needs}
 use Rattle.bvh.proofs.core.too_short.Statement.{statement}
 use Rattle.bvh.proofs.core.too_short.Tie as tie
-use Rattle.bvh.proofs.core.too_short.Reads as reads
-use Rattle.bvh.proofs.core.too_short.Lts as lts
+use borrow.Author.Tests.{lt-ltb, le-ltb}
 
--- src/core.rt:67:16
 mul-rows : tie.Need-mul-rows
 mul-rows c = search needs
 
--- src/core.rt:67:16
 add-rows : tie.Need-add-rows
 add-rows c = search needs
 
--- src/core.rt:68:18
 mul-if1 : tie.Need-mul-if1
 mul-if1 c = search needs
 
--- src/core.rt:69:9
 returns : tie.Need-returns
-returns c = ?
+returns c = rw (lt-ltb _ _ (c .if1 .taken))
 
--- src/core.rt:71:18
 mul-if2 : tie.Need-mul-if2
 mul-if2 c = search needs
 
--- src/core.rt:72:9
 returns-2 : tie.Need-returns-2
-returns-2 c = ?
+returns-2 c =
+    let c₁ = c .before .before in
+    rw (le-ltb _ _ (c₁ .if1 .left), lt-ltb _ _ (c .if2 .taken))
 
--- src/core.rt:75:9
 returns-3 : tie.Need-returns-3
-returns-3 c = ?
+returns-3 c =
+    let c₂ = c .before .before in
+    let c₁ = c₂ .before .before in
+    rw (le-ltb _ _ (c₁ .if1 .left), le-ltb _ _ (c₂ .if2 .left), lt-ltb _ _ (c .if3 .taken))
 
--- src/core.rt:77:20
 mul-if4 : tie.Need-mul-if4
 mul-if4 c = search needs
 
--- src/core.rt:78:9
 returns-4 : tie.Need-returns-4
-returns-4 c = ?
+returns-4 c =
+    let c₃ = c .before .before in
+    let c₂ = c₃ .before .before in
+    let c₁ = c₂ .before .before in
+    rw (le-ltb _ _ (c₁ .if1 .left), le-ltb _ _ (c₂ .if2 .left), le-ltb _ _ (c₃ .if3 .left), lt-ltb _ _ (c .if4 .taken))
 
--- src/core.rt:81:9
 returns-5 : tie.Need-returns-5
-returns-5 c = ?
+returns-5 c =
+    let c₄ = c .before .before in
+    let c₃ = c₄ .before .before in
+    let c₂ = c₃ .before .before in
+    let c₁ = c₂ .before .before in
+    rw
+    (le-ltb _ _ (c₁ .if1 .left), le-ltb _ _ (c₂ .if2 .left),
+    le-ltb _ _ (c₃ .if3 .left), le-ltb _ _ (c₄ .if4 .left), lt-ltb _ _ (c .if5 .taken))
 
--- src/core.rt:84:9
 returns-6 : tie.Need-returns-6
-returns-6 c = ?
+returns-6 c =
+    let c₅ = c .before .before in
+    let c₄ = c₅ .before .before in
+    let c₃ = c₄ .before .before in
+    let c₂ = c₃ .before .before in
+    let c₁ = c₂ .before .before in
+    rw
+    (le-ltb _ _ (c₁ .if1 .left), le-ltb _ _ (c₂ .if2 .left), le-ltb _ _ (c₃ .if3 .left),
+    le-ltb _ _ (c₄ .if4 .left), le-ltb _ _ (c₅ .if5 .left), lt-ltb _ _ (c .if6 .taken))
 
--- src/core.rt:87:9
 returns-7 : tie.Need-returns-7
-returns-7 c = ?
+returns-7 c =
+    let c₆ = c .before .before in
+    let c₅ = c₆ .before .before in
+    let c₄ = c₅ .before .before in
+    let c₃ = c₄ .before .before in
+    let c₂ = c₃ .before .before in
+    let c₁ = c₂ .before .before in
+    rw
+    (le-ltb _ _ (c₁ .if1 .left), le-ltb _ _ (c₂ .if2 .left), le-ltb _ _ (c₃ .if3 .left),
+    le-ltb _ _ (c₄ .if4 .left), le-ltb _ _ (c₅ .if5 .left), le-ltb _ _ (c₆ .if6 .left), lt-ltb _ _ (c .if7 .taken))
 
--- src/core.rt:89:14
 mul-result : tie.Need-mul-result
 mul-result c = search needs
 
--- src/core.rt:63:1
 returns-8 : tie.Need-returns-8
-returns-8 c = ?
+returns-8 c =
+    let c₇ = c .before in
+    let c₆ = c₇ .before .before in
+    let c₅ = c₆ .before .before in
+    let c₄ = c₅ .before .before in
+    let c₃ = c₄ .before .before in
+    let c₂ = c₃ .before .before in
+    let c₁ = c₂ .before .before in
+    rw
+    (le-ltb _ _ (c₁ .if1 .left), le-ltb _ _ (c₂ .if2 .left), le-ltb _ _ (c₃ .if3 .left),
+    le-ltb _ _ (c₄ .if4 .left), le-ltb _ _ (c₅ .if5 .left), le-ltb _ _ (c₆ .if6 .left), le-ltb _ _ (c₇ .if7 .left))
 
 pub too-short-spec : {M : Type 1} → statement M
 too-short-spec =

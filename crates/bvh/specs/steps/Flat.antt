@@ -33,13 +33,14 @@ pub record Flat (t : Node) (m : ℕ) (table : List ℕ) : Type 0 where
   pub filled : Filled t
   pub few : size t ≤ 32767
 
--- What the scan for ranges asks: the rows of some tree, and room for its ranges' records.
-pub record Scannable (m : ℕ) (table trees : List ℕ) : Type 0 where
+-- What the scan for ranges asks: a limit from 1 on, the rows of some tree, and room for its ranges' records.
+pub record Scannable (limit m : ℕ) (table trees : List ℕ) : Type 0 where
+  pub limit-some : 0 < limit
   pub tree : Node
   pub flat : Flat tree m table
-  pub room : 16 * length (ranges 0 tree) ≤ length trees
+  pub room : 16 * length (ranges limit 0 tree) ≤ length trees
 
 -- What it leaves: the records of the ranges of t, r of them, before what there was.
-pub record TreesPut (scale : Scale) (t : Node) (trees trees′ : List ℕ) (r : ℕ) : Type 0 where
-  pub bytes-are : trees′ ≡ over (treesBytes scale (ranges 0 t)) trees
-  pub number-is : r ≡ length (ranges 0 t)
+pub record TreesPut (limit : ℕ) (scale : Scale) (t : Node) (trees trees′ : List ℕ) (r : ℕ) : Type 0 where
+  pub bytes-are : trees′ ≡ over (treesBytes scale (ranges limit 0 t)) trees
+  pub number-is : r ≡ length (ranges limit 0 t)
