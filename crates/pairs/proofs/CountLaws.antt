@@ -34,7 +34,8 @@ count-most test (suc n) = omega (arith, count-most test n, one-most (test n))
 
 -- One more place is counted.
 counted : (test : ℕ → Bool) (n : ℕ) {x y : ℕ} {b : Bool} → x ≡ countOf test n → b ≡ test n → y ≡ x + oneIf b → y ≡ countOf test (n + 1)
-counted test n {x} {y} {b} before now e = e ∙ ap (λ (k : Bool). x + oneIf k) now ∙ ap (λ (k : ℕ). k + oneIf (test n)) before ∙ sym (ap (countOf test) (add-one n))
+counted test n {x} {y} {b} before now e =
+    e ∙ ap (λ (k : Bool). x + oneIf k) now ∙ ap (λ (k : ℕ). k + oneIf (test n)) before ∙ sym (ap (countOf test) (add-one n))
 
 module _ (words : List ℕ) (query : Aabb) (seen : List ℕ) where
   pub compared-none : Compared words query seen 0 (record { meeting = 0; missed = 0; stray = 0 })
@@ -52,7 +53,11 @@ module _ (words : List ℕ) (query : Aabb) (seen : List ℕ) where
   pub few-stray : (n : ℕ) (m : Met) → Compared words query seen n m → m .stray ≤ n
   few-stray n m h = omega (arith, h .stray-is, count-most (strayAt words seen) n)
 
-  pub compared-next : (n : ℕ) (m r : Met) {present meets handed missed stray : Bool} → Compared words query seen n m → present ≡ presentAt words n → meets ≡ meetsAt words query n → handed ≡ seenAt seen n → missed ≡ (meets && not handed) → stray ≡ (handed && not present) → r .meeting ≡ m .meeting + oneIf meets → r .missed ≡ m .missed + oneIf missed → r .stray ≡ m .stray + oneIf stray → Compared words query seen (n + 1) r
+  pub compared-next : (n : ℕ) (m r : Met) {present meets handed missed stray : Bool} → Compared words query seen n m
+      → present ≡ presentAt words n → meets ≡ meetsAt words query n → handed ≡ seenAt seen n
+      → missed ≡ (meets && not handed) → stray ≡ (handed && not present)
+      → r .meeting ≡ m .meeting + oneIf meets → r .missed ≡ m .missed + oneIf missed → r .stray ≡ m .stray + oneIf stray
+      → Compared words query seen (n + 1) r
   compared-next n m r h p q s e f x y z =
       record {
         meeting-is = counted (meetsAt words query) n (h .meeting-is) q x;

@@ -9,7 +9,8 @@ use walk::core::Counts;
 use walk::core::Walk;
 ghost use Prim.Native.Nat.{_≤_};
 
-// What the answer to a query comes to. It fails where an item that meets is missed, an item comes twice or is not present, or more records are read than there are.
+// What the answer to a query comes to. It fails where an item that meets is missed, an item comes twice or is not present, or more
+// records are read than there are.
 fn verdict(
     list: &[u32; 4900],
     query: Aabb,

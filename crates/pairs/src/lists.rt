@@ -110,7 +110,8 @@ fn of(seed: u32, entries: usize, absent: u32, span: u32, depth: u32, side: u32, 
     }
 }
 
-// List 0 is empty, 4 has one point 64 times, 5 points of which many are equal, 6 only absent entries, 7 boxes that start on a plane; from 7 on the tree has several ranges.
+// List 0 is empty, 4 has one point 64 times, 5 points of which many are equal, 6 only absent entries, 7 boxes that start on a plane;
+// from 7 on the tree has several ranges.
 pub fn shape(number: u32) -> Shape
     ensures { λ r. ⌜ r .entries ≤ 700 ⌝ }
 {

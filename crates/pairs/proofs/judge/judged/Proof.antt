@@ -37,7 +37,13 @@ plus-if-requires-3 : tie.Need-plus-if-requires-3
 plus-if-requires-3 c κs = omega (arith, few-stray _ _ _ _ _ (c .before .before .before .before .before .before .before .pre .1))
 
 returns : tie.Need-returns
-returns c = compared-next _ _ _ _ _ _ (c .before .before .before .before .before .before .before .before .pre .1) (c .before .before .before .before .before .before .before .is-present .ensures) (c .before .before .before .before .before .before .meets-at .ensures) (c .before .before .before .before .before .is-seen .ensures) (c .before .before .before .before .and-not .ensures) (c .before .before .before .and-not2 .ensures) (c .before .before .plus-if .ensures) (c .before .plus-if2 .ensures) (c .plus-if3 .ensures)
+returns c =
+    let tests = c .before .before .before in
+    let asked = tests .before .before in
+    compared-next _ _ _ _ _ _ (asked .before .before .before .pre .1)
+    (asked .before .before .is-present .ensures) (asked .before .meets-at .ensures) (asked .is-seen .ensures)
+    (tests .before .and-not .ensures) (tests .and-not2 .ensures)
+    (c .before .before .plus-if .ensures) (c .before .plus-if2 .ensures) (c .plus-if3 .ensures)
 
 pub judged-spec : {M : Type 1} → statement M
 judged-spec =

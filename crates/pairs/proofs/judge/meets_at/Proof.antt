@@ -24,7 +24,10 @@ meets-box-requires c κs = search needs
 
 returns : tie.Need-returns
 unfolding meetsAt
-returns c = c .meets-box .ensures ∙ ap (λ (b : Aabb). meetsBox b (c .before .before .before .before .args .query)) (c .before .box-of .ensures) ∙ and-yes _ (sym (c .before .before .before .is-present .ensures) ∙ c .before .before .if1 .taken)
+returns c =
+    let marked = c .before .before .before in
+    let box-is = ap (λ (b : Aabb). meetsBox b (marked .before .args .query)) (c .before .box-of .ensures) in
+    c .meets-box .ensures ∙ box-is ∙ and-yes _ (sym (marked .is-present .ensures) ∙ c .before .before .if1 .taken)
 
 returns-2 : tie.Need-returns-2
 unfolding meetsAt
