@@ -21,7 +21,8 @@ fn put_records(
     trees: &[u8],
     parts: usize,
 ) -> usize
-    requires { ⌜ (68760 ≤ length (now out)) × (16 * count ≤ length (now nodes)) × (16 * parts ≤ length (now trees)) × (count ≤ 513) × (capacity ≤ 513) × (parts ≤ 513) ⌝ }
+    requires { ⌜ (68760 ≤ length (now out)) × (16 * count ≤ length (now nodes)) × (16 * parts ≤ length (now trees))
+        × (count ≤ 513) × (capacity ≤ 513) × (parts ≤ 513) ⌝ }
     ensures { λ r. ⌜ Put 68760 (recordsText (now (nodes .entry)) count capacity (now (trees .entry)) parts) (now (out .entry)) 0 (now (out .exit)) r ⌝ }
 {
     let first_node = put_counts(out, 0, count, capacity);

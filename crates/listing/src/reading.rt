@@ -51,7 +51,8 @@ fn child_box(bytes: &[u8], at: usize) -> BoxWords
 // Record i as entry i, which is present.
 fn put_child(words: &mut [u32], bytes: &[u8], i: usize)
     requires { ⌜ (7 * i + 7 ≤ length (now words)) × (32 * i + 32 ≤ length (now bytes)) ⌝ }
-    ensures { λ _. ⌜ now (words .exit) ≡ take (7 * i) (now (words .entry)) ++ (1 ∷ boxWords (childBox (now (bytes .entry)) (32 * i)) ++ drop (7 * i + 7) (now (words .entry))) ⌝ }
+    ensures { λ _. ⌜ now (words .exit) ≡ take (7 * i) (now (words .entry))
+        ++ (1 ∷ boxWords (childBox (now (bytes .entry)) (32 * i)) ++ drop (7 * i + 7) (now (words .entry))) ⌝ }
 {
     let at = 7 * i;
     words[at] = 1;

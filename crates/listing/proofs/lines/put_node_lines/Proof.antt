@@ -21,7 +21,9 @@ abbrev lineOf : List ℕ → ℕ → List ℕ
 lineOf bytes i = nodeLine i (nodeAt bytes (16 * i))
 
 loop-holds : tie.Need-loop-holds Inv-loop μ-loop
-loop-holds c = no-line (lineOf (c .before .before .args .nodes .now)) (c .before .before .args .out .now) (c .before .before .args .at) (c .before .before .args .count)
+loop-holds c =
+    let a = c .before .before .args in
+    no-line (lineOf (a .nodes .now)) (a .out .now) (a .at) (a .count)
 
 mul-node-at : tie.Need-mul-node-at Inv-loop μ-loop
 mul-node-at c = omega arith
@@ -30,7 +32,10 @@ node-at-requires : tie.Need-node-at-requires Inv-loop μ-loop
 node-at-requires c κs = omega arith
 
 put-node-line-requires : tie.Need-put-node-line-requires Inv-loop μ-loop
-put-node-line-requires c κs = (line-room (lineOf (c .before .before .before .before .before .before .args .nodes .now)) (c .before .before .before .loop .inv) (omega arith) (omega arith), omega arith)
+put-node-line-requires c κs =
+    let turn = c .before .before .before in
+    let records = turn .before .before .before .args .nodes .now in
+    (line-room (lineOf records) (turn .loop .inv) (omega arith) (omega arith), omega arith)
 
 add-i : tie.Need-add-i Inv-loop μ-loop
 add-i c = omega arith

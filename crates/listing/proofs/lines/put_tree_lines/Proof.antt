@@ -21,7 +21,9 @@ abbrev lineOf : List ℕ → ℕ → List ℕ
 lineOf bytes i = treeLine i (treeAt bytes (16 * i))
 
 loop-holds : tie.Need-loop-holds Inv-loop μ-loop
-loop-holds c = no-line (lineOf (c .before .before .args .trees .now)) (c .before .before .args .out .now) (c .before .before .args .at) (c .before .before .args .count)
+loop-holds c =
+    let a = c .before .before .args in
+    no-line (lineOf (a .trees .now)) (a .out .now) (a .at) (a .count)
 
 mul-tree-at : tie.Need-mul-tree-at Inv-loop μ-loop
 mul-tree-at c = omega arith
@@ -30,7 +32,10 @@ tree-at-requires : tie.Need-tree-at-requires Inv-loop μ-loop
 tree-at-requires c κs = omega arith
 
 put-tree-line-requires : tie.Need-put-tree-line-requires Inv-loop μ-loop
-put-tree-line-requires c κs = (line-room (lineOf (c .before .before .before .before .before .before .args .trees .now)) (c .before .before .before .loop .inv) (omega arith) (omega arith), omega arith)
+put-tree-line-requires c κs =
+    let turn = c .before .before .before in
+    let records = turn .before .before .before .args .trees .now in
+    (line-room (lineOf records) (turn .loop .inv) (omega arith) (omega arith), omega arith)
 
 add-i : tie.Need-add-i Inv-loop μ-loop
 add-i c = omega arith

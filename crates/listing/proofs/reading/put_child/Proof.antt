@@ -42,7 +42,8 @@ returns c =
     let words = a .words .now in
     let at = 7 * a .i in
     c .before .before .put-box .ensures
-    ∙ ap (λ (b : BoxWords). take (at + 1) (set words at 1) ++ (boxWords b ++ drop (at + 1 + 6) (set words at 1))) (c .before .before .before .child-box .ensures)
+    ∙ ap (λ (b : BoxWords). take (at + 1) (set words at 1) ++ (boxWords b ++ drop (at + 1 + 6) (set words at 1)))
+    (c .before .before .before .child-box .ensures)
     ∙ mark-then-box words (boxWords (childBox (a .bytes .now) (32 * a .i))) at 1 (omega arith)
 
 pub put-child-spec : {M : Type 1} → statement M

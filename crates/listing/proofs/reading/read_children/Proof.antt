@@ -27,7 +27,8 @@ loop-again : tie.Need-loop-again Inv-loop μ-loop
 loop-again c =
     let a = c .before .before .before .before .before .before .before .before .args in
     let l = c .before .before .before .before .before .loop in
-    child-next (a .bytes .now) (a .words .now) (l .words) _ (l .i) (a .n) (l .inv) (omega arith) (c .before .before .put-child .kept .0) (c .before .before .put-child .ensures)
+    let put = c .before .before .put-child in
+    child-next (a .bytes .now) (a .words .now) (l .words) _ (l .i) (a .n) (l .inv) (omega arith) (put .kept .0) (put .ensures)
 
 same-length : tie.Need-same-length Inv-loop μ-loop
 same-length c = c .before .loop .inv .same
