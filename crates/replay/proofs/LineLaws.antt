@@ -1,7 +1,7 @@
 -- A line: two digits that name the operation, then its words. Assumes nothing.
-use mathlib.Core.Path.{_≡_, refl, sym, ap, ap₂, _∙_}
+use mathlib.Core.Path.{_≡_, sym, ap, ap₂, _∙_}
 use mathlib.Core.List.{List, _++_}
-use Prim.Native.Nat.{ℕ, _+_, _*_, _^_, _<_, _≤_}
+use Prim.Native.Nat.{ℕ, _+_, _*_, _^_, _<_}
 use native.Mathlib.Omega.{arith}
 use lib.ListN.{length, take, drop, length-append, take-append-drop}
 use lib.Seq.{take-at, drop-at}
@@ -10,7 +10,7 @@ use Rattle.replay.specs.Lines.{fieldsOf, lineOf}
 use Rattle.replay.specs.Operations.{numberOf}
 use Rattle.replay.specs.declared.operation.Operation.{Operation}
 use Rattle.replay.proofs.FieldLaws.{length-fields}
-use Rattle.replay.proofs.Numbering.{between, number-injective}
+use Rattle.replay.proofs.Numbering.{between}
 use Rattle.replay.proofs.Spelling.{length-digits, digits-injective}
 
 pub line-length : (op : Operation) (ws : List ℕ) → length (lineOf op ws) ≡ 2 + 9 * length ws

@@ -8,11 +8,8 @@ use Rattle.replay.specs.Lines.{countOf}
 use Rattle.replay.specs.Operations.{numberOf}
 use Rattle.replay.specs.declared.operation.Operation.{Operation}
 use Rattle.replay.specs.declared.operation.Operation.the-variants as Op
-use Rattle.replay.specs.declared.operation.WordStep.{WordStep}
 use Rattle.replay.specs.declared.operation.WordStep.the-variants as W
-use Rattle.replay.specs.declared.operation.PairStep.{PairStep}
 use Rattle.replay.specs.declared.operation.PairStep.the-variants as P
-use Rattle.replay.specs.declared.operation.PointsStep.{PointsStep}
 use Rattle.replay.specs.declared.operation.PointsStep.the-variants as Vs
 
 pub record Between (n : ℕ) : Type 0 where

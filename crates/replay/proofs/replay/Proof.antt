@@ -5,11 +5,6 @@ use mathlib.Core.Path.{_≡_}
 use lib.ListN.{length}
 use Rattle.replay.proofs.replay.Statement.{statement}
 use Rattle.replay.proofs.replay.Tie as tie
-use Rattle.replay.proofs.replay.Reads as reads
-use Rattle.replay.proofs.replay.Lts as lts
-use Rattle.replay.proofs.after.Reads as after-reads
-use Rattle.replay.proofs.tally.finish.Reads as finish-reads
-use Rattle.replay.proofs.turn.Reads as turn-reads
 
 abbrev Inv-loop : tie.InvT-loop
 Inv-loop cases₀ misses₀ line₀ at₀ turns₀ cases misses line at turns =

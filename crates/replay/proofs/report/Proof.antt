@@ -1,13 +1,7 @@
 -- `report` is safe and ends: i counts the operations up to 21.
 use Rattle.replay.proofs.report.Statement.{statement}
 use Rattle.replay.proofs.report.Tie as tie
-use Rattle.replay.proofs.report.Reads as reads
-use Rattle.replay.proofs.report.Lts as lts
-use Rattle.replay.proofs.print_operation.Reads as print-operation-reads
-use Rattle.replay.proofs.print_total.Reads as print-total-reads
-use Rattle.replay.proofs.tally.total.Reads as total-reads
 use Prim.Native.Nat.{_-_, _≤_}
-use native.Mathlib.Omega.{arith}
 use borrow.Author.Needs.{needs}
 
 abbrev Inv-loop : tie.InvT-loop

@@ -1,13 +1,6 @@
 -- `ask::ask_all` is safe and ends: k counts the queries.
 use Rattle.pairs.proofs.ask.ask_all.Statement.{statement}
 use Rattle.pairs.proofs.ask.ask_all.Tie as tie
-use Rattle.pairs.proofs.ask.ask_all.Reads as reads
-use Rattle.pairs.proofs.ask.ask_all.Lts as lts
-use Rattle.pairs.proofs.ask.ask.Reads as ask-reads
-use Rattle.pairs.proofs.draw.three_on.Reads as three-on-reads
-use Rattle.pairs.proofs.queries.query.Reads as query-reads
-use Rattle.pairs.proofs.tally.Tally.and.Reads as and-reads
-use Rattle.pairs.proofs.tally.Tally.none.Reads as none-reads
 use Prim.Native.Nat.{_-_, _≤_}
 use borrow.Author.Needs.{needs}
 

@@ -2,8 +2,6 @@
 use borrow.Author.Needs.{needs}
 use Rattle.pairs.proofs.draw.below.Statement.{statement}
 use Rattle.pairs.proofs.draw.below.Tie as tie
-use Rattle.pairs.proofs.draw.below.Reads as reads
-use Rattle.pairs.proofs.draw.below.Lts as lts
 use native.Mathlib.Nat.{mod-le}
 use Prim.Native.Nat.{_/_}
 use native.Mathlib.Omega.{arith}

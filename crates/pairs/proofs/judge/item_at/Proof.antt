@@ -2,9 +2,6 @@
 use borrow.Author.Needs.{needs}
 use Rattle.pairs.proofs.judge.item_at.Statement.{statement}
 use Rattle.pairs.proofs.judge.item_at.Tie as tie
-use Rattle.pairs.proofs.judge.item_at.Reads as reads
-use Rattle.pairs.proofs.judge.item_at.Lts as lts
-use Rattle.pairs.proofs.judge.wide.Reads as wide-reads
 use borrow.Author.Tests.{eq-eqb, ne-eqb}
 
 mul-wide : tie.Need-mul-wide

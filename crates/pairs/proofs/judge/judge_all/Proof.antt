@@ -1,9 +1,6 @@
 -- `judge::judge_all` meets its contract: the first i places are compared.
 use Rattle.pairs.proofs.judge.judge_all.Statement.{statement}
 use Rattle.pairs.proofs.judge.judge_all.Tie as tie
-use Rattle.pairs.proofs.judge.judge_all.Reads as reads
-use Rattle.pairs.proofs.judge.judge_all.Lts as lts
-use Rattle.pairs.proofs.judge.judged.Reads as judged-reads
 use Prim.Native.Nat.{_-_, _≤_}
 use Rattle.pairs.specs.Judging.{Compared}
 use Rattle.pairs.proofs.CountLaws.{compared-none, compared-at}

@@ -2,13 +2,6 @@
 use borrow.Author.Needs.{needs}
 use Rattle.pairs.proofs.judge.judged.Statement.{statement}
 use Rattle.pairs.proofs.judge.judged.Tie as tie
-use Rattle.pairs.proofs.judge.judged.Reads as reads
-use Rattle.pairs.proofs.judge.judged.Lts as lts
-use Rattle.pairs.proofs.judge.and_not.Reads as and-not-reads
-use Rattle.pairs.proofs.judge.is_seen.Reads as is-seen-reads
-use Rattle.pairs.proofs.judge.meets_at.Reads as meets-at-reads
-use Rattle.pairs.proofs.judge.plus_if.Reads as plus-if-reads
-use Rattle.pairs.proofs.lists.is_present.Reads as is-present-reads
 use Rattle.pairs.proofs.CountLaws.{few-meeting, few-missed, few-stray, compared-next}
 use native.Mathlib.Omega.{arith}
 

@@ -1,12 +1,6 @@
 -- `judge::mark_all` is safe and ends: i counts the positions.
 use Rattle.pairs.proofs.judge.mark_all.Statement.{statement}
 use Rattle.pairs.proofs.judge.mark_all.Tie as tie
-use Rattle.pairs.proofs.judge.mark_all.Reads as reads
-use Rattle.pairs.proofs.judge.mark_all.Lts as lts
-use Rattle.pairs.proofs.judge.item_handed.Reads as item-handed-reads
-use Rattle.pairs.proofs.judge.mark.Reads as mark-reads
-use Rattle.pairs.proofs.judge.wide.Reads as wide-reads
-use Rattle.std.proofs.num.wrapping_add_u64.Reads as wrapping-add-u64-reads
 use Prim.Native.Nat.{_-_, _≤_}
 use borrow.Author.Needs.{needs}
 

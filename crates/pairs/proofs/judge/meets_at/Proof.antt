@@ -2,11 +2,6 @@
 use borrow.Author.Needs.{needs}
 use Rattle.pairs.proofs.judge.meets_at.Statement.{statement}
 use Rattle.pairs.proofs.judge.meets_at.Tie as tie
-use Rattle.pairs.proofs.judge.meets_at.Reads as reads
-use Rattle.pairs.proofs.judge.meets_at.Lts as lts
-use Rattle.pairs.proofs.lists.box_of.Reads as box-of-reads
-use Rattle.pairs.proofs.lists.is_present.Reads as is-present-reads
-use Rattle.walk.proofs.boxes.meets_box.Reads as meets-box-reads
 use mathlib.Core.Path.{ap, sym, _∙_}
 use Rattle.math.specs.declared.aabb.Aabb.{Aabb}
 use Rattle.walk.specs.Boxes.{meetsBox}

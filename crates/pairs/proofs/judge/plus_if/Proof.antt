@@ -2,8 +2,6 @@
 use borrow.Author.Needs.{needs}
 use Rattle.pairs.proofs.judge.plus_if.Statement.{statement}
 use Rattle.pairs.proofs.judge.plus_if.Tie as tie
-use Rattle.pairs.proofs.judge.plus_if.Reads as reads
-use Rattle.pairs.proofs.judge.plus_if.Lts as lts
 use Rattle.pairs.proofs.CountLaws.{plus-yes, plus-no}
 
 add-result : tie.Need-add-result

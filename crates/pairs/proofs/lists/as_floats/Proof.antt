@@ -2,9 +2,6 @@
 use borrow.Author.Needs.{needs}
 use Rattle.pairs.proofs.lists.as_floats.Statement.{statement}
 use Rattle.pairs.proofs.lists.as_floats.Tie as tie
-use Rattle.pairs.proofs.lists.as_floats.Reads as reads
-use Rattle.pairs.proofs.lists.as_floats.Lts as lts
-use Rattle.math.proofs.words3.values.Reads as values-reads
 use mathlib.Core.Path.{_≡_}
 use Rattle.math.specs.declared.aabb.Aabb.{Aabb}
 use Rattle.math.specs.declared.vec3.Vec3.{Vec3}

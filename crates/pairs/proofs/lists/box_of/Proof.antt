@@ -2,10 +2,6 @@
 use borrow.Author.Needs.{needs}
 use Rattle.pairs.proofs.lists.box_of.Statement.{statement}
 use Rattle.pairs.proofs.lists.box_of.Tie as tie
-use Rattle.pairs.proofs.lists.box_of.Reads as reads
-use Rattle.pairs.proofs.lists.box_of.Lts as lts
-use Rattle.pairs.proofs.lists.as_floats.Reads as as-floats-reads
-use Rattle.split.proofs.boxes.box_at.Reads as box-at-reads
 use mathlib.Core.Path.{ap, _∙_}
 use Rattle.tree.specs.Pair.{boxValues}
 

@@ -1,9 +1,6 @@
 -- `lists::fill` is safe and ends: i counts the entries.
 use Rattle.pairs.proofs.lists.fill.Statement.{statement}
 use Rattle.pairs.proofs.lists.fill.Tie as tie
-use Rattle.pairs.proofs.lists.fill.Reads as reads
-use Rattle.pairs.proofs.lists.fill.Lts as lts
-use Rattle.pairs.proofs.lists.put_entry.Reads as put-entry-reads
 use Prim.Native.Nat.{_-_, _≤_}
 use mathlib.Core.Path.{_≡_}
 use lib.ListN.{length}

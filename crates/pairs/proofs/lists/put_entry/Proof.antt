@@ -2,14 +2,6 @@
 use borrow.Author.Needs.{needs}
 use Rattle.pairs.proofs.lists.put_entry.Statement.{statement}
 use Rattle.pairs.proofs.lists.put_entry.Tie as tie
-use Rattle.pairs.proofs.lists.put_entry.Reads as reads
-use Rattle.pairs.proofs.lists.put_entry.Lts as lts
-use Rattle.math.proofs.words3.bits.Reads as bits-reads
-use Rattle.pairs.proofs.draw.drawn_box.Reads as drawn-box-reads
-use Rattle.pairs.proofs.draw.next.Reads as next-reads
-use Rattle.pairs.proofs.draw.three_on.Reads as three-on-reads
-use Rattle.pairs.proofs.lists.presence.Reads as presence-reads
-use Rattle.split.proofs.boxes.put_box.Reads as put-box-reads
 use mathlib.Core.Path.{_∙_}
 use lib.ListN.{length-set}
 use native.Mathlib.Omega.{arith}

@@ -2,9 +2,6 @@
 use borrow.Author.Needs.{needs}
 use Rattle.pairs.proofs.queries.place_of.Statement.{statement}
 use Rattle.pairs.proofs.queries.place_of.Tie as tie
-use Rattle.pairs.proofs.queries.place_of.Reads as reads
-use Rattle.pairs.proofs.queries.place_of.Lts as lts
-use Rattle.pairs.proofs.queries.upper.Reads as upper-reads
 use native.Mathlib.Nat.{mod-lt}
 use native.Mathlib.Omega.{arith}
 

@@ -1,12 +1,6 @@
 -- `run::run` is safe and ends: number counts the lists.
 use Rattle.pairs.proofs.run.run.Statement.{statement}
 use Rattle.pairs.proofs.run.run.Tie as tie
-use Rattle.pairs.proofs.run.run.Reads as reads
-use Rattle.pairs.proofs.run.run.Lts as lts
-use Rattle.io.proofs.write_all.Reads as write-all-reads
-use Rattle.pairs.proofs.run.put.Reads as put-reads
-use Rattle.pairs.proofs.run.run_list.Reads as run-list-reads
-use Rattle.std.proofs.num.wrapping_add_u64.Reads as wrapping-add-u64-reads
 use Prim.Native.Nat.{_-_, _≤_}
 use borrow.Author.Needs.{needs}
 

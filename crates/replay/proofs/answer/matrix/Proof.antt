@@ -2,10 +2,6 @@
 use borrow.Author.Needs.{needs}
 use Rattle.replay.proofs.answer.matrix.Statement.{statement}
 use Rattle.replay.proofs.answer.matrix.Tie as tie
-use Rattle.replay.proofs.answer.matrix.Reads as reads
-use Rattle.replay.proofs.answer.matrix.Lts as lts
-use Rattle.replay.proofs.answer.row.Reads as row-reads
-use borrow.Author.Needs.{needs}
 
 row-requires : tie.Need-row-requires
 row-requires c κs = search needs

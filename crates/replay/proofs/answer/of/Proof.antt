@@ -2,33 +2,16 @@
 use borrow.Author.Needs.{needs}
 use Rattle.replay.proofs.answer.of.Statement.{statement}
 use Rattle.replay.proofs.answer.of.Tie as tie
-use Rattle.replay.proofs.answer.of.Reads as reads
-use Rattle.replay.proofs.answer.of.Lts as lts
-use Rattle.float32.proofs.words.bits.Reads as bits-reads
-use Rattle.math.proofs.mat4.Mat4.transform_point.Reads as transform-point-reads
-use Rattle.math.proofs.mat4.Mat4.transform_vector.Reads as transform-vector-reads
-use Rattle.math.proofs.vec3.Vec3.length.Reads as length-reads
-use Rattle.math.proofs.vec3.norm.Reads as norm-reads
-use Rattle.replay.proofs.answer.four.Reads as four-reads
-use Rattle.replay.proofs.answer.matrix.Reads as matrix-reads
-use Rattle.replay.proofs.answer.of_box.Reads as of-box-reads
-use Rattle.replay.proofs.answer.of_pair.Reads as of-pair-reads
-use Rattle.replay.proofs.answer.of_points.Reads as of-points-reads
-use Rattle.replay.proofs.answer.of_word.Reads as of-word-reads
-use Rattle.replay.proofs.answer.point.Reads as point-reads
-use Rattle.replay.proofs.answer.three.Reads as three-reads
-use mathlib.Core.Path.{_≡_, sym, ap, ap₂, _∙_, subst}
-use Prim.Native.Nat.{ℕ, _≤_}
+use mathlib.Core.Path.{_≡_, ap, ap₂, _∙_, subst}
+use Prim.Native.Nat.{_≤_}
 use native.Mathlib.Omega.{arith}
 use lib.ListN.{length}
-use borrow.Author.Needs.{needs}
-use Rattle.replay.specs.Answers.{word, three, four, pointsAnswer, answerOf}
+use Rattle.replay.specs.Answers.{word, three, four, pointsAnswer}
 use Rattle.replay.specs.Operations.{inputsOf}
 use Rattle.math.specs.Transform.{pointOf, vectorOf}
 use Rattle.math.specs.Vec3s.{lengthOf, normOf}
 use Rattle.replay.specs.declared.answer.Answer.the-variants.{One}
 use Rattle.replay.specs.declared.operation.Operation.{Operation}
-use Rattle.replay.specs.declared.operation.Operation.the-variants as Op
 
 -- the room goes by the operation
 room : (c : tie.Start) (op : Operation) → c .args .op ≡ op → inputsOf op ≤ length (c .args .words .now)

@@ -2,13 +2,6 @@
 use borrow.Author.Needs.{needs}
 use Rattle.replay.proofs.answer.of_box.Statement.{statement}
 use Rattle.replay.proofs.answer.of_box.Tie as tie
-use Rattle.replay.proofs.answer.of_box.Reads as reads
-use Rattle.replay.proofs.answer.of_box.Lts as lts
-use Rattle.math.proofs.aabb.transform_box.Reads as transform-box-reads
-use Rattle.replay.proofs.answer.matrix.Reads as matrix-reads
-use Rattle.replay.proofs.answer.point.Reads as point-reads
-use Rattle.replay.proofs.answer.six.Reads as six-reads
-use borrow.Author.Needs.{needs}
 
 point-requires : tie.Need-point-requires
 point-requires c κs = search needs

@@ -2,28 +2,6 @@
 use borrow.Author.Needs.{needs}
 use Rattle.replay.proofs.answer.of_pair.Statement.{statement}
 use Rattle.replay.proofs.answer.of_pair.Tie as tie
-use Rattle.replay.proofs.answer.of_pair.Reads as reads
-use Rattle.replay.proofs.answer.of_pair.Lts as lts
-use Rattle.float32.proofs.compare.relate.Reads as relate-reads
-use Rattle.float32.proofs.extremes.max_number.Reads as max-number-reads
-use Rattle.float32.proofs.extremes.min_number.Reads as min-number-reads
-use Rattle.float32.proofs.extremes.vmax_word.Reads as vmax-word-reads
-use Rattle.float32.proofs.extremes.vmin_word.Reads as vmin-word-reads
-use Rattle.float32.proofs.sorting.cmp_f32.Reads as cmp-f32-reads
-use Rattle.float32.proofs.sorting.order_key.Reads as order-key-reads
-use Rattle.float32.proofs.words.bits.Reads as bits-reads
-use Rattle.float32.proofs.words.value.Reads as value-reads
-use Rattle.replay.proofs.words.order.Reads as order-reads
-use Rattle.replay.proofs.words.ordering.Reads as ordering-reads
-use Rattle.replay.proofs.words.relation.Reads as relation-reads
-use mathlib.Core.Path.{_≡_, sym, ap, ap₂, _∙_}
-use borrow.Author.Needs.{needs}
-use Rattle.replay.specs.Answers.{word, pairAnswer}
-use Rattle.replay.specs.Numbers.{relationNumber, orderingNumber, orderOf}
-use Rattle.float32.specs.Comparison.{relationOf}
-use Rattle.float32.specs.Extremes.{minNumberOf, maxNumberOf}
-use Rattle.float32.specs.SortOrder.{cmpOf}
-use Rattle.replay.specs.declared.operation.PairStep.{PairStep}
 
 value-requires : tie.Need-value-requires
 value-requires c κs = search needs

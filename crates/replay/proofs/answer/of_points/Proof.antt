@@ -2,20 +2,10 @@
 use borrow.Author.Needs.{needs}
 use Rattle.replay.proofs.answer.of_points.Statement.{statement}
 use Rattle.replay.proofs.answer.of_points.Tie as tie
-use Rattle.replay.proofs.answer.of_points.Reads as reads
-use Rattle.replay.proofs.answer.of_points.Lts as lts
-use Rattle.float32.proofs.words.bits.Reads as bits-reads
-use Rattle.math.proofs.vec3.Vec3.cross.Reads as cross-reads
-use Rattle.math.proofs.vec3.Vec3.dot.Reads as dot-reads
-use Rattle.math.proofs.vec3.cmp_vec3.Reads as cmp-vec3-reads
-use Rattle.replay.proofs.answer.three.Reads as three-reads
-use Rattle.replay.proofs.words.ordering.Reads as ordering-reads
-use mathlib.Core.Path.{_≡_, sym, ap, _∙_}
-use borrow.Author.Needs.{needs}
-use Rattle.replay.specs.Answers.{word, three, pointsAnswer}
+use mathlib.Core.Path.{ap, _∙_}
+use Rattle.replay.specs.Answers.{word, three}
 use Rattle.replay.specs.Numbers.{orderingNumber}
 use Rattle.replay.specs.declared.answer.Answer.the-variants.{One}
-use Rattle.replay.specs.declared.operation.PointsStep.{PointsStep}
 
 enum-told : tie.Need-enum-told
 enum-told c = search needs

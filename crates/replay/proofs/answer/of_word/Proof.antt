@@ -2,29 +2,9 @@
 use borrow.Author.Needs.{needs}
 use Rattle.replay.proofs.answer.of_word.Statement.{statement}
 use Rattle.replay.proofs.answer.of_word.Tie as tie
-use Rattle.replay.proofs.answer.of_word.Reads as reads
-use Rattle.replay.proofs.answer.of_word.Lts as lts
-use Rattle.float32.proofs.casts.to_i32.Reads as to-i32-reads
-use Rattle.float32.proofs.casts.to_short.Reads as to-short-reads
-use Rattle.float32.proofs.casts.vertex_value.Reads as vertex-value-reads
-use Rattle.float32.proofs.counts.of_count.Reads as of-count-reads
-use Rattle.float32.proofs.root.sqrt.Reads as sqrt-reads
-use Rattle.float32.proofs.words.bits.Reads as bits-reads
-use Rattle.float32.proofs.words.value.Reads as value-reads
-use Rattle.replay.proofs.words.signed.Reads as signed-reads
-use Rattle.replay.proofs.words.signed_short.Reads as signed-short-reads
-use mathlib.Core.Path.{_≡_, sym, ap, _∙_}
-use borrow.Author.Needs.{needs}
 use mir.Syntax.{w16, w32}
 use mir.Val.{SFits}
 use mir.Facts.{toZ-ofZ}
-use lib.Ieee.{binary32}
-use Rattle.replay.specs.Answers.{word, wordAnswer}
-use Rattle.replay.specs.Numbers.{signedWord}
-use Rattle.float32.specs.Casts.{castI32, shortOf, vertexOf}
-use Rattle.float32.specs.Counts.{ofCount}
-use Rattle.float32.specs.SquareRoot.{sqrtOf}
-use Rattle.replay.specs.declared.operation.WordStep.{WordStep}
 
 value-requires : tie.Need-value-requires
 value-requires c κs = search needs

@@ -2,10 +2,6 @@
 use borrow.Author.Needs.{needs}
 use Rattle.replay.proofs.answer.row.Statement.{statement}
 use Rattle.replay.proofs.answer.row.Tie as tie
-use Rattle.replay.proofs.answer.row.Reads as reads
-use Rattle.replay.proofs.answer.row.Lts as lts
-use Rattle.float32.proofs.words.value.Reads as value-reads
-use borrow.Author.Needs.{needs}
 
 mul-value : tie.Need-mul-value
 mul-value c = search needs

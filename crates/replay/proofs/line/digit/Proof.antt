@@ -2,9 +2,6 @@
 use borrow.Author.Needs.{needs}
 use Rattle.replay.proofs.line.digit.Statement.{statement}
 use Rattle.replay.proofs.line.digit.Tie as tie
-use Rattle.replay.proofs.line.digit.Reads as reads
-use Rattle.replay.proofs.line.digit.Lts as lts
-use borrow.Author.Needs.{needs}
 use borrow.Author.Tests.{lt-ltb, le-ltb}
 use native.Mathlib.Omega.{arith}
 

@@ -1,17 +1,14 @@
 -- `line::fields` meets its contract: the fields before i are those of the first i words. Where field i is none, the text is none of words.
 use Rattle.replay.proofs.line.fields.Statement.{statement}
 use Rattle.replay.proofs.line.fields.Tie as tie
-use Rattle.replay.proofs.line.fields.Reads as reads
-use Rattle.replay.proofs.line.fields.Lts as lts
-use Rattle.replay.proofs.line.number.Reads as number-reads
-use mathlib.Core.Path.{_≡_, refl, sym, ap, _∙_, subst}
+use mathlib.Core.Path.{_≡_, refl, ap, _∙_, subst}
 use mathlib.Core.List.{List}
-use Prim.Native.Nat.{ℕ, _+_, _-_, _*_, _<_, _≤_}
+use Prim.Native.Nat.{ℕ, _+_, _-_, _*_, _≤_}
 use native.Mathlib.Omega.{arith}
 use lib.ListN.{length, getD, take, drop, length-set, length-take, length-drop}
 use borrow.Author.Needs.{needs}
 use Rattle.replay.proofs.FieldLaws.{Read, read-more, read-whole, space-at, digits-at, part-digits, no-part}
-use Rattle.replay.specs.Lines.{fieldsOf, Spells}
+use Rattle.replay.specs.Lines.{Spells}
 use Rattle.replay.specs.declared.line.Spelled.the-variants as S
 
 abbrev Inv-loop : tie.InvT-loop

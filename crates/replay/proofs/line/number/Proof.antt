@@ -1,10 +1,7 @@
 -- `line::number` meets its contract: the bytes before i are digits and spell n. A byte that is no digit stands in no spelling.
 use Rattle.replay.proofs.line.number.Statement.{statement}
 use Rattle.replay.proofs.line.number.Tie as tie
-use Rattle.replay.proofs.line.number.Reads as reads
-use Rattle.replay.proofs.line.number.Lts as lts
-use Rattle.replay.proofs.line.digit.Reads as digit-reads
-use mathlib.Core.Path.{_≡_, sym, ap, _∙_, subst}
+use mathlib.Core.Path.{_≡_, sym, _∙_, subst}
 use Prim.Native.Nat.{ℕ, _+_, _-_, _*_, _<_, _≤_}
 use native.Mathlib.Omega.{arith}
 use lib.ListN.{length, getD}

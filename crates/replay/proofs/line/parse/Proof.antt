@@ -2,21 +2,13 @@
 use borrow.Author.Needs.{needs}
 use Rattle.replay.proofs.line.parse.Statement.{statement}
 use Rattle.replay.proofs.line.parse.Tie as tie
-use Rattle.replay.proofs.line.parse.Reads as reads
-use Rattle.replay.proofs.line.parse.Lts as lts
-use Rattle.replay.proofs.line.fields.Reads as fields-reads
-use Rattle.replay.proofs.line.number.Reads as number-reads
-use Rattle.replay.proofs.operation.inputs.Reads as inputs-reads
-use Rattle.replay.proofs.operation.of_number.Reads as of-number-reads
-use Rattle.replay.proofs.operation.outputs.Reads as outputs-reads
 use mathlib.Core.Path.{_≡_, sym, ap, ap₂, _∙_, subst}
-use mathlib.Core.Bool.{Bool, true, false}
+use mathlib.Core.Bool.{true, false}
 use mathlib.Core.List.{List}
-use Prim.Native.Nat.{ℕ, _+_, _-_, _*_, _^_, _<_, _≤_}
+use Prim.Native.Nat.{ℕ, _+_, _-_, _^_, _<_}
 use native.Mathlib.Omega.{arith}
 use lib.ListN.{length, take, drop, length-take, length-drop}
 use lib.Seq.{length-take-le, take-all}
-use borrow.Author.Needs.{needs}
 use Rattle.io.specs.Digits.{digits}
 use Rattle.replay.specs.Lines.{fieldsOf, lineOf, countOf, Spells, Fields}
 use Rattle.replay.specs.Operations.{numberOf, Names}

@@ -2,13 +2,8 @@
 use borrow.Author.Needs.{needs}
 use Rattle.replay.proofs.operation.of_number.Statement.{statement}
 use Rattle.replay.proofs.operation.of_number.Tie as tie
-use Rattle.replay.proofs.operation.of_number.Reads as reads
-use Rattle.replay.proofs.operation.of_number.Lts as lts
 use native.Mathlib.Omega.{arith}
-use borrow.Author.Needs.{needs}
-use Rattle.replay.specs.Operations.{numberOf}
 use Rattle.replay.proofs.Numbering.{between, beyond}
-use Rattle.replay.specs.declared.operation.Operation.{Operation}
 
 returns : tie.Need-returns
 returns c = search needs

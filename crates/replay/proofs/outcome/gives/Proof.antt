@@ -2,14 +2,10 @@
 use borrow.Author.Needs.{needs}
 use Rattle.replay.proofs.outcome.gives.Statement.{statement}
 use Rattle.replay.proofs.outcome.gives.Tie as tie
-use Rattle.replay.proofs.outcome.gives.Reads as reads
-use Rattle.replay.proofs.outcome.gives.Lts as lts
-use Rattle.replay.proofs.outcome.same.Reads as same-reads
 use mathlib.Core.Path.{_≡_, sym, ap, subst}
 use mathlib.Core.Bool.{Bool}
 use mathlib.Core.List.{List}
 use Prim.Native.Nat.{ℕ}
-use borrow.Author.Needs.{needs}
 use Rattle.replay.specs.Answers.{wordsOf}
 use Rattle.replay.specs.Outcomes.{Holds}
 use Rattle.replay.specs.declared.answer.Answer.{Answer}

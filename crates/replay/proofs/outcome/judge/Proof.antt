@@ -2,21 +2,13 @@
 use borrow.Author.Needs.{needs}
 use Rattle.replay.proofs.outcome.judge.Statement.{statement}
 use Rattle.replay.proofs.outcome.judge.Tie as tie
-use Rattle.replay.proofs.outcome.judge.Reads as reads
-use Rattle.replay.proofs.outcome.judge.Lts as lts
-use Rattle.replay.proofs.answer.of.Reads as of-reads
-use Rattle.replay.proofs.operation.inputs.Reads as inputs-reads
-use Rattle.replay.proofs.outcome.gives.Reads as gives-reads
-use mathlib.Core.Path.{_≡_, sym, ap, _∙_, subst}
-use mathlib.Core.Bool.{Bool}
+use mathlib.Core.Path.{_≡_, sym, subst}
 use mathlib.Core.List.{List}
 use Prim.Native.Nat.{ℕ, _-_, _≤_}
 use native.Mathlib.Omega.{arith}
 use lib.ListN.{length, take, drop, length-drop}
 use lib.Seq.{length-take-le, take-all}
-use borrow.Author.Needs.{needs}
 use Rattle.replay.specs.Answers.{answerOf, wordsOf}
-use Rattle.replay.specs.Operations.{inputsOf}
 use Rattle.replay.specs.Outcomes.{Holds, Words}
 use Rattle.replay.specs.declared.answer.Answer.{Answer}
 

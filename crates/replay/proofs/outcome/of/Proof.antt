@@ -2,19 +2,11 @@
 use borrow.Author.Needs.{needs}
 use Rattle.replay.proofs.outcome.of.Statement.{statement}
 use Rattle.replay.proofs.outcome.of.Tie as tie
-use Rattle.replay.proofs.outcome.of.Reads as reads
-use Rattle.replay.proofs.outcome.of.Lts as lts
-use Rattle.replay.proofs.line.parse.Reads as parse-reads
-use Rattle.replay.proofs.operation.inputs.Reads as inputs-reads
-use Rattle.replay.proofs.operation.outputs.Reads as outputs-reads
-use Rattle.replay.proofs.outcome.judge.Reads as judge-reads
 use mathlib.Core.Path.{_≡_, sym, ap, ap₂, _∙_, subst}
-use mathlib.Core.Bool.{true, false}
-use Prim.Native.Nat.{ℕ, _+_, _≤_, _<_}
+use Prim.Native.Nat.{ℕ, _+_, _≤_}
 use native.Mathlib.Omega.{arith}
 use lib.ListN.{length, take}
 use lib.Seq.{length-take-le}
-use borrow.Author.Needs.{needs}
 use mathlib.Core.List.{List}
 use Rattle.replay.specs.Lines.{lineOf, countOf, Parses}
 use Rattle.replay.specs.Outcomes.{Holds, Agrees, Case}

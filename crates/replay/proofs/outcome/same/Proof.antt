@@ -1,10 +1,8 @@
 -- `outcome::same` meets its contract: the elements before i are the same.
 use Rattle.replay.proofs.outcome.same.Statement.{statement}
 use Rattle.replay.proofs.outcome.same.Tie as tie
-use Rattle.replay.proofs.outcome.same.Reads as reads
-use Rattle.replay.proofs.outcome.same.Lts as lts
-use mathlib.Core.Path.{_≡_, sym, ap}
-use Prim.Native.Nat.{ℕ, _+_, _-_, _<_, _≤_}
+use mathlib.Core.Path.{_≡_, ap}
+use Prim.Native.Nat.{ℕ, _-_, _<_, _≤_}
 use native.Mathlib.Omega.{arith}
 use borrow.Author.Count.{below-none, below-more}
 use mathlib.Core.List.{List}

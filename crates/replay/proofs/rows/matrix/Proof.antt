@@ -1,15 +1,7 @@
 -- `rows::matrix` is safe and ends: k counts the words up to sixteen.
 use Rattle.replay.proofs.rows.matrix.Statement.{statement}
 use Rattle.replay.proofs.rows.matrix.Tie as tie
-use Rattle.replay.proofs.rows.matrix.Reads as reads
-use Rattle.replay.proofs.rows.matrix.Lts as lts
-use Rattle.replay.proofs.data.matrix_word.Reads as matrix-word-reads
-use Rattle.replay.proofs.print.end.Reads as end-reads
-use Rattle.replay.proofs.print.number.Reads as number-reads
-use Rattle.replay.proofs.print.text.Reads as text-reads
-use Rattle.replay.proofs.print.word.Reads as word-reads
 use Prim.Native.Nat.{_-_, _≤_}
-use native.Mathlib.Omega.{arith}
 use borrow.Author.Needs.{needs}
 
 abbrev Inv-loop : tie.InvT-loop

@@ -1,11 +1,6 @@
 -- `table::print` is safe and ends: k counts the rows up to the table's count.
 use Rattle.replay.proofs.table.print.Statement.{statement}
 use Rattle.replay.proofs.table.print.Tie as tie
-use Rattle.replay.proofs.table.print.Reads as reads
-use Rattle.replay.proofs.table.print.Lts as lts
-use Rattle.replay.proofs.table.row.Reads as row-reads
-use Rattle.replay.proofs.table.rows.Reads as rows-reads
-use Rattle.replay.proofs.table.title.Reads as title-reads
 use mathlib.Core.Path.{_≡_}
 use Prim.Native.Nat.{_-_, _≤_}
 use native.Mathlib.Omega.{arith}

@@ -2,34 +2,9 @@
 use borrow.Author.Needs.{needs}
 use Rattle.replay.proofs.table.row.Statement.{statement}
 use Rattle.replay.proofs.table.row.Tie as tie
-use Rattle.replay.proofs.table.row.Reads as reads
-use Rattle.replay.proofs.table.row.Lts as lts
-use Rattle.replay.proofs.data.count.Reads as data-count-reads
-use Rattle.replay.proofs.data.factor.Reads as data-factor-reads
-use Rattle.replay.proofs.data.greatest.Reads as greatest-reads
-use Rattle.replay.proofs.data.integer.Reads as integer-reads
-use Rattle.replay.proofs.data.least.Reads as least-reads
-use Rattle.replay.proofs.data.matrix.Reads as data-matrix-reads
-use Rattle.replay.proofs.data.point.Reads as data-point-reads
-use Rattle.replay.proofs.data.word.Reads as data-word-reads
-use Rattle.replay.proofs.rows.absolute.Reads as absolute-reads
-use Rattle.replay.proofs.rows.count.Reads as rows-count-reads
-use Rattle.replay.proofs.rows.factor.Reads as rows-factor-reads
-use Rattle.replay.proofs.rows.image.Reads as image-reads
-use Rattle.replay.proofs.rows.matrix.Reads as rows-matrix-reads
-use Rattle.replay.proofs.rows.pair.Reads as pair-reads
-use Rattle.replay.proofs.rows.pick.Reads as pick-reads
-use Rattle.replay.proofs.rows.point.Reads as rows-point-reads
-use Rattle.replay.proofs.rows.sums.Reads as sums-reads
-use Rattle.replay.proofs.rows.then.Reads as then-reads
-use Rattle.replay.proofs.rows.transformed.Reads as transformed-reads
-use Rattle.replay.proofs.rows.word.Reads as rows-word-reads
-use Rattle.replay.proofs.rows.wrap.Reads as wrap-reads
-use Rattle.replay.proofs.table.order.Reads as order-reads
 use mathlib.Core.Path.{_≡_, subst}
-use Prim.Native.Nat.{ℕ, _/_, _<_}
+use Prim.Native.Nat.{_<_}
 use native.Mathlib.Omega.{arith}
-use borrow.Author.Needs.{needs}
 use Rattle.replay.specs.Tables.{rowsOf}
 use Rattle.replay.specs.declared.table.Table.{Table}
 

@@ -5,9 +5,6 @@ use mathlib.Core.Path.{_≡_}
 use lib.ListN.{length as Len}
 use Rattle.replay.proofs.tally.feed.Statement.{statement}
 use Rattle.replay.proofs.tally.feed.Tie as tie
-use Rattle.replay.proofs.tally.feed.Reads as reads
-use Rattle.replay.proofs.tally.feed.Lts as lts
-use Rattle.replay.proofs.tally.step.Reads as step-reads
 
 abbrev Inv-loop : tie.InvT-loop
 Inv-loop text line₀ at cases₀ misses₀ length₀ i₀ line cases misses length i =

@@ -5,10 +5,6 @@ use lib.Seq.{length-take-le}
 use borrow.Author.Needs.{needs}
 use Rattle.replay.proofs.tally.step.Statement.{statement}
 use Rattle.replay.proofs.tally.step.Tie as tie
-use Rattle.replay.proofs.tally.step.Reads as reads
-use Rattle.replay.proofs.tally.step.Lts as lts
-use Rattle.replay.proofs.outcome.of.Reads as of-reads
-use Rattle.replay.proofs.tally.count.Reads as count-reads
 
 slice-reshare-prefix-of : tie.Need-slice-reshare-prefix-of
 slice-reshare-prefix-of c = search needs

@@ -1,11 +1,7 @@
 -- `tally::total` is safe and ends: i counts the places.
 use Rattle.replay.proofs.tally.total.Statement.{statement}
 use Rattle.replay.proofs.tally.total.Tie as tie
-use Rattle.replay.proofs.tally.total.Reads as reads
-use Rattle.replay.proofs.tally.total.Lts as lts
-use Rattle.std.proofs.num.wrapping_add_u64.Reads as wrapping-add-u64-reads
 use Prim.Native.Nat.{_-_, _≤_}
-use native.Mathlib.Omega.{arith}
 use lib.ListN.{length}
 use borrow.Author.Needs.{needs}
 

@@ -1,8 +1,6 @@
 -- `words::order` meets its contract: a case for each test.
 use Rattle.replay.proofs.words.order.Statement.{statement}
 use Rattle.replay.proofs.words.order.Tie as tie
-use Rattle.replay.proofs.words.order.Reads as reads
-use Rattle.replay.proofs.words.order.Lts as lts
 use borrow.Author.Tests.{lt-ltb, le-ltb, eq-eqb, ne-eqb}
 
 returns : tie.Need-returns

@@ -1,8 +1,6 @@
 -- `words::signed` meets its contract: n where it is none below 0, and else 2 ^ 32 - 1 less -1 - n.
 use Rattle.replay.proofs.words.signed.Statement.{statement}
 use Rattle.replay.proofs.words.signed.Tie as tie
-use Rattle.replay.proofs.words.signed.Reads as reads
-use Rattle.replay.proofs.words.signed.Lts as lts
 use mathlib.Core.Path.{ap, _∙_}
 use mir.Syntax.{w32}
 use mir.Val.{SFits, toZ, ofZ}

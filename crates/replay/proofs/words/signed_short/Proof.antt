@@ -2,11 +2,7 @@
 use borrow.Author.Needs.{needs}
 use Rattle.replay.proofs.words.signed_short.Statement.{statement}
 use Rattle.replay.proofs.words.signed_short.Tie as tie
-use Rattle.replay.proofs.words.signed_short.Reads as reads
-use Rattle.replay.proofs.words.signed_short.Lts as lts
-use Rattle.replay.proofs.words.signed.Reads as signed-reads
 use mathlib.Core.Path.{ap, _∙_}
-use borrow.Author.Needs.{needs}
 use Rattle.replay.specs.Numbers.{signedWord}
 use Rattle.replay.proofs.SignedWords.{widen, read-wide}
 
