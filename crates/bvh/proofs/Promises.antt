@@ -10,7 +10,7 @@ use borrow.Author.Tests.{eq-eqb, ne-eqb, eqb-true}
 use lib.Dec.{eqb}
 use lib.ListN.{length, getD, drop}
 use lib.Seq.{drop-at, drop-drop, getD-drop}
-use Rattle.split.specs.Lists.{occurrences, sift, pick}
+use Rattle.base.specs.Lists.{occurrences, sift}
 use Rattle.split.specs.declared.boxes.BoxWords.{BoxWords}
 use Rattle.bvh.specs.Build.{Entries, treeOf}
 use Rattle.bvh.specs.steps.Decode.{Rising}
@@ -51,7 +51,7 @@ pub rising-at-most : (lo p : ℕ) (xs : List ℕ) → Rising lo xs → occurrenc
 rising-at-most lo p [] hs = omega arith
 rising-at-most lo p (x ∷ xs) hs = by (eqb x p) refl (rising-at-most (x + 1) p xs (hs .1))
   where
-    by : (q : Bool) → eqb x p ≡ q → occurrences p xs ≤ 1 → length (pick q (x ∷ sift (λ y. eqb y p) xs) (sift (λ y. eqb y p) xs)) ≤ 1
+    by : (q : Bool) → eqb x p ≡ q → occurrences p xs ≤ 1 → length (cond q (x ∷ sift (λ y. eqb y p) xs) (sift (λ y. eqb y p) xs)) ≤ 1
     by true e h = omega (arith, none-below (x + 1) p xs (hs .1) (let same : x ≡ p = eqb-true x p e in omega arith))
     by false e h = h
 

@@ -9,12 +9,12 @@ use lib.ListN.{length, take, drop, length-append}
 use lib.Seq.{take-at, drop-at}
 use native.Mathlib.Decide.{decLe}
 use borrow.Author.Tests.{leb-true, leb-false, le-leb, lt-leb, lt-ltb, le-ltb}
+use Rattle.base.proofs.WithinLaws.{within-append}
+use Rattle.base.specs.Lists.{Within, Permutes}
 use Rattle.split.specs.declared.boxes.BoxWords.{BoxWords}
-use Rattle.split.specs.Lists.{Within, Permutes}
 use Rattle.bvh.specs.steps.Flat.{Full}
 use Rattle.bvh.specs.Rows.{Row, rows}
 use Rattle.bvh.specs.Tree.{Node, leaf, inner, Builder, growF, grow, leafOrder, size}
-use Rattle.split.proofs.WithinLaws.{within-append}
 use Rattle.bvh.proofs.Places.{occurrences-append}
 use Rattle.bvh.proofs.Lawful.{Lawful}
 

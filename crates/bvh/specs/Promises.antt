@@ -5,7 +5,7 @@ use mathlib.Core.List.{List, [], _∷_, _++_, map, List·Memᴰ}
 use mathlib.Core.Path.{_≡_}
 use lib.Dec.{eqb}
 use lib.ListN.{getD}
-use Rattle.split.specs.Lists.{occurrences}
+use Rattle.base.specs.Lists.{occurrences}
 use Rattle.bvh.specs.Build.{Entries, treeOf}
 use Rattle.bvh.specs.Numbers.{upFrom, Cut}
 use Rattle.bvh.specs.Output.{idOf}

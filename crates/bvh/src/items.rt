@@ -3,7 +3,7 @@ use math::words3::Words3;
 ghost use mathlib.Core.Path.{_≡_};
 ghost use Prim.Native.Nat.{_*_, _≤_, _<_};
 ghost use lib.ListN.{length};
-ghost use Rattle.split.specs.Lists.{oneIf};
+ghost use Rattle.base.specs.Lists.{oneIf};
 ghost use Rattle.bvh.specs.Items.{isMarked};
 ghost use Rattle.bvh.specs.steps.Decode.{Gathered};
 

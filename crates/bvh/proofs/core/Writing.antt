@@ -7,10 +7,10 @@ use mathlib.Core.Path.{_≡_, refl, sym, ap, _∙_, subst}
 use borrow.Author.Tests.{eq-eqb, ne-eqb}
 use lib.ListN.{length, take, drop}
 use lib.Seq.{length-take-le}
+use Rattle.base.specs.Lists.{Within}
 use Rattle.records.specs.declared.scale.Scale.{Scale}
 use Rattle.records.specs.Scale.{scaleOfBox}
 use Rattle.split.specs.Boxes.{boxAt}
-use Rattle.split.specs.Lists.{Within}
 use Rattle.split.specs.declared.boxes.BoxWords.{BoxWords}
 use Rattle.bvh.specs.declared.core.Planted.{Planted}
 use Rattle.bvh.specs.declared.core.Task.{Task}

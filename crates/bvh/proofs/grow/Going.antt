@@ -7,14 +7,14 @@ use mathlib.Core.Path.{_≡_, refl, ap, ap₂, _∙_}
 use lib.ListN.{length, getD, set, take, drop, length-drop, length-set, drop-of-length-le}
 use lib.Seq.{getD-set-same, drop-set-lt, length-take-le, drop-at, drop-cons, take-add, take-all, drop-drop}
 use borrow.Rule.Slice.PartMut.{putMid, same-len-mid, take-put}
-use Rattle.split.specs.Lists.{Within}
+use Rattle.base.proofs.WithinLaws.{within-append, within-take, within-drop}
+use Rattle.base.specs.Lists.{Within}
 use Rattle.bvh.specs.Rows.{Row}
 use Rattle.bvh.specs.Tree.{Builder, grow}
 use Rattle.bvh.specs.steps.Laid.{Room, InnerPut, Laid}
 use Rattle.bvh.specs.steps.Sizes.{bareRows}
 use Rattle.bvh.specs.steps.Table.{tableOf, withRow}
 use Rattle.bvh.proofs.Lawful.{Lawful}
-use Rattle.split.proofs.WithinLaws.{within-append, within-take, within-drop}
 use Rattle.bvh.proofs.grow.Pending.{Pending, Some, sum, some-most, begin, leaf-step, inner-step}
 use Rattle.bvh.proofs.grow.Written.{one-more}
 

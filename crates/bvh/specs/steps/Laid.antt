@@ -3,7 +3,7 @@ use Prim.Native.Nat.{ℕ, _+_, _*_, _≤_, _<_}
 use mathlib.Core.List.{List, _++_}
 use mathlib.Core.Path.{_≡_}
 use lib.ListN.{length, take}
-use Rattle.split.specs.Lists.{Within}
+use Rattle.base.specs.Lists.{Within}
 use Rattle.bvh.specs.Rows.{rows}
 use Rattle.bvh.specs.Tree.{Builder, grow, leafOrder, size}
 use Rattle.bvh.specs.steps.Sizes.{bareRows}

@@ -1,5 +1,7 @@
 -- `grow::grow` meets its contract. The loop's invariant is `Going`: the rows that are laid, followed by those of the segments that wait, are
 -- the whole tree's.
+use Rattle.base.proofs.WithinLaws.{within-take, within-drop}
+use Rattle.base.specs.Lists.{Within}
 use Rattle.bvh.proofs.grow.grow.Statement.{statement}
 use Rattle.bvh.proofs.grow.grow.Tie as tie
 use Prim.Native.Nat.{ℕ, _+_, _-_, _*_}
@@ -8,11 +10,9 @@ use native.Mathlib.Omega.{arith}
 use mathlib.Core.Path.{_≡_, refl, _∙_}
 use lib.ListN.{length, getD, set, take, drop, length-set}
 use Rattle.split.specs.Boxes.{boxAt}
-use Rattle.split.specs.Lists.{Within}
 use Rattle.bvh.specs.Tree.{builder}
 use Rattle.bvh.specs.steps.Laid.{Room}
 use Rattle.bvh.proofs.Lawful.{Lawful, lawful}
-use Rattle.split.proofs.WithinLaws.{within-take, within-drop}
 use Rattle.bvh.proofs.grow.Going.{Slices, Going, Top, top, start, ended, leaf-turn, inner-turn, segment-length, room-set}
 
 abbrev Inv-loop : tie.InvT-loop

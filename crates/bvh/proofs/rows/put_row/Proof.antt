@@ -4,9 +4,10 @@ use Rattle.bvh.proofs.rows.put_row.Statement.{statement}
 use Rattle.bvh.proofs.rows.put_row.Tie as tie
 use Prim.Native.Nat.{ℕ, suc, _+_, _*_, _≤_}
 use mathlib.Core.List.{List, [], _∷_, _++_, append-assoc}
-use mathlib.Core.Path.{_≡_, sym, ap, _∙_}
+use mathlib.Core.Path.{_≡_, refl, sym, ap, _∙_}
 use lib.ListN.{length, getD, set, take, drop, length-append, length-set}
 use lib.Seq.{length-take-le, drop-cons, append-snoc, set-at}
+use Rattle.base.proofs.StoreLaws.{stores-leave}
 use Rattle.split.specs.Boxes.{boxWords}
 use Rattle.split.specs.declared.boxes.BoxWords.{BoxWords}
 use Rattle.bvh.specs.steps.Table.{withRow}
@@ -71,7 +72,11 @@ same-length : tie.Need-same-length
 same-length c = search needs
 
 returns : tie.Need-returns
-returns c = three-parts _ _ _ _ _ _ (c .before .before .before .before .before .pre .0) (c .before .before .put-box .ensures)
+returns c =
+    let asked = c .before .before .before .before .before in
+    let room : 8 * asked .args .i + 8 ≤ length (asked .args .rows .now) = asked .pre .0 in
+    three-parts _ _ _ _ _ _ room
+    (c .before .before .put-box .ensures ∙ stores-leave (asked .args .rows .now) (boxWords (asked .args .around)) (8 * asked .args .i) 6 refl (omega (arith, room)))
 
 pub put-row-spec : {M : Type 1} → statement M
 put-row-spec =
