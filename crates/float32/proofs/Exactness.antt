@@ -22,11 +22,11 @@ use Rattle.float32.proofs.OrderLaws.{finite-between, neg-finite}
 use Rattle.float32.proofs.Rounding.{Rounded, above, below, round-neg, zero-le-round}
 
 -- ---- of each number and sign a format holds one value
-pattern : Format → Bool → ℕ → ℕ
+abbrev pub pattern : Format → Bool → ℕ → ℕ
 pattern f s n = let k = size n - prec f in cond s (top f) 0 + k * hid f + n / 2 ^ k
 
-toBits-value : (f : Format) (x : Float) (s : Bool) (a c : ℕ) → 0 < c → HasValue x s a c → toBits f x ≡ pattern f s (a * 2 ^ low f / c)
-unfolding toBits pattern
+pub toBits-value : (f : Format) (x : Float) (s : Bool) (a c : ℕ) → 0 < c → HasValue x s a c → toBits f x ≡ pattern f s (a * 2 ^ low f / c)
+unfolding toBits
 toBits-value f nan s a c C h = absurd h
 toBits-value f (inf t) s a c C h = absurd h
 toBits-value f (fin t m e) s a c C h =
@@ -160,7 +160,3 @@ above-finite f a c C h =
 pub round-finite : (f : Format) (s : Bool) (a c : ℕ) → 0 < c → a ≤ 2 ^ emax f * c → T (finite (round f s a c))
 round-finite f false a c C h = above-finite f a c C h
 round-finite f true a c C h = rw (round-neg f a c) (neg-finite (round f false a c) (above-finite f a c C h))
-
-pub rounded-finite : {f : Format} {r : Float} {P Q c : ℕ} → 0 < c → Rounded f r P Q c → P ≤ Q + 2 ^ emax f * c → Q ≤ P + 2 ^ emax f * c → T (finite r)
-rounded-finite {f} {r} {P} {Q} {c} C (above h e) p q = rw e (round-finite f false (P - Q) c C (omega arith))
-rounded-finite {f} {r} {P} {Q} {c} C (below h e) p q = rw e (round-finite f true (Q - P) c C (omega arith))
