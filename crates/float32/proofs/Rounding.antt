@@ -3,7 +3,7 @@
 use mathlib.Core.Path.{_≡_, refl, sym, ap, _∙_, subst}
 use mathlib.Core.Bool.{Bool, true, false, not, cond}
 use Prim.Native.Nat.{ℕ, zero, suc, _+_, _*_, _-_, _^_, _≤_, _<_}
-use native.Mathlib.Nat.{le-refl, mul-comm, mul-sub, zero-mul, zero-lt-suc}
+use native.Mathlib.Nat.{mul-comm, mul-sub, zero-mul, zero-lt-suc}
 use native.Mathlib.Omega.{arith}
 use lib.Dec.{T, ltb, eqb, ltb→lt}
 use lib.IntN.{pos}
@@ -85,16 +85,6 @@ rounded-mono {f} {r} {r'} {P} {Q} {c} {P'} {Q'} {c'} C C' (above p e) (below q e
     let i : P - Q ≡ 0 = none (P - Q) c' (P' - Q') c C' (omega arith) (gap P Q c P' Q' c' h) in
     let j : Q' - P' ≡ 0 = none (Q' - P') c (Q - P) c' C (omega arith) (gap Q' P' c' Q P c (omega arith)) in
     rw (e ∙ ap (λ (z : ℕ). round f false z c) i ∙ round-zero f false c C, e' ∙ ap (λ (z : ℕ). round f true z c') j ∙ round-zero f true c' C') (unfold le in tt)
-
-zero-rounded : (f : Format) → Rounded f (fin false 0 (pos 0)) 0 0 1
-zero-rounded f = above (le-refl 0) (sym (round-zero f false 1 (zero-lt-suc 0)))
-
--- the sign of the exact result is kept
-pub rounded-ge-zero : {f : Format} {r : Float} {P Q c : ℕ} → 0 < c → Rounded f r P Q c → Q ≤ P → T (le (fin false 0 (pos 0)) r)
-rounded-ge-zero {f} C h k = rounded-mono (zero-lt-suc 0) C (zero-rounded f) h (omega arith)
-
-pub rounded-le-zero : {f : Format} {r : Float} {P Q c : ℕ} → 0 < c → Rounded f r P Q c → P ≤ Q → T (le r (fin false 0 (pos 0)))
-rounded-le-zero {f} C h k = rounded-mono C (zero-lt-suc 0) h (zero-rounded f) (omega arith)
 
 -- ---- x + y
 sum-apart : (f : Format) (a b c P Q : ℕ) → P ≡ a → Q ≡ b → Rounded f (sum f false a true b c) P Q c
