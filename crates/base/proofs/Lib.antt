@@ -1,4 +1,5 @@
 pub mod EveryLaws
+pub mod IntegerOrder
 pub mod ListLaws
 pub mod LittleEndian
 pub mod NumberLaws

@@ -1,6 +1,6 @@
 -- Numbers that rise by one, numbers below a bound, and lists that rise, in which no number stands twice. By induction on the list.
-use Prim.Native.Nat.{ℕ, zero, suc, _+_, _≤_, _<_}
-use native.Mathlib.Nat.{add-zero}
+use Prim.Native.Nat.{ℕ, zero, suc, _+_, _*_, _≤_, _<_}
+use native.Mathlib.Nat.{add-zero, zero-mul, eq-of-mul-eq-mul-right}
 use native.Mathlib.Numerals.{add-one}
 use native.Mathlib.Omega.{arith}
 use mathlib.Core.Bool.{Bool, true, false, cond}
@@ -11,6 +11,10 @@ use borrow.Author.Tests.{eq-eqb, ne-eqb, eqb-true}
 use lib.Dec.{eqb}
 use lib.ListN.{length, getD}
 use Rattle.base.specs.Lists.{sift, occurrences, upFrom, Below, Rising}
+
+-- what is nothing by a factor that is not 0 is nothing
+pub no-factor : (m u : ℕ) → 0 < u → m * u ≡ 0 → m ≡ 0
+no-factor m u U h = eq-of-mul-eq-mul-right u U m 0 (h ∙ sym (zero-mul u))
 
 -- ---- upFrom
 

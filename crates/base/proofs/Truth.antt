@@ -1,6 +1,7 @@
--- Tests joined by `&&` and `||`, of which one is known, and a choice by a test of numbers. Assumes nothing.
+-- Tests joined by `&&` and `||`, of which one is known; tests that say the same; and choices by a test. Assumes nothing.
 -- That both of `a && b` hold is mathlib's `and-eq-true-iff`; a test as a fact and back are `passes` and `is-true` of `denote.Floats`.
 use mathlib.Core.Path.{_≡_, refl, sym, subst, _∙_}
+use mathlib.Core.Logic.{_⊎_, inl, inr}
 use mathlib.Core.Bool.{Bool, true, false, cond, _&&_, _||_}
 use Prim.Native.Nat.{ℕ}
 use lib.Dec.{T, eqb}
@@ -38,7 +39,28 @@ second {a} {b} c ea eb hp hq = hq ∙ sym (and-yes (b && c) (sym ea ∙ hp) ∙ 
 pub first : {a p : Bool} (x : Bool) → p ≡ a → p ≡ false → p ≡ a && x
 first x ea hp = hp ∙ sym (and-no x (sym ea ∙ hp))
 
--- a choice by whether a number is 0
+-- tests that say the same are equal
+pub T-ext : (a b : Bool) → (T a → T b) → (T b → T a) → a ≡ b
+T-ext true true h k = refl
+T-ext true false h k = absurd (h tt)
+T-ext false true h k = absurd (k tt)
+T-ext false false h k = refl
+
+-- ---- a choice between two
+
+pub cond-either : {A : Type 0} (t : Bool) (a b : A) → (cond t a b ≡ a) ⊎ (cond t a b ≡ b)
+cond-either true a b = inl refl
+cond-either false a b = inr refl
+
+pub cond-both : {A : Type 0} (P : A → Type 0) (t : Bool) (a b : A) → P a → P b → P (cond t a b)
+cond-both P true a b h k = h
+cond-both P false a b h k = k
+
+pub cond-through : {A B : Type 0} (g : A → B) (t : Bool) (a b : A) → g (cond t a b) ≡ cond t (g a) (g b)
+cond-through g true a b = refl
+cond-through g false a b = refl
+
+-- by whether a number is 0
 pub when : {A : Type 0} (n : ℕ) (a b : A) → n ≡ 0 → cond (eqb n 0) a b ≡ a
 when n a b e = rw (eq-eqb n 0 e)
 

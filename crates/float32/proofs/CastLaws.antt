@@ -14,8 +14,8 @@ use lib.Ieee.Fits.{down-pos}
 use lib.Ieee.Nearest.{div-mono}
 use Rattle.float32.specs.Casts.{castI32, shortOf, clampOf, limit, truncatedOf}
 use Rattle.float32.proofs.Order.{Ordered, from-lowest, to-highest, numbers, le→ordered, lt→strict}
-use Rattle.float32.proofs.OrderLaws.{le-no-nan, le-or-lt, lt-le, le-lt-trans, lt-le-trans}
-use Rattle.float32.proofs.IntegerOrder.{leZ-refl, leZ-antisym, leZ-neg, leZ-across}
+use Rattle.float32.proofs.OrderLaws.{le-no-nan, le-or-lt, lt-le}
+use Rattle.base.proofs.IntegerOrder.{leZ-refl, leZ-antisym, leZ-neg, leZ-across}
 use Rattle.float32.proofs.ClampLaws.{clampOf-low, clampOf-high, clampOf-mono, clampOf-self}
 use Rattle.float32.proofs.Low16.{low16-self}
 
@@ -96,10 +96,6 @@ pub castI32-mono : (x y : Float) → T (le x y) → T (leZ (castI32 x) (castI32 
 castI32-mono x y h = toSigned-mono 31 x y h
 
 -- ---- truncated values
-pub limit-is : limit ≡ fin false 32767 (pos 0)
-unfolding ofBits
-limit-is = refl
-
 ends : T (le (neg limit) limit)
 unfolding le neg ofBits
 ends = tt
@@ -225,6 +221,3 @@ shortOf-is-castI32 x h k =
 pub shortOf-is-truncatedOf : (x : Float) → T (lt (neg edge) x) → T (lt x edge) → shortOf x ≡ truncatedOf x
 shortOf-is-truncatedOf x h k =
     shortOf-is-castI32 x h k ∙ same-cast x (between x h k) ∙ same-truncated x (le-no-nan x edge (lt-le x edge k) .0) (between x h k)
-
-pub within-edge : (x : Float) → T (le (neg limit) x) → T (le x limit) → T (lt (neg edge) x) × T (lt x edge)
-within-edge x h k = (lt-le-trans (neg edge) (neg limit) x (unfold lt neg ofBits in tt) h, le-lt-trans x limit edge k (unfold lt ofBits in tt))

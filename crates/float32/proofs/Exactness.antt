@@ -6,27 +6,25 @@ use Prim.Native.Nat.{ℕ, zero, suc, _+_, _-_, _*_, _/_, _%_, _^_, _≤_, _<_}
 use native.Mathlib.Nat.{zero-mul, mul-assoc, mul-comm, mul-right-comm, mul-one, mul-lt-mul-of-pos-right, lt-of-mul-lt-mul-right}
 use native.Mathlib.Nat.{lt-of-not-le, not-le-of-lt, le-of-suc-le-suc, sub-add-cancel, le-mul-of-pos-right, le-trans, mul-pos}
 use native.Mathlib.Omega.{arith}
-use lib.Dec.{T, eqb, ltb, leb, ltb→lt, leb→le, eqb→eq, lit≤}
+use lib.Dec.{T, eqb, ltb, leb, ltb→lt, leb→le, eqb→eq}
 use lib.IntN.{ℤ, pos, negsuc}
 use lib.Pow.{pow-add, pow-pos, pow-lt, pow-mono}
-use lib.Ieee.{Float, nan, inf, fin, Format, binary32, binary64, prec, emax, low, up, down, size, hid, top, round, fits, toBits, ofBits}
+use lib.Ieee.{Float, nan, inf, fin, Format, prec, emax, low, up, down, size, hid, top, round, fits, toBits, ofBits}
 use lib.Ieee.Fits.{and-l, and-r, up-pos, down-pos, round-fits}
 use lib.Ieee.Bits.{ofBits-toBits}
 use lib.Ieee.Exact.{HasValue, round-exact}
 use lib.Ieee.Nearest.{div-same}
-use lib.Ieee.Order.{round-mono}
 use lib.Ieee.Scale.{finite}
 use lib.Ieee.Positive.{den}
 use Rattle.float32.proofs.Order.{over, under}
-use Rattle.float32.proofs.OrderLaws.{finite-between, neg-finite}
-use Rattle.float32.proofs.Rounding.{Rounded, above, below, round-neg, zero-le-round}
+use Rattle.float32.proofs.Rounding.{Rounded, above, below}
 
 -- ---- of each number and sign a format holds one value
-pattern : Format → Bool → ℕ → ℕ
+abbrev pub pattern : Format → Bool → ℕ → ℕ
 pattern f s n = let k = size n - prec f in cond s (top f) 0 + k * hid f + n / 2 ^ k
 
-toBits-value : (f : Format) (x : Float) (s : Bool) (a c : ℕ) → 0 < c → HasValue x s a c → toBits f x ≡ pattern f s (a * 2 ^ low f / c)
-unfolding toBits pattern
+pub toBits-value : (f : Format) (x : Float) (s : Bool) (a c : ℕ) → 0 < c → HasValue x s a c → toBits f x ≡ pattern f s (a * 2 ^ low f / c)
+unfolding toBits
 toBits-value f nan s a c C h = absurd h
 toBits-value f (inf t) s a c C h = absurd h
 toBits-value f (fin t m e) s a c C h =
@@ -140,27 +138,3 @@ self-rounded f nan p q = absurd p
 self-rounded f (inf s) p q = absurd p
 self-rounded f (fin false m e) p q = above (omega arith) (sym (round-self f false m e q) ∙ ap (λ (z : ℕ). round f false z (down e)) (omega arith))
 self-rounded f (fin true m e) p q = below (omega arith) (sym (round-self f true m e q) ∙ ap (λ (z : ℕ). round f true z (down e)) (omega arith))
-
--- ---- 2 ^ emax is a value, so what is no larger does not overflow
-power-value : (f : Format) → HasValue (round f false (2 ^ emax f) 1) false (2 ^ emax f) 1
-power-value binary32 = round-exact binary32 false (2 ^ 127) 1 1 276 (lit≤ tt) (lit≤ tt) (lit≤ tt) refl
-power-value binary64 = round-exact binary64 false (2 ^ 1023) 1 1 2097 (lit≤ tt) (lit≤ tt) (lit≤ tt) refl
-
-value-finite : (x : Float) (s : Bool) (a c : ℕ) → HasValue x s a c → T (finite x)
-value-finite nan s a c h = h
-value-finite (inf t) s a c h = h
-value-finite (fin t m e) s a c h = tt
-
-above-finite : (f : Format) (a c : ℕ) → 0 < c → a ≤ 2 ^ emax f * c → T (finite (round f false a c))
-above-finite f a c C h =
-    finite-between (fin false 0 (pos 0)) (round f false a c) (round f false (2 ^ emax f) 1) tt
-    (value-finite (round f false (2 ^ emax f) 1) false (2 ^ emax f) 1 (power-value f)) (zero-le-round f a c C)
-    (round-mono f a c (2 ^ emax f) 1 C (lit≤ tt) (omega arith))
-
-pub round-finite : (f : Format) (s : Bool) (a c : ℕ) → 0 < c → a ≤ 2 ^ emax f * c → T (finite (round f s a c))
-round-finite f false a c C h = above-finite f a c C h
-round-finite f true a c C h = rw (round-neg f a c) (neg-finite (round f false a c) (above-finite f a c C h))
-
-pub rounded-finite : {f : Format} {r : Float} {P Q c : ℕ} → 0 < c → Rounded f r P Q c → P ≤ Q + 2 ^ emax f * c → Q ≤ P + 2 ^ emax f * c → T (finite r)
-rounded-finite {f} {r} {P} {Q} {c} C (above h e) p q = rw e (round-finite f false (P - Q) c C (omega arith))
-rounded-finite {f} {r} {P} {Q} {c} C (below h e) p q = rw e (round-finite f true (Q - P) c C (omega arith))

@@ -1,43 +1,31 @@
 -- The lesser and the greater of two: each is one of the two, off NaN a bound of both and the tightest one; and which of the two is kept where a NaN stands.
 use mathlib.Core.Path.{_≡_, refl, sym, subst}
-use mathlib.Core.Logic.{_⊎_, inl, inr}
+use mathlib.Core.Logic.{_⊎_}
 use mathlib.Core.Bool.{Bool, true, false, not, cond}
 use Prim.Native.Nat.{ℕ}
 use lib.Dec.{T}
 use lib.Ieee.{Float, nan, inf, fin, lt, le, isNan, binary32, ofBits}
+use Rattle.base.proofs.Truth.{cond-either, cond-both, cond-through}
 use Rattle.float32.specs.Extremes.{vminOf, vmaxOf, vminWord, vmaxWord, minNumberOf, maxNumberOf}
 use Rattle.float32.proofs.OrderLaws.{le-refl, lt-le, not-lt→le}
-
--- ---- a choice between two
-either : {A : Type 0} (t : Bool) (a b : A) → (cond t a b ≡ a) ⊎ (cond t a b ≡ b)
-either true a b = inl refl
-either false a b = inr refl
-
-both : {A : Type 0} (P : A → Type 0) (t : Bool) (a b : A) → P a → P b → P (cond t a b)
-both P true a b h k = h
-both P false a b h k = k
-
-through : {A B : Type 0} (g : A → B) (t : Bool) (a b : A) → g (cond t a b) ≡ cond t (g a) (g b)
-through g true a b = refl
-through g false a b = refl
 
 -- ---- vmin and vmax: the first where it is beyond the second, else the second
 pub vminOf-either : (a b : Float) → (vminOf a b ≡ a) ⊎ (vminOf a b ≡ b)
 unfolding vminOf
-vminOf-either a b = either (lt a b) a b
+vminOf-either a b = cond-either (lt a b) a b
 
 pub vmaxOf-either : (a b : Float) → (vmaxOf a b ≡ a) ⊎ (vmaxOf a b ≡ b)
 unfolding vmaxOf
-vmaxOf-either a b = either (lt b a) a b
+vmaxOf-either a b = cond-either (lt b a) a b
 
 -- what holds of both holds of the choice: no NaN, finite, at least c, at most c
 pub vminOf-both : (P : Float → Type 0) (a b : Float) → P a → P b → P (vminOf a b)
 unfolding vminOf
-vminOf-both P a b h k = both P (lt a b) a b h k
+vminOf-both P a b h k = cond-both P (lt a b) a b h k
 
 pub vmaxOf-both : (P : Float → Type 0) (a b : Float) → P a → P b → P (vmaxOf a b)
 unfolding vmaxOf
-vmaxOf-both P a b h k = both P (lt b a) a b h k
+vmaxOf-both P a b h k = cond-both P (lt b a) a b h k
 
 pub vminOf-greatest : (a b c : Float) → T (le c a) → T (le c b) → T (le c (vminOf a b))
 vminOf-greatest a b c h k = vminOf-both (λ z. T (le c z)) a b h k
@@ -91,19 +79,19 @@ vmaxOf-nan-second a = rw (nan-lt a)
 -- ---- the same choice between words
 pub vminWord-either : (a b : ℕ) → (vminWord a b ≡ a) ⊎ (vminWord a b ≡ b)
 unfolding vminWord
-vminWord-either a b = either (lt (ofBits binary32 a) (ofBits binary32 b)) a b
+vminWord-either a b = cond-either (lt (ofBits binary32 a) (ofBits binary32 b)) a b
 
 pub vmaxWord-either : (a b : ℕ) → (vmaxWord a b ≡ a) ⊎ (vmaxWord a b ≡ b)
 unfolding vmaxWord
-vmaxWord-either a b = either (lt (ofBits binary32 b) (ofBits binary32 a)) a b
+vmaxWord-either a b = cond-either (lt (ofBits binary32 b) (ofBits binary32 a)) a b
 
 pub vminWord-value : (a b : ℕ) → ofBits binary32 (vminWord a b) ≡ vminOf (ofBits binary32 a) (ofBits binary32 b)
 unfolding vminWord vminOf
-vminWord-value a b = through (ofBits binary32) (lt (ofBits binary32 a) (ofBits binary32 b)) a b
+vminWord-value a b = cond-through (ofBits binary32) (lt (ofBits binary32 a) (ofBits binary32 b)) a b
 
 pub vmaxWord-value : (a b : ℕ) → ofBits binary32 (vmaxWord a b) ≡ vmaxOf (ofBits binary32 a) (ofBits binary32 b)
 unfolding vmaxWord vmaxOf
-vmaxWord-value a b = through (ofBits binary32) (lt (ofBits binary32 b) (ofBits binary32 a)) a b
+vmaxWord-value a b = cond-through (ofBits binary32) (lt (ofBits binary32 b) (ofBits binary32 a)) a b
 
 -- ---- Rust's own min and max: they skip a NaN on either side, and off NaN are vmin and vmax with the two exchanged
 pub minNumberOf-nan-first : (b : Float) → minNumberOf nan b ≡ b

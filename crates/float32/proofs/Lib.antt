@@ -5,7 +5,6 @@ pub mod CmpLaws
 pub mod Exactness
 pub mod ExtremeLaws
 pub mod Halving
-pub mod IntegerOrder
 pub mod KeyLaws
 mod Keys
 pub mod Low16

@@ -25,6 +25,10 @@ either-half b = go (decLe 32768 b)
     go (yes h) = inr h
     go (no h) = inl (lt-of-not-le h)
 
+pub low-lt : (n : ℤ) → low16bits n < 65536
+low-lt (pos n) = omega arith
+low-lt (negsuc n) = omega arith
+
 pub low16-self : (n : ℤ) → T (leZ (negsuc 32767) n) → T (leZ n (pos 32767)) → low16 n ≡ n
 low16-self (pos n) h k =
     let i : n ≤ 32767 = leb→le n 32767 k in
@@ -74,9 +78,5 @@ split (negsuc n) =
 pub low16-congruent : (n : ℤ) → (k : ℤ) × (n ≡ low16 n +ℤ k *ℤ pos 65536)
 low16-congruent n =
     let s = split n in
-    let c = congruent (low16bits n) (s .0) (bits-lt n) in
+    let c = congruent (low16bits n) (s .0) (low-lt n) in
     (c .0, s .1 ∙ c .1)
-  where
-    bits-lt : (n : ℤ) → low16bits n < 65536
-    bits-lt (pos n) = omega arith
-    bits-lt (negsuc n) = omega arith

@@ -1,10 +1,9 @@
 -- Each operation on finite values is its exact result, rounded once: a signed fraction (P - Q) / c, of which a zero has either sign. Rounding keeps
 -- the order of such fractions.
 use mathlib.Core.Path.{_≡_, refl, sym, ap, _∙_, subst}
-use mathlib.Core.Logic.{inl, inr}
 use mathlib.Core.Bool.{Bool, true, false, not, cond}
 use Prim.Native.Nat.{ℕ, zero, suc, _+_, _*_, _-_, _^_, _≤_, _<_}
-use native.Mathlib.Nat.{le-refl, mul-comm, mul-sub, zero-mul, mul-pos, eq-zero-or-pos, zero-lt-suc}
+use native.Mathlib.Nat.{mul-comm, mul-sub, zero-mul, zero-lt-suc}
 use native.Mathlib.Omega.{arith}
 use lib.Dec.{T, ltb, eqb, ltb→lt}
 use lib.IntN.{pos}
@@ -14,6 +13,7 @@ use lib.Ieee.Order.{round-mono}
 use lib.Ieee.Scale.{finite, round-same}
 use lib.Ieee.Positive.{num, den, positive}
 use borrow.Author.Tests.{ltb-true, ltb-false, ne-eqb}
+use Rattle.base.proofs.NumberLaws.{no-factor}
 use Rattle.float32.proofs.Order.{over, under}
 use Rattle.float32.proofs.OrderLaws.{le-no-nan, le-trans, neg-neg, neg-le, neg-finite, neg-over, neg-under, neg-den}
 
@@ -68,10 +68,7 @@ gap : (P Q c P' Q' c' : ℕ) → P * c' + Q' * c ≤ P' * c + Q * c' → (P - Q)
 gap P Q c P' Q' c' h = rw (mul-comm (P - Q) c', mul-sub c' P Q, mul-comm (P' - Q') c, mul-sub c P' Q') (omega arith)
 
 none : (d c n e : ℕ) → 0 < c → n ≡ 0 → d * c ≤ n * e → d ≡ 0
-none d c n e C z h = elim (eq-zero-or-pos d) [ inl k ↦ k | inr k ↦ absurd (clash (mul-pos k C) (rw (z, zero-mul) at h)) ]
-  where
-    clash : 0 < d * c → d * c ≤ 0 → ⊥
-    clash h k = omega arith
+none d c n e C z h = let k = rw (z, zero-mul) at h in no-factor d c C (omega arith)
 
 pub rounded-mono : {f : Format} {r r' : Float} {P Q c P' Q' c' : ℕ} → 0 < c → 0 < c' → Rounded f r P Q c → Rounded f r' P' Q' c'
     → P * c' + Q' * c ≤ P' * c + Q * c' → T (le r r')
@@ -88,16 +85,6 @@ rounded-mono {f} {r} {r'} {P} {Q} {c} {P'} {Q'} {c'} C C' (above p e) (below q e
     let i : P - Q ≡ 0 = none (P - Q) c' (P' - Q') c C' (omega arith) (gap P Q c P' Q' c' h) in
     let j : Q' - P' ≡ 0 = none (Q' - P') c (Q - P) c' C (omega arith) (gap Q' P' c' Q P c (omega arith)) in
     rw (e ∙ ap (λ (z : ℕ). round f false z c) i ∙ round-zero f false c C, e' ∙ ap (λ (z : ℕ). round f true z c') j ∙ round-zero f true c' C') (unfold le in tt)
-
-zero-rounded : (f : Format) → Rounded f (fin false 0 (pos 0)) 0 0 1
-zero-rounded f = above (le-refl 0) (sym (round-zero f false 1 (zero-lt-suc 0)))
-
--- the sign of the exact result is kept
-pub rounded-ge-zero : {f : Format} {r : Float} {P Q c : ℕ} → 0 < c → Rounded f r P Q c → Q ≤ P → T (le (fin false 0 (pos 0)) r)
-rounded-ge-zero {f} C h k = rounded-mono (zero-lt-suc 0) C (zero-rounded f) h (omega arith)
-
-pub rounded-le-zero : {f : Format} {r : Float} {P Q c : ℕ} → 0 < c → Rounded f r P Q c → P ≤ Q → T (le r (fin false 0 (pos 0)))
-rounded-le-zero {f} C h k = rounded-mono C (zero-lt-suc 0) h (zero-rounded f) (omega arith)
 
 -- ---- x + y
 sum-apart : (f : Format) (a b c P Q : ℕ) → P ≡ a → Q ≡ b → Rounded f (sum f false a true b c) P Q c

@@ -1,9 +1,9 @@
 -- Casts of a product: the truncated value of x * k grows with x, for a positive k and for +infinity; and a zero times +infinity has the value 0 either way.
-use mathlib.Core.Path.{_≡_, refl, sym, _∙_}
+use mathlib.Core.Path.{_≡_, refl}
 use mathlib.Core.Logic.{inl, inr}
 use mathlib.Core.Bool.{Bool, true, false, cond}
-use Prim.Native.Nat.{ℕ, _+_, _*_, _≤_, _<_}
-use native.Mathlib.Nat.{lt-irrefl, zero-mul, eq-zero-or-pos, eq-of-mul-eq-mul-right}
+use Prim.Native.Nat.{_+_, _*_, _≤_, _<_}
+use native.Mathlib.Nat.{lt-irrefl, eq-zero-or-pos}
 use native.Mathlib.Omega.{arith}
 use lib.Dec.{T, lt→ltb}
 use lib.IntN.{pos, negsuc}
@@ -13,6 +13,7 @@ use lib.Ieee.Fits.{up-pos}
 use lib.Ieee.Scale.{finite}
 use lib.Ieee.Positive.{den, den-pos, positive, first-pos}
 use borrow.Author.Tests.{eq-eqb}
+use Rattle.base.proofs.NumberLaws.{no-factor}
 use Rattle.float32.specs.Casts.{shortOf, truncatedOf}
 use Rattle.float32.proofs.Order.{over, under, Cross, Ordered, from-lowest, to-highest, numbers, le→ordered, le→cross}
 use Rattle.float32.proofs.OrderLaws.{finite-between}
@@ -43,9 +44,6 @@ under-inf f nan p h = absurd p
 under-inf f (inf s) p h = absurd p
 under-inf f (fin true m e) p h = rw (positive-not-zero m (lt→ltb 0 m (first-pos m (up e) h)))
 under-inf f (fin false m e) p h = absurd (lt-irrefl 0 h)
-
-no-factor : (m u : ℕ) → 0 < u → m * u ≡ 0 → m ≡ 0
-no-factor m u U h = eq-of-mul-eq-mul-right u U m 0 (h ∙ sym (zero-mul u))
 
 zero-inf : (f : Format) (x : Float) → T (finite x) → over x ≡ 0 → under x ≡ 0 → mul f x (inf false) ≡ nan
 unfolding mul

@@ -3,13 +3,14 @@ use mathlib.Core.Path.{_≡_, refl, sym, ap, _∙_, subst}
 use mathlib.Core.Logic.{_⊎_, inl, inr}
 use mathlib.Core.Bool.{true, false, not}
 use Prim.Native.Nat.{ℕ, zero, suc, _+_, _*_, _^_, _≤_, _<_}
-use native.Mathlib.Nat.{eq-of-mul-eq-mul-right, zero-mul, mul-one, one-mul, pow-suc}
+use native.Mathlib.Nat.{zero-mul, mul-one, one-mul, pow-suc}
 use native.Mathlib.Omega.{arith}
 use borrow.Author.Tests.{ltb-true, ltb-false}
 use lib.Dec.{T, eqb, eqb→eq}
 use lib.IntN.{ℤ, pos, negsuc}
 use lib.Ieee.{Float, nan, inf, fin, up, down, binary32, neg, lt, le, eq, isNan, fits}
 use lib.Ieee.Fits.{up-pos, and-l, and-i, eq→eqb}
+use Rattle.base.proofs.NumberLaws.{no-factor}
 use Rattle.float32.specs.Signs.{absOf}
 use Rattle.float32.proofs.Order.{cross→le}
 use Rattle.float32.proofs.OrderLaws.{le-refl, le-trans, le-no-nan, neg-neg, neg-no-nan, neg-le}
@@ -38,8 +39,7 @@ plain (pos (suc k)) h = absurd (no-power k (sym (mul-one (2 ^ suc k)) ∙ h))
 plain (negsuc k) h = absurd (no-power k (sym (one-mul (2 ^ suc k)) ∙ h))
 
 zero-digits : (m : ℕ) (e : ℤ) → m * up e * 1 ≡ 0 → m ≡ 0
-zero-digits m e h =
-    eq-of-mul-eq-mul-right (up e) (up-pos e) m 0 (sym (mul-one (m * up e)) ∙ h ∙ sym (zero-mul (up e)))
+zero-digits m e h = no-factor m (up e) (up-pos e) (sym (mul-one (m * up e)) ∙ h)
 
 pub at-zero : (x : Float) → T (fits binary32 x) → eq x (fin false 0 (pos 0)) ≡ true → fin false 0 (pos 0) ≡ absOf x
 unfolding eq absOf fits

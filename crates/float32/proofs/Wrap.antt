@@ -70,10 +70,6 @@ back-low b h = toZ-pos w16 h ∙ sym (ap (λ (t : Bool). cond t (pos b) (negsuc 
 pub back-high : (b : ℕ) → 32768 ≤ b → toZ w16 (ofZ w16 (negsuc 0 -ℤ toZ w16 (65535 - b))) ≡ signed16 b
 back-high b h = toZ-ofZ (back-fits b h) ∙ back-value b h ∙ sym (ap (λ (t : Bool). cond t (pos b) (negsuc (65535 - b))) (le-ltb b 32768 h))
 
-pub low-lt : (n : ℤ) → low16bits n < 65536
-low-lt (pos n) = omega arith
-low-lt (negsuc n) = omega arith
-
 signed-fits-at : (b : ℕ) (t : Bool) → (t ≡ true → b < 32768) → (t ≡ false → 65535 - b < 32768) → SFits w16 (cond t (pos b) (negsuc (65535 - b)))
 signed-fits-at b true h k = record { sfits = h refl }
 signed-fits-at b false h k = record { sfits = k refl }

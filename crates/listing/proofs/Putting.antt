@@ -6,7 +6,7 @@ use mathlib.Core.List.{List, [], _∷_, _++_}
 use mathlib.Core.Path.{_≡_, refl, sym, ap, _∙_}
 use lib.ListN.{length, getD, take, set, length-append, length-set}
 use lib.Seq.{sets, length-sets, length-take-le, take-suc, take-all}
-use Rattle.records.proofs.Stores.{store-next}
+use Rattle.base.proofs.StoreLaws.{store-next}
 use Rattle.listing.specs.Text.{Put}
 
 pub put-then : {m n : ℕ} {a b before mid after : List ℕ} {at end r : ℕ} → Put m a before at mid end → Put n b mid end after r

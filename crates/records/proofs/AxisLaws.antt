@@ -5,8 +5,8 @@
 use mathlib.Core.Path.{_≡_, refl, ap, _∙_}
 use mathlib.Core.Logic.{inl, inr}
 use mathlib.Core.Bool.{true, false, not}
-use Prim.Native.Nat.{ℕ, _*_, _≤_, _<_}
-use native.Mathlib.Nat.{eq-of-mul-eq-mul-right, zero-mul, mul-pos}
+use Prim.Native.Nat.{ℕ, _*_}
+use native.Mathlib.Nat.{zero-mul, mul-pos}
 use native.Mathlib.Omega.{arith}
 use lib.Dec.{T, lit≤}
 use lib.IntN.{ℤ, pos, negsuc}
@@ -15,6 +15,7 @@ use lib.Ieee.{Float, nan, inf, fin, binary32, up, down, add, sub, mul, div, neg,
 use lib.Ieee.Fits.{up-pos, down-pos}
 use lib.Ieee.Scale.{finite}
 use lib.Ieee.Positive.{positive}
+use Rattle.base.proofs.NumberLaws.{no-factor}
 use Rattle.float32.specs.Casts.{limit}
 use Rattle.float32.specs.Signs.{absOf}
 use Rattle.float32.proofs.CastLaws.{truncatedOf-in}
@@ -53,9 +54,6 @@ abs-clear (fin s m e) = tt
 extent-clear : (lo hi : Float) → Clear (extent lo hi)
 extent-clear lo hi = vmaxOf-both Clear (absOf (lo ⊖ centre lo hi)) (absOf (hi ⊖ centre lo hi)) (abs-clear (lo ⊖ centre lo hi)) (abs-clear (hi ⊖ centre lo hi))
 
-no-digits : (m u : ℕ) → 0 < u → m * u ≤ 0 → m ≡ 0
-no-digits m u U h = eq-of-mul-eq-mul-right u U m 0 (omega arith)
-
 zero-quantum : (e : ℤ) → fin false 0 e ⊘ limit ≡ nought
 unfolding div ofBits
 zero-quantum e = rw zero-mul (round-zero binary32 false (32767 * 1 * down e) (mul-pos (lit≤ tt) (down-pos e)))
@@ -66,7 +64,7 @@ quantum-nought (inf s) c h = absurd (unfold eq in h)
 quantum-nought (fin true m e) c h = absurd c
 quantum-nought (fin false m e) c h =
     let k = le→cross (fin false m e) nought tt tt (eq→le (fin false m e) nought h .0) in
-    let z : m ≡ 0 = no-digits m (up e) (up-pos e) (omega arith) in
+    let z : m ≡ 0 = no-factor m (up e) (up-pos e) (omega arith) in
     ap (λ (n : ℕ). fin false n e ⊘ limit) z ∙ zero-quantum e
 
 one-nought : one ⊘ nought ≡ inf false

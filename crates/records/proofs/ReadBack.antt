@@ -1,18 +1,16 @@
 -- Reading after writing is the identity, for nodes and trees by one lemma over what they have in common. Assumes nothing.
 use mathlib.Core.Path.{_≡_, sym, ap, _∙_}
-use mathlib.Core.Bool.{Bool, cond}
 use mathlib.Core.List.{List, [], _++_}
-use Prim.Native.Nat.{ℕ, _+_, _-_, _%_, _≤_}
+use Prim.Native.Nat.{ℕ, _+_}
 use native.Mathlib.Nat.{add-assoc, add-zero}
 use native.Mathlib.Omega.{arith}
 use lib.IntN.{ℤ, pos, negsuc}
-use lib.ListN.{length, take}
-use lib.Seq.{length-take-le}
+use lib.ListN.{length}
 use mir.Syntax.{w16}
 use mir.Val.{SFits}
-use borrow.Author.Tests.{lt-ltb, le-ltb}
-use Rattle.float32.specs.Casts.{low16bits, signed16}
-use Rattle.float32.proofs.Wrap.{low-lt}
+use lib.Dec.{le→leb}
+use Rattle.float32.specs.Casts.{low16bits, signed16, low16}
+use Rattle.float32.proofs.Low16.{low-lt, low16-self}
 use Rattle.base.specs.LittleEndian.{littleEndian, leAt}
 use Rattle.base.proofs.LittleEndian.{le-after, le-back}
 use Rattle.records.specs.Shorts.{shortBytes, shortAt}
@@ -22,15 +20,9 @@ use Rattle.records.specs.declared.BvhNode.{BvhNode}
 use Rattle.records.specs.declared.BvhTree.{BvhTree}
 
 -- The low 16 bits of an i16 stand for it.
-pub signed-low : (v : ℤ) → SFits w16 v → signed16 (low16bits v) ≡ v
-signed-low (pos n) h =
-    let small : n % 65536 ≡ n = omega (arith, h .sfits) in
-    ap signed16 small ∙ ap (λ (b : Bool). cond b (pos n) (negsuc (65535 - n))) (lt-ltb n 32768 (h .sfits))
-signed-low (negsuc n) h =
-    let large : 32768 ≤ 65535 - n % 65536 = omega (arith, h .sfits) in
-    let back : 65535 - (65535 - n % 65536) ≡ n = omega (arith, h .sfits) in
-    let m : ℕ = 65535 - n % 65536 in
-    ap (λ (b : Bool). cond b (pos m) (negsuc (65535 - m))) (le-ltb m 32768 large) ∙ ap negsuc back
+signed-low : (v : ℤ) → SFits w16 v → low16 v ≡ v
+signed-low (pos n) h = low16-self (pos n) tt (omega (arith, h .sfits, le→leb))
+signed-low (negsuc n) h = low16-self (negsuc n) (omega (arith, h .sfits, le→leb)) tt
 
 -- So do its two bytes.
 short-back : (v : ℤ) (rest : List ℕ) → SFits w16 v → shortAt (shortBytes v ++ rest) 0 ≡ v
@@ -94,12 +86,3 @@ unfolding treeBytes
 tree-back p rest at t e f =
     let r = boxed-back p rest at (t .min) (t .max) (t .«node_index1») (t .«node_index2») e f in
     λ i. record { min = r .low i; max = r .high i; «node_index1» = r .one i; «node_index2» = r .two i }
-
--- The same in the shape in which `put_node` and `put_tree` leave the bytes.
-pub node-put-back : (bytes rest : List ℕ) (at : ℕ) (n : BvhNode) → at ≤ length bytes → NodeFits n
-    → nodeAt (take at bytes ++ (nodeBytes n ++ rest)) at ≡ n
-node-put-back bytes rest at n h f = node-back (take at bytes) rest at n (length-take-le at bytes h) f
-
-pub tree-put-back : (bytes rest : List ℕ) (at : ℕ) (t : BvhTree) → at ≤ length bytes → TreeFits t
-    → treeAt (take at bytes ++ (treeBytes t ++ rest)) at ≡ t
-tree-put-back bytes rest at t h f = tree-back (take at bytes) rest at t (length-take-le at bytes h) f

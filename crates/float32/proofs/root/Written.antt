@@ -9,12 +9,13 @@ use native.Mathlib.Nat.{not-le-of-lt, mul-le-mul-right, mul-div-cancel, le-refl,
 use native.Mathlib.Omega.{arith}
 use lib.Dec.{T, lit≤, lit<}
 use lib.Pow.{pow-add, pow-pos, pow-mono, pow-lt, shl-lt}
-use lib.Ieee.{Float, nan, inf, fin, Format, binary32, binary64, prec, emax, low, hid, top, down, size, odd, units, fits, toBits, ofBits}
+use lib.Ieee.{Float, inf, Format, binary32, binary64, prec, emax, low, hid, size, odd, units, fits, toBits, ofBits}
 use lib.Ieee.Digits.{size-lt, size-le}
-use lib.Ieee.Fits.{odd-fits, down-pos}
+use lib.Ieee.Fits.{odd-fits}
 use lib.Ieee.Exact.{HasValue, units-val}
 use lib.Ieee.Bits.{ofBits-toBits}
 use borrow.Author.Tests.{lt-ltb}
+use Rattle.float32.proofs.Exactness.{pattern, toBits-value, fits-unique}
 
 -- q has a leading digit in the place of hid, unless nothing is dropped.
 abbrev pub Leads : Format → ℕ → ℕ → Type 0
@@ -42,19 +43,13 @@ dropped f q k hi l = go l (size-le (q * 2 ^ k) (prec f + k) (shl-lt (prec f) k h
         s
 
 -- ---- the pattern is told by the number, a smallest values, and its sign
-pattern-of : (f : Format) (s : Bool) (v : Float) (a : ℕ) → HasValue v s a (2 ^ low f)
-    → toBits f v ≡ cond s (top f) 0 + (size a - prec f) * hid f + a / 2 ^ (size a - prec f)
-unfolding toBits
-pattern-of f s nan a h = absurd h
-pattern-of f s (inf t) a h = absurd h
-pattern-of f s (fin t m e) a h =
-    ap (λ (n : ℕ). cond t (top f) 0 + (size n - prec f) * hid f + n / 2 ^ (size n - prec f)) (ap (λ (z : ℕ). z / down e) (h .1) ∙ mul-div-cancel a (down-pos e))
-    ∙ ap (λ (t : Bool). cond t (top f) 0 + (size a - prec f) * hid f + a / 2 ^ (size a - prec f)) (h .0)
+pattern-of : (f : Format) (s : Bool) (v : Float) (a : ℕ) → HasValue v s a (2 ^ low f) → toBits f v ≡ pattern f s a
+pattern-of f s v a h = toBits-value f v s a (2 ^ low f) (pow-pos (low f)) h ∙ ap (pattern f s) (mul-div-cancel a (pow-pos (low f)))
 
 -- So a value is told by its number and sign.
-pub same-value : (f : Format) (s : Bool) (v w : Float) (a : ℕ) → T (fits f v) → T (fits f w) → HasValue v s a (2 ^ low f) → HasValue w s a (2 ^ low f) → v ≡ w
-same-value f s v w a v-fits w-fits h k =
-    sym (ofBits-toBits f v v-fits) ∙ ap (ofBits f) (pattern-of f s v a h ∙ sym (pattern-of f s w a k)) ∙ ofBits-toBits f w w-fits
+pub same-value : (f : Format) (s : Bool) (v w : Float) (a : ℕ) → T (fits f v) → T (fits f w) → HasValue v s a (2 ^ low f) → HasValue w s a (2 ^ low f)
+    → v ≡ w
+same-value f s v w a v-fits w-fits h k = fits-unique f v w s a (2 ^ low f) (pow-pos (low f)) v-fits w-fits h k
 
 pub written : (f : Format) (v : Float) (q k : ℕ) → q < 2 ^ prec f → Leads f q k → HasValue v false (q * 2 ^ k) (2 ^ low f) → toBits f v ≡ k * hid f + q
 written f v q k hi l h =

@@ -3,6 +3,7 @@ use mathlib.Core.Path.{sym, ap, _∙_}
 use lib.Ieee.{ofBits, neg, toSigned}
 use mir.Syntax.{w32}
 use Rattle.float32.proofs.Patterns.{nan-if}
+use Rattle.float32.proofs.CastLaws.{toSigned-nan}
 use Rattle.float32.proofs.Range as Range
 use Rattle.float32.proofs.casts.to_i32.Statement.{statement}
 use Rattle.float32.proofs.casts.to_i32.Tie as tie
@@ -28,7 +29,7 @@ returns-2 c =
     Range.cast-is w32 tt (c .before .before .before .args .x) (c .truncating-f32-to-i64 .result) (in-range (c .before)) (c .truncating-f32-to-i64 .ensures)
 
 returns-3 : tie.Need-returns-3
-returns-3 c = sym (ap (toSigned 31) (nan-if (c .before .before .before .args .x) (c .if3 .taken)) ∙ Range.of-nan)
+returns-3 c = sym (ap (toSigned 31) (nan-if (c .before .before .before .args .x) (c .if3 .taken)) ∙ toSigned-nan 31)
 
 returns-4 : tie.Need-returns-4
 unfolding ofBits neg

@@ -6,7 +6,8 @@ use mir.Syntax.{w16, w32}
 use mir.Val.{SFits, toZ, ofZ}
 use mir.Facts.{toZ-ofZ}
 use Rattle.float32.specs.Casts.{signed16, low16}
-use Rattle.float32.proofs.Wrap.{low-lt, signed-fits}
+use Rattle.float32.proofs.Low16.{low-lt}
+use Rattle.float32.proofs.Wrap.{signed-fits}
 use Rattle.float32.proofs.casts.wrap_i16.Statement.{statement}
 use Rattle.float32.proofs.casts.wrap_i16.Tie as tie
 
