@@ -3,7 +3,7 @@ use borrow.Author.Needs.{needs}
 use Rattle.walk.proofs.state.WalkState.hand_over.Statement.{statement}
 use Rattle.walk.proofs.state.WalkState.hand_over.Tie as tie
 use native.Mathlib.Omega.{arith}
-use mathlib.Core.Path.{_≡_, ap, _∙_}
+use mathlib.Core.Path.{ap, _∙_}
 use Prim.Native.Nat.{ℕ, _+_, _-_, min}
 use Rattle.walk.specs.Refusals.{whole}
 use Rattle.walk.specs.Step.{upFrom, leafStatus, handing}

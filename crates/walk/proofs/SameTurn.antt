@@ -1,4 +1,4 @@
--- A step that meets its contract meets it of an equal turn, and of an equal record.
+-- A step that stands for a turn stands for an equal one, and a step at a record for that of an equal record.
 use mathlib.Core.Path.{_≡_, ap, subst}
 use Prim.Native.Nat.{ℕ}
 use Rattle.records.specs.declared.BvhNode.{BvhNode}
