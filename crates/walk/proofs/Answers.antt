@@ -7,6 +7,8 @@ use native.Mathlib.Omega.{arith}
 use lib.Dec.{ltb, lit<}
 use lib.ListN.{length}
 use borrow.Author.Tests.{ltb-false}
+use Rattle.base.proofs.Truth.{neither}
+use Rattle.base.proofs.StoreLaws.{sets-over}
 use Rattle.math.specs.declared.aabb.Aabb.{Aabb}
 use Rattle.math.specs.declared.vec3.Vec3.{Vec3}
 use Rattle.walk.specs.Boxes.{queryOf}
@@ -18,8 +20,6 @@ use Rattle.walk.specs.declared.core.Walk.{Walk}
 use Rattle.walk.specs.declared.core.WalkRefusal.the-variants.{TooMany, BufferTooShort}
 use Rattle.walk.specs.declared.state.Sizes.{Sizes}
 use Rattle.walk.specs.declared.state.WalkState.{WalkState}
-use Rattle.walk.proofs.Handing.{sets-over}
-use Rattle.walk.proofs.Truth.{either-no-first, either-no-second}
 use Rattle.walk.proofs.WalkLaws.{walk-handed, walk-within}
 
 -- ---- what the checks show
@@ -30,11 +30,11 @@ pub record Few (z : Sizes) : Type 0 where
 
 pub few : (z : Sizes) → tooMany z ≡ false → Few z
 few z e =
-    let r = either-no-second (ltb 65535 (z .nodes)) (ltb 65535 (z .trees) || ltb 65535 (z .items)) e in
+    let r = neither (ltb 65535 (z .nodes)) (ltb 65535 (z .trees) || ltb 65535 (z .items)) e .1 in
     record {
-      nodes = ltb-false 65535 (z .nodes) (either-no-first (ltb 65535 (z .nodes)) (ltb 65535 (z .trees) || ltb 65535 (z .items)) e);
-      trees = ltb-false 65535 (z .trees) (either-no-first (ltb 65535 (z .trees)) (ltb 65535 (z .items)) r);
-      items = ltb-false 65535 (z .items) (either-no-second (ltb 65535 (z .trees)) (ltb 65535 (z .items)) r);
+      nodes = ltb-false 65535 (z .nodes) (neither (ltb 65535 (z .nodes)) (ltb 65535 (z .trees) || ltb 65535 (z .items)) e .0);
+      trees = ltb-false 65535 (z .trees) (neither (ltb 65535 (z .trees)) (ltb 65535 (z .items)) r .0);
+      items = ltb-false 65535 (z .items) (neither (ltb 65535 (z .trees)) (ltb 65535 (z .items)) r .1);
     }
 
 pub record Ready (z : Sizes) (nodes trees out : List ℕ) : Type 0 where
@@ -48,20 +48,20 @@ ready z nodes trees out e s =
     let n : _ = ltb (length nodes) (16 * z .nodes) in
     let t : _ = ltb (length trees) (16 * z .trees) in
     let o : _ = ltb (length out) (z .items) in
-    let r = either-no-second n (t || o) s in
+    let r = neither n (t || o) s .1 in
     record {
       fits =
           record {
             few-nodes = f .nodes;
             few-trees = f .trees;
             few-items = f .items;
-            node-bytes = ltb-false (length nodes) (16 * z .nodes) (either-no-first n (t || o) s);
-            tree-bytes = ltb-false (length trees) (16 * z .trees) (either-no-first t o r);
+            node-bytes = ltb-false (length nodes) (16 * z .nodes) (neither n (t || o) s .0);
+            tree-bytes = ltb-false (length trees) (16 * z .trees) (neither t o r .0);
             last-in = omega arith;
             handed-in = omega arith;
             few-reads = lit< tt;
           };
-      places = ltb-false (length out) (z .items) (either-no-second t o r);
+      places = ltb-false (length out) (z .items) (neither t o r .1);
     }
 
 -- ---- the answers

@@ -8,6 +8,7 @@ use native.Mathlib.Omega.{arith}
 use lib.Dec.{ltb}
 use lib.ListN.{length}
 use borrow.Author.Tests.{ltb-false}
+use Rattle.base.proofs.Truth.{neither}
 use Rattle.math.specs.declared.aabb.Aabb.{Aabb}
 use Rattle.math.specs.declared.vec3.Vec3.{Vec3}
 use Rattle.walk.specs.Boxes.{queryOf}
@@ -19,7 +20,6 @@ use Rattle.walk.specs.declared.state.Sizes.{Sizes}
 use Rattle.walk.specs.declared.state.Status.{Status}
 use Rattle.walk.specs.declared.state.Status.the-variants.{Going, Stopped}
 use Rattle.walk.specs.declared.state.WalkState.{WalkState}
-use Rattle.walk.proofs.Truth.{either-no-first, either-no-second}
 use Rattle.walk.proofs.WalkLaws.{walk-reads, walk-handed, walk-within, walk-ends}
 
 -- What holds of a refusal before reading, and of every walk that reads, holds of every outcome.
@@ -72,8 +72,8 @@ exhausted-at : (trees : ℕ) (s : WalkState) (r : Status) → s .status ≡ r �
 exhausted-at trees s Going e n h =
     let k : (ltb (s .at) (s .last) || ltb (s .tree) trees) ≡ false = rw e at h in
     record {
-      range-read = ltb-false (s .at) (s .last) (either-no-first (ltb (s .at) (s .last)) (ltb (s .tree) trees) k);
-      trees-read = ltb-false (s .tree) trees (either-no-second (ltb (s .at) (s .last)) (ltb (s .tree) trees) k);
+      range-read = ltb-false (s .at) (s .last) (neither (ltb (s .at) (s .last)) (ltb (s .tree) trees) k .0);
+      trees-read = ltb-false (s .tree) trees (neither (ltb (s .at) (s .last)) (ltb (s .tree) trees) k .1);
     }
 exhausted-at trees s (Stopped r) e n h = let o : ⊥ = omega (arith, refused-numbered r) in absurd o
 

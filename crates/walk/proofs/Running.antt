@@ -6,12 +6,14 @@ use Prim.Native.Nat.{ℕ, _+_, _-_, _≤_, _<_}
 use native.Mathlib.Omega.{arith}
 use lib.ListN.{length, length-append}
 use lib.Seq.{sets, length-sets}
-use Rattle.walk.specs.Step.{Lent, Turn, upFrom, started, more, stepOf}
+use Rattle.base.proofs.StoreLaws.{sets-append}
+use Rattle.base.proofs.NumberLaws.{length-up}
+use Rattle.base.specs.Lists.{upFrom}
+use Rattle.walk.specs.Step.{Lent, Turn, started, more, stepOf}
 use Rattle.walk.specs.Walks.{joined, left, walkFrom}
 use Rattle.walk.specs.steps.Contracts.{Steppable, Stepped, Ran}
 use Rattle.walk.specs.declared.state.Step.{Step}
 use Rattle.walk.specs.declared.state.WalkState.{WalkState}
-use Rattle.walk.proofs.Handing.{length-up, sets-append}
 use Rattle.walk.proofs.WalkLaws.{walk-more, walk-none, step-falls, step-reads, step-handed, step-handed-within, step-last-within, allowance-few}
 
 pub record Running (l : Lent) (before out : List ℕ) (s : WalkState) : Type 0 where

@@ -4,6 +4,7 @@ use mathlib.Core.Bool.{true, false, _||_}
 use Prim.Native.Nat.{ℕ, _+_, _*_, _≤_, _<_}
 use lib.Dec.{ltb}
 use borrow.Author.Tests.{lt-ltb, le-ltb, ltb-true}
+use Rattle.base.proofs.Truth.{both, either-second}
 use Rattle.records.specs.Records.{nodeAt, treeAt}
 use Rattle.records.specs.declared.BvhNode.{BvhNode}
 use Rattle.records.specs.declared.BvhTree.{BvhTree}
@@ -14,7 +15,6 @@ use Rattle.walk.specs.declared.boxes.Query.{Query}
 use Rattle.walk.specs.declared.core.WalkRefusal.the-variants.{TreeRange, NodeRecord}
 use Rattle.walk.specs.declared.state.Status.the-variants.{Going}
 use Rattle.walk.specs.declared.state.WalkState.{WalkState}
-use Rattle.walk.proofs.Truth.{both-first, both-second, either-second}
 
 module _ (q : Query) (nodes : ℕ) (t : BvhTree) (s : WalkState) where
   pub tree-refused : badRange nodes t ≡ true → atTree q nodes t s ≡ refused TreeRange s
@@ -58,9 +58,9 @@ module _ (l : Lent) (s : WalkState) where
 
 -- ---- a record is left to read
 pub more-going : (trees : ℕ) (s : WalkState) → more trees s ≡ true → going (s .status) ≡ true
-more-going trees s h = both-first (going (s .status)) (ltb (s .at) (s .last) || ltb (s .tree) trees) h
+more-going trees s h = both (going (s .status)) (ltb (s .at) (s .last) || ltb (s .tree) trees) h .0
 
 pub more-tree : (trees : ℕ) (s : WalkState) → more trees s ≡ true → s .last ≤ s .at → s .tree < trees
 more-tree trees s h k =
-    let e = both-second (going (s .status)) (ltb (s .at) (s .last) || ltb (s .tree) trees) h in
+    let e = both (going (s .status)) (ltb (s .at) (s .last) || ltb (s .tree) trees) h .1 in
     ltb-true (s .tree) trees (either-second (ltb (s .at) (s .last)) (ltb (s .tree) trees) e (le-ltb (s .at) (s .last) k))

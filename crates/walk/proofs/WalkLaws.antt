@@ -9,6 +9,8 @@ use lib.IntN.{pos}
 use lib.Signed.{ltZ}
 use lib.ListN.{length, length-append}
 use borrow.Author.Tests.{ltb-true, ltb-false}
+use Rattle.base.proofs.NumberLaws.{length-up}
+use Rattle.base.proofs.Truth.{neither}
 use Rattle.records.specs.Records.{nodeAt, treeAt}
 use Rattle.records.specs.declared.BvhNode.{BvhNode}
 use Rattle.records.specs.declared.BvhTree.{BvhTree}
@@ -19,8 +21,6 @@ use Rattle.walk.specs.Walks.{joined, readOn, rangeNodes, allowance, left
 use Rattle.walk.specs.declared.core.WalkRefusal.the-variants.{TreeRange, NodeRecord, TooManyHandedOut}
 use Rattle.walk.specs.declared.state.Status.the-variants.{Going, Stopped}
 use Rattle.walk.specs.declared.state.WalkState.{WalkState}
-use Rattle.walk.proofs.Truth.{either-no-second}
-use Rattle.walk.proofs.Handing.{length-up}
 use Rattle.walk.proofs.StepLaws.{tree-refused, tree-entered, tree-passed, node-refused, node-handing, node-onward}
 use Rattle.walk.proofs.StepLaws.{step-node, step-tree, more-going, more-tree}
 
@@ -79,7 +79,7 @@ pub range-within : (nodes : ℕ) (t : BvhTree) → badRange nodes t ≡ false �
 unfolding badRange
 range-within nodes t e =
     ltb-false nodes (whole (t .«node_index2»))
-    (either-no-second (ltZ (t .«node_index1») (pos 0) || ltZ (t .«node_index2») (t .«node_index1»)) (ltb nodes (whole (t .«node_index2»))) e)
+    (neither (ltZ (t .«node_index1») (pos 0) || ltZ (t .«node_index2») (t .«node_index1»)) (ltb nodes (whole (t .«node_index2»))) e .1)
 
 pub range-nodes : (l : Lent) (k : ℕ) → badRange (l .sizes .nodes) (treeAt (l .trees) (16 * k)) ≡ false
     → rangeNodes l k ≡ whole (treeAt (l .trees) (16 * k) .«node_index2») - whole (treeAt (l .trees) (16 * k) .«node_index1»)

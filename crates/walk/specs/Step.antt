@@ -3,6 +3,7 @@ use Prim.Native.Nat.{ℕ, zero, suc, _+_, _-_, _*_, min, max}
 use mathlib.Core.Bool.{Bool, true, false, cond, _&&_, _||_}
 use mathlib.Core.List.{List, [], _∷_}
 use lib.Dec.{ltb, eqb}
+use Rattle.base.specs.Lists.{upFrom}
 use Rattle.records.specs.Records.{nodeAt, treeAt}
 use Rattle.records.specs.declared.BvhNode.{BvhNode}
 use Rattle.records.specs.declared.BvhTree.{BvhTree}
@@ -38,11 +39,6 @@ going (Stopped r) = false
 -- Before the first tree record: no range, nothing read, nothing handed out.
 abbrev pub started : WalkState
 started = record { tree = 0; at = 0; last = 0; reads = 0; handed = 0; status = Going }
-
--- n numbers, rising from id
-abbrev pub upFrom : ℕ → ℕ → List ℕ
-upFrom id zero = []
-upFrom id (suc n) = id ∷ upFrom (id + 1) n
 
 -- nothing is handed out
 abbrev pub quiet : WalkState → Turn

@@ -10,7 +10,8 @@ ghost use mathlib.Core.Path.{_≡_};
 ghost use Prim.Native.Nat.{_+_, _≤_};
 ghost use lib.ListN.{length};
 ghost use lib.Seq.{sets};
-ghost use Rattle.walk.specs.Step.{lentOf, upFrom, started};
+ghost use Rattle.base.specs.Lists.{upFrom};
+ghost use Rattle.walk.specs.Step.{lentOf, started};
 ghost use Rattle.walk.specs.Walks.{walkFrom, statusNumber, numberOf, countsOf, unread, tooMany, tooShort, walkOf, Promise};
 ghost use Rattle.walk.specs.steps.Contracts.{Steppable, Ran};
 

@@ -4,7 +4,8 @@ use mathlib.Core.List.{List}
 use mathlib.Core.Path.{_≡_}
 use lib.ListN.{length}
 use lib.Seq.{sets}
-use Rattle.walk.specs.Step.{Turn, upFrom}
+use Rattle.base.specs.Lists.{upFrom}
+use Rattle.walk.specs.Step.{Turn}
 use Rattle.walk.specs.declared.state.Sizes.{Sizes}
 use Rattle.walk.specs.declared.state.Step.{Step}
 use Rattle.walk.specs.declared.state.WalkState.{WalkState}

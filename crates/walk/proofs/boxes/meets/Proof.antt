@@ -1,11 +1,11 @@
 -- `boxes::meets` meets its contract: the three ways through it are how far the tests of the axes go.
 use borrow.Author.Needs.{needs}
+use Rattle.base.proofs.Truth.{third, second, first}
 use Rattle.walk.proofs.boxes.meets.Statement.{statement}
 use Rattle.walk.proofs.boxes.meets.Tie as tie
 use mathlib.Core.Path.{_≡_}
 use lib.Signed.{leZ}
 use Rattle.walk.specs.Boxes.{overlap, meets}
-use Rattle.walk.proofs.Truth.{third, second, first}
 use Rattle.walk.proofs.Shorts.{same-overlap}
 
 -- the function's start, from behind each axis

@@ -1,9 +1,9 @@
 -- `boxes::meets_box` meets its contract: the three ways through it are how far the tests of the axes go.
 use borrow.Author.Needs.{needs}
+use Rattle.base.proofs.Truth.{third, second, first}
 use Rattle.walk.proofs.boxes.meets_box.Statement.{statement}
 use Rattle.walk.proofs.boxes.meets_box.Tie as tie
 use Rattle.walk.specs.Boxes.{meetsBox}
-use Rattle.walk.proofs.Truth.{third, second, first}
 
 overlap-f32-requires : tie.Need-overlap-f32-requires
 overlap-f32-requires c κs = search needs

@@ -1,8 +1,8 @@
 -- `boxes::overlap_f32` meets its contract: the two ways through it are the two values of the first test.
+use Rattle.base.proofs.Truth.{and-yes, and-no}
 use Rattle.walk.proofs.boxes.overlap_f32.Statement.{statement}
 use Rattle.walk.proofs.boxes.overlap_f32.Tie as tie
 use mathlib.Core.Path.{sym, _∙_}
-use Rattle.walk.proofs.Truth.{and-yes, and-no}
 
 returns : tie.Need-returns
 returns c = sym (and-yes _ (c .if1 .taken))

@@ -1,4 +1,6 @@
 -- `core::hand_out` meets its contract. The loop's invariant: the first i positions are stored. The measure is what is left of n.
+use Rattle.base.proofs.StoreLaws.{up-stored}
+use Rattle.base.specs.Lists.{upFrom}
 use Rattle.walk.proofs.core.hand_out.Statement.{statement}
 use Rattle.walk.proofs.core.hand_out.Tie as tie
 use mathlib.Core.Path.{_≡_, refl, ap, _∙_}
@@ -7,8 +9,6 @@ use Prim.Native.Nat.{ℕ, _+_, _-_, _≤_}
 use lib.ListN.{length, set}
 use lib.Seq.{sets, length-sets}
 use native.Mathlib.Omega.{arith}
-use Rattle.walk.specs.Step.{upFrom}
-use Rattle.walk.proofs.Handing.{up-stored}
 
 abbrev Inv-loop : tie.InvT-loop
 Inv-loop out₀ from n id i₀ out i = (i ≤ n) × (out ≡ sets out₀ from (upFrom id i))

@@ -1,9 +1,9 @@
 -- `core::too_many` meets its contract: the ways through it are how far its tests go.
+use Rattle.base.proofs.Truth.{or-yes, or-no}
 use Rattle.walk.proofs.core.too_many.Statement.{statement}
 use Rattle.walk.proofs.core.too_many.Tie as tie
 use mathlib.Core.Path.{sym, _∙_}
 use borrow.Author.Tests.{lt-ltb, le-ltb}
-use Rattle.walk.proofs.Truth.{or-yes, or-no}
 
 returns : tie.Need-returns
 returns c =

@@ -1,11 +1,11 @@
 -- `core::too_short` meets its contract: the ways through it are how far its tests go.
 use borrow.Author.Needs.{needs}
+use Rattle.base.proofs.Truth.{or-yes, or-no}
 use Rattle.walk.proofs.core.too_short.Statement.{statement}
 use Rattle.walk.proofs.core.too_short.Tie as tie
 use mathlib.Core.Path.{sym, _∙_}
 use Prim.Native.Nat.{_*_}
 use borrow.Author.Tests.{lt-ltb, le-ltb}
-use Rattle.walk.proofs.Truth.{or-yes, or-no}
 
 mul-if1 : tie.Need-mul-if1
 mul-if1 c = search needs

@@ -1,14 +1,13 @@
 -- `refusals::node_refused` meets its contract: the ways through it are how far its tests go.
 use borrow.Author.Needs.{needs}
+use Rattle.base.proofs.Truth.{or-yes, or-no, when, unless}
 use Rattle.walk.proofs.refusals.node_refused.Statement.{statement}
 use Rattle.walk.proofs.refusals.node_refused.Tie as tie
 use mathlib.Core.Path.{sym, ap, ap₂, _∙_}
 use Prim.Native.Nat.{ℕ, _+_, max}
 use lib.Dec.{ltb}
 use Rattle.walk.specs.Refusals.{whole, badNode}
-use Rattle.walk.proofs.Truth.{or-yes, or-no}
 use Rattle.walk.proofs.Shorts.{same, below-zero}
-use Rattle.walk.proofs.Choices.{when, unless}
 
 returns : tie.Need-returns
 unfolding badNode

@@ -1,12 +1,12 @@
 -- `refusals::range_refused` meets its contract: the ways through it are how far its tests go.
 use borrow.Author.Needs.{needs}
+use Rattle.base.proofs.Truth.{or-yes, or-no}
 use Rattle.walk.proofs.refusals.range_refused.Statement.{statement}
 use Rattle.walk.proofs.refusals.range_refused.Tie as tie
 use mathlib.Core.Path.{sym, ap, _∙_}
 use Prim.Native.Nat.{ℕ}
 use lib.Dec.{ltb}
 use Rattle.walk.specs.Refusals.{whole, badRange}
-use Rattle.walk.proofs.Truth.{or-yes, or-no}
 use Rattle.walk.proofs.Shorts.{same, below-zero, below}
 
 returns : tie.Need-returns

@@ -1,5 +1,6 @@
 -- `state::stride` meets its contract: a node of count 0 is passed with all below it, a leaf alone.
 use borrow.Author.Needs.{needs}
+use Rattle.base.proofs.Truth.{when, unless}
 use Rattle.walk.proofs.state.stride.Statement.{statement}
 use Rattle.walk.proofs.state.stride.Tie as tie
 use mathlib.Core.Path.{_≡_, sym, ap, _∙_}
@@ -8,7 +9,6 @@ use lib.Dec.{lit<}
 use lib.IntN.{ℤ}
 use Rattle.walk.specs.Refusals.{whole}
 use Rattle.walk.proofs.Shorts.{same}
-use Rattle.walk.proofs.Choices.{when, unless}
 
 -- what is read of the count
 count-is : (c : tie.After-number) → c .number .result ≡ whole (c .before .before .args .n .«item_count»)

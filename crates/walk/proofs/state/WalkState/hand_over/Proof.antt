@@ -1,12 +1,13 @@
 -- `state::WalkState::hand_over` meets its contract: the numbers read from the record are the definition's.
 use borrow.Author.Needs.{needs}
+use Rattle.base.specs.Lists.{upFrom}
 use Rattle.walk.proofs.state.WalkState.hand_over.Statement.{statement}
 use Rattle.walk.proofs.state.WalkState.hand_over.Tie as tie
 use native.Mathlib.Omega.{arith}
 use mathlib.Core.Path.{ap, _∙_}
 use Prim.Native.Nat.{ℕ, _+_, _-_, min}
 use Rattle.walk.specs.Refusals.{whole}
-use Rattle.walk.specs.Step.{upFrom, leafStatus, handing}
+use Rattle.walk.specs.Step.{leafStatus, handing}
 use Rattle.walk.proofs.Shorts.{same}
 
 number-requires : tie.Need-number-requires

@@ -1,11 +1,11 @@
 -- `state::WalkState::unfinished` meets its contract: the ways through it are the cases of the status, and of one that goes on those of the first test.
 use borrow.Author.Needs.{needs}
+use Rattle.base.proofs.Truth.{and-yes, or-yes, or-no}
 use Rattle.walk.proofs.state.WalkState.unfinished.Statement.{statement}
 use Rattle.walk.proofs.state.WalkState.unfinished.Tie as tie
 use mathlib.Core.Path.{_≡_, sym, ap, _∙_}
 use mathlib.Core.Bool.{true}
 use Rattle.walk.specs.Step.{going}
-use Rattle.walk.proofs.Truth.{and-yes, or-yes, or-no}
 use borrow.Author.Tests.{lt-ltb, le-ltb}
 
 enum-told : tie.Need-enum-told
