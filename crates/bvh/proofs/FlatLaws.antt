@@ -24,7 +24,8 @@ length-trees s (r ∷ rs) =
 pub trees-append : (s : Scale) (xs ys : List Range) → treesBytes s (xs ++ ys) ≡ treesBytes s xs ++ treesBytes s ys
 trees-append s [] ys = refl
 trees-append s (x ∷ xs) ys =
-    ap (λ (l : List ℕ). treeBytes (treeRecord s x) ++ l) (trees-append s xs ys) ∙ sym (append-assoc (treeBytes (treeRecord s x)) (treesBytes s xs) (treesBytes s ys))
+    ap (λ (l : List ℕ). treeBytes (treeRecord s x) ++ l) (trees-append s xs ys)
+    ∙ sym (append-assoc (treeBytes (treeRecord s x)) (treesBytes s xs) (treesBytes s ys))
 
 -- ---- the builder's rows
 

@@ -35,7 +35,8 @@ pub marked-present : (is : List BvhItem) (rest : List ℕ) → marked 0 (length 
 marked-present is rest = marked-onto 0 [] is rest refl
 
 -- A place that is stored and counted if it is marked.
-pub kept-if : (b : Bool) (places rest : List ℕ) (k p : ℕ) → k < length places → take (k + oneIf b) (set places k p) ++ rest ≡ take k places ++ cond b (p ∷ rest) rest
+pub kept-if : (b : Bool) (places rest : List ℕ) (k p : ℕ) → k < length places
+    → take (k + oneIf b) (set places k p) ++ rest ≡ take k places ++ cond b (p ∷ rest) rest
 kept-if true places rest k p h =
     rw add-one (ap (λ (ps : List ℕ). ps ++ rest) (take-suc-set places k p h) ∙ append-assoc (take k places) (p ∷ []) rest)
 kept-if false places rest k p h =

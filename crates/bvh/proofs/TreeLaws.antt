@@ -72,15 +72,20 @@ module _ (b : Builder) (law : Lawful b) where
   grow-inner th ps p h = inner-by th (length ps) ps refl p h
 
 -- what holds of each leaf, and of each inner node over trees of which it holds, holds of the tree that grows
-module _ (b : Builder) (law : Lawful b) (th : ℕ) (pos : 0 < th) (P : List ℕ → Node → Type 0) (on-leaf : (ps : List ℕ) → length ps ≤ th → P ps (leaf (b .box ps) ps)) (on-inner : (ps : List ℕ) (l r : Node) → th < length ps → P (b .first ps) l → P (b .second ps) r → P ps (inner (b .box ps) l r)) where
-  induction-by : (k : ℕ) (ps : List ℕ) (t : Bool) → leb (length ps) th ≡ t → length ps ≤ suc k → ((qs : List ℕ) → length qs ≤ k → P qs (growF b th k qs)) → P ps (growF b th (suc k) ps)
+module _ (b : Builder) (law : Lawful b) (th : ℕ) (pos : 0 < th) (P : List ℕ → Node → Type 0)
+    (on-leaf : (ps : List ℕ) → length ps ≤ th → P ps (leaf (b .box ps) ps))
+    (on-inner : (ps : List ℕ) (l r : Node) → th < length ps → P (b .first ps) l → P (b .second ps) r → P ps (inner (b .box ps) l r)) where
+  induction-by : (k : ℕ) (ps : List ℕ) (t : Bool) → leb (length ps) th ≡ t → length ps ≤ suc k
+      → ((qs : List ℕ) → length qs ≤ k → P qs (growF b th k qs)) → P ps (growF b th (suc k) ps)
   induction-by k ps true e h below = rw (growF-leaf b th (suc k) ps (leb-true _ _ e)) (on-leaf ps (leb-true _ _ e))
   induction-by k ps false e h below =
       let big : th < length ps = leb-false _ _ e in
       let t = law .total ps in
       let s₁ = law .some-first ps (omega arith) in
       let s₂ = law .some-second ps (omega arith) in
-      rw (growF-inner b th k ps big) (on-inner ps (growF b th k (b .first ps)) (growF b th k (b .second ps)) big (below (b .first ps) (omega arith)) (below (b .second ps) (omega arith)))
+      rw (growF-inner b th k ps big)
+      (on-inner ps (growF b th k (b .first ps)) (growF b th k (b .second ps)) big (below (b .first ps) (omega arith))
+      (below (b .second ps) (omega arith)))
 
   inductionF : (k : ℕ) (ps : List ℕ) → length ps ≤ k → P ps (growF b th k ps)
   inductionF zero ps h = rw (growF-leaf b th zero ps (omega arith)) (on-leaf ps (omega arith))
@@ -106,7 +111,8 @@ module _ (b : Builder) (law : Lawful b) (th : ℕ) (pos : 0 < th) where
   pub leaf-order-permutes : (ps : List ℕ) → Permutes (leafOrder (grow b th ps)) ps
   leaf-order-permutes = grow-induction b law th pos (λ ps t. Permutes (leafOrder t) ps)
       (λ ps h p. refl)
-      (λ ps l r h el er p. occurrences-append p (leafOrder l) (leafOrder r) ∙ ap₂ _+_ (el p) (er p) ∙ sym (occurrences-append p (b .first ps) (b .second ps)) ∙ law .permutes ps p)
+      (λ ps l r h el er p. occurrences-append p (leafOrder l) (leafOrder r) ∙ ap₂ _+_ (el p) (er p)
+      ∙ sym (occurrences-append p (b .first ps) (b .second ps)) ∙ law .permutes ps p)
 
   pub leaf-order-length : (ps : List ℕ) → length (leafOrder (grow b th ps)) ≡ length ps
   leaf-order-length = grow-induction b law th pos (λ ps t. length (leafOrder t) ≡ length ps)
@@ -197,8 +203,11 @@ holds-none lo i (yes d) = holds-behind lo 0 i (omega arith)
 holds-none lo i (no d) = holds-before lo 0 i (omega arith)
 
 module _ (i : ℕ) where
-  inner-holders : (lo : ℕ) (b : BoxWords) (l r : Node) → holders i (rows lo (inner b l r)) ≡ holders i (rows lo l) + holders i (rows (lo + length (leafOrder l)) r)
-  inner-holders lo b l r = omega (arith, ap tally (holds-none (size (inner b l r)) i (decLe (size (inner b l r)) i)), holders-append i (rows lo l) (rows (lo + length (leafOrder l)) r))
+  inner-holders : (lo : ℕ) (b : BoxWords) (l r : Node)
+      → holders i (rows lo (inner b l r)) ≡ holders i (rows lo l) + holders i (rows (lo + length (leafOrder l)) r)
+  inner-holders lo b l r =
+      let n = size (inner b l r) in
+      omega (arith, ap tally (holds-none n i (decLe n i)), holders-append i (rows lo l) (rows (lo + length (leafOrder l)) r))
 
   -- a position before the tree's, or behind them, is in no leaf
   pub held-before : (lo : ℕ) (t : Node) → i < lo → holders i (rows lo t) ≡ 0

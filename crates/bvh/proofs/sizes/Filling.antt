@@ -103,7 +103,8 @@ module _ (rs : List Row) (rest table : List ℕ) (i m : ℕ) (many : length rs �
     inner-turn l r two z =
         let inner : row .count ≡ 0 = sym (ap (λ (x : Row). x .count) row-is) ∙ z in
         let v : ℕ = 1 + l + r in
-        let head : record { box = row .box; head = v; count = row .count } ≡ sizedRow row behind = rw (eq-eqb (row .count) 0 inner, ← two .left, ← two .right) in
+        let head : record { box = row .box; head = v; count = row .count } ≡ sizedRow row behind =
+        rw (eq-eqb (row .count) 0 inner, ← two .left, ← two .right) in
         record {
           within = omega (arith, below);
           held =

@@ -37,7 +37,8 @@ returns : tie.Need-returns
 returns c =
     let a = c .before .before .before .before .before .before .before .before .args in
     c .before .before .put-box .ensures
-    ∙ stores-leave (set (a .entries .now) (7 * a .i) (boolByte (a .item .present))) (boxWords (itemBox (a .item))) (7 * a .i + 1) 6 refl (simp length-set (omega arith))
+    ∙ stores-leave (set (a .entries .now) (7 * a .i) (boolByte (a .item .present))) (boxWords (itemBox (a .item))) (7 * a .i + 1) 6 refl
+    (simp length-set (omega arith))
     ∙ rw (← mark-is (a .item .present)) (mark-then-box (a .entries .now) (boxWords (itemBox (a .item))) (7 * a .i) _ (omega arith))
 
 pub put-item-spec : {M : Type 1} → statement M
