@@ -23,7 +23,7 @@ use Rattle.bvh.specs.declared.core.Lengths.{Lengths}
 use Rattle.bvh.specs.Build.{Entries, treeOf, scaleIn, numberOf}
 use Rattle.bvh.specs.Entry.{Answered}
 use Rattle.bvh.specs.Promises.{itemAt, WellFormed}
-use Rattle.bvh.specs.Ranges.{ranges}
+use Rattle.bvh.specs.Ranges.{ranges, rangeLimit}
 use Rattle.bvh.specs.Rows.{rows}
 use Rattle.bvh.specs.Tree.{leafOrder, size}
 use Rattle.walk.specs.Boxes.{queryOf, meetsBox, meets}
@@ -46,7 +46,7 @@ itemCount e th = countFor th (e .number) (length (e .places))
 
 -- 01, Walk: the build's node and tree counts without padding.
 unfoldable pub sizesOf : Entries → ℕ → Sizes
-sizesOf e th = record { nodes = size (treeOf e th); trees = length (ranges 0 (treeOf e th)); items = itemCount e th }
+sizesOf e th = record { nodes = size (treeOf e th); trees = length (ranges rangeLimit 0 (treeOf e th)); items = itemCount e th }
 
 -- Rule P3 (01, Walk: over a build the walk is given its node and tree bytes unchanged, its cen and inverse): what it comes to, with these bytes and an output of so many places.
 unfoldable pub outcomeOf : Entries → ℕ → Aabb → List ℕ → List ℕ → ℕ → Outcome
@@ -96,7 +96,7 @@ pub record Delivered (e : Entries) (th : ℕ) (query : Aabb) (o : Outcome) : Typ
   -- as many handed out as it says
   pub count-is : o .counts .handed ≡ length (o .given)
   -- its count of records read is at most nodes plus trees
-  pub reads-at-most : o .counts .reads ≤ size (treeOf e th) + length (ranges 0 (treeOf e th))
+  pub reads-at-most : o .counts .reads ≤ size (treeOf e th) + length (ranges rangeLimit 0 (treeOf e th))
 
 -- ---- the statement
 
