@@ -88,7 +88,11 @@ unfolding entriesOf entriesIn
 items-listed items =
     let l = words-listed (length items) (wordsOf items ++ []) in
     let same : marked 0 (length items) (wordsOf items ++ []) ≡ present 0 items = marked-present items [] in
-    record { rising = subst (Rising 0) same (l .rising); below = subst (Below (length items)) same (l .below); present = subst (λ (ps : List ℕ). length ps ≤ length items) same (l .present) }
+    record {
+      rising = subst (Rising 0) same (l .rising);
+      below = subst (Below (length items)) same (l .below);
+      present = subst (λ (ps : List ℕ). length ps ≤ length items) same (l .present);
+    }
 
 pub stands : (e : Entries) (th : ℕ) (b : BuiltTree) → Listed e → Passed e th b → Stands e th
 stands e th b l p = record { few = p .few; threshold = p .threshold; nodes-few = p .nodes-few; rising = l .rising; below = l .below; present = l .present }

@@ -1,6 +1,9 @@
--- Point 3 of the request, from the contract of a build alone: whatever answers a build that is not refused, by the definition and with its bytes, has a well formed tree, and the walk over those bytes delivers. What a crate above needs; it holds for entries in words (`words-listed`) and for a list of items (`items-listed`).
+-- Point 3 of the request, from the contract of a build alone: whatever answers a build that is not refused, by the definition and with its bytes,
+-- has a well formed tree, and the walk over those bytes delivers. What a crate above needs; it holds for entries in words (`words-listed`)
+-- and for a list of items (`items-listed`).
 use Prim.Native.Nat.{ℕ}
 use mathlib.Core.List.{List}
+use mathlib.Core.Path.{_≡_, ap}
 use Rattle.math.specs.declared.aabb.Aabb.{Aabb}
 use Rattle.bvh.specs.declared.core.Build.the-variants.{Built}
 use Rattle.bvh.specs.declared.core.BuiltTree.{BuiltTree}
@@ -9,13 +12,14 @@ use Rattle.bvh.specs.Build.{Entries}
 use Rattle.bvh.specs.Entry.{Answered}
 use Rattle.bvh.specs.Promises.{WellFormed}
 use Rattle.bvh.proofs.Promises.{well-formed}
-use Rattle.tree.specs.Pair.{outcomeOf, Delivered}
+use Rattle.walk.specs.Walks.{Outcome, walkOf}
+use Rattle.tree.specs.Pair.{countFor, sizesOf, outcomeOf, Delivered}
 use Rattle.tree.proofs.AnswerLaws.{Passed, built-passed, Listed, stands}
 use Rattle.tree.proofs.PairLaws.{delivered}
 
 module _ (e : Entries) (listed : Listed e) (th : ℕ) (l : Lengths) (nodes trees order nodes′ trees′ order′ : List ℕ) (b : BuiltTree)
     (build : Answered e th l (Built b) nodes trees order nodes′ trees′ order′) where
-  passed : Passed e th b
+  pub passed : Passed e th b
   passed = built-passed e th l b (build .answer)
 
   -- whatever the boxes
@@ -25,3 +29,14 @@ module _ (e : Entries) (listed : Listed e) (th : ℕ) (l : Lengths) (nodes trees
   -- whatever the query and the length of the output
   pub walk-delivers : (query : Aabb) (room : ℕ) → Delivered e th query (outcomeOf e th query nodes′ trees′ room)
   walk-delivers query room = rw (build .nodes-are, build .trees-are) (delivered e th (stands e th b listed passed) query nodes trees room)
+
+  -- a walk by the values that the build answered
+  abbrev pub walkBy : BuiltTree → Aabb → ℕ → Outcome
+  walkBy v query room =
+      walkOf query (v .scale .cen) (v .scale .inverse) (record { nodes = v .nodes; trees = v .trees; items = countFor th (e .number) (v .present) })
+      nodes′ trees′ room
+
+  -- It is the walk over the build's records.
+  pub same-walk : (query : Aabb) (room : ℕ) → walkBy b query room ≡ outcomeOf e th query nodes′ trees′ room
+  unfolding outcomeOf sizesOf
+  same-walk query room = ap (λ (v : BuiltTree). walkBy v query room) (passed .values)

@@ -1,13 +1,18 @@
 // Builds a tree and walks it. The contract is what a server may rely on (point 3 of the request).
+use base::numbers::Place;
+use base::numbers::Position;
 use bvh::core::Build;
 use math::aabb::Aabb;
 use walk::core::Counts;
 use walk::core::Walk;
 use walk::state::Sizes;
 ghost use mathlib.Core.Path.{_≡_};
-ghost use Prim.Native.Nat.{_*_};
+ghost use Prim.Native.Nat.{_*_, _<_};
 ghost use lib.ListN.{length, take};
+ghost use lib.Dec.{eqb};
+ghost use mathlib.Core.Bool.{false};
 ghost use Rattle.bvh.specs.Entry.{entriesIn, lengthsOf};
+ghost use Rattle.bvh.specs.Promises.{itemAt};
 ghost use Rattle.tree.specs.Pair.{countFor, unwalked, Paired};
 
 // How a build ended, and the walk over its records.
@@ -21,6 +26,26 @@ fn item_count(threshold: u32, entries: usize, present: usize) -> usize
     ensures { λ r. ⌜ r ≡ countFor threshold entries present ⌝ }
 {
     if threshold == 1 { entries } else { present }
+}
+
+// A place as the order list holds it.
+fn place_of(stored: u16) -> Place
+    ensures { λ r. ⌜ r .0 ≡ stored ⌝ }
+{
+    Place(stored as u32)
+}
+
+// The place of the item at a position: the position itself at threshold 1, else the order list's entry.
+// What a walk over a build hands out lies below the walk's item count, so in the order list where that is asked.
+pub fn item_at(position: Position, threshold: u32, order: &[u16]) -> Place
+    requires { ⌜ (eqb threshold 1 ≡ false → position .0 < length (now order)) ⌝ }
+    ensures { λ r. ⌜ r .0 ≡ itemAt threshold (now (order .entry)) (position .0) ⌝ }
+{
+    if threshold == 1 {
+        return Place(position.0);
+    }
+    let at = position.0 as usize;
+    place_of(order[at])
 }
 
 // A build that is refused leaves nothing to walk.

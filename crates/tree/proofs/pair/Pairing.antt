@@ -17,26 +17,20 @@ use Rattle.bvh.proofs.core.Build.{the-type}
 use Rattle.walk.specs.Walks.{walkOf, unread, Promise}
 use Rattle.walk.specs.declared.core.Walk.{Walk}
 use Rattle.tree.specs.declared.pair.Found.{Found}
-use Rattle.tree.specs.Pair.{countFor, sizesOf, outcomeOf, unwalked, Paired}
-use Rattle.tree.proofs.AnswerLaws.{built-passed, words-listed}
-use Rattle.tree.proofs.PointThree.{tree-well-formed, walk-delivers}
+use Rattle.tree.specs.Pair.{countFor, unwalked, Paired}
+use Rattle.tree.proofs.AnswerLaws.{words-listed}
+use Rattle.tree.proofs.PointThree.{tree-well-formed, walk-delivers, same-walk}
 
 module _ (n th : ℕ) (ws : List ℕ) (l : Lengths) (query : Aabb) (nodes trees order out nodes′ trees′ order′ : List ℕ) (b : BuiltTree)
     (build : Answered (entriesIn n ws) th l (Built b) nodes trees order nodes′ trees′ order′) where
-  -- the walk that was run is the walk over the build's records
-  same-walk : walkOf query (b .scale .cen) (b .scale .inverse) (record { nodes = b .nodes; trees = b .trees; items = countFor th n (b .present) }) nodes′ trees′ (length out)
-      ≡ outcomeOf (entriesIn n ws) th query nodes′ trees′ (length out)
-  unfolding outcomeOf sizesOf entriesIn
-  same-walk =
-      let values = built-passed (entriesIn n ws) th l b (build .answer) .values in
-      ap (λ (x : BuiltTree). walkOf query (x .scale .cen) (x .scale .inverse) (record { nodes = x .nodes; trees = x .trees; items = countFor th n (x .present) }) nodes′ trees′ (length out)) values
-
   walked : (out′ : List ℕ) (w : Walk) → Promise (walkOf query (b .scale .cen) (b .scale .inverse) (record { nodes = b .nodes; trees = b .trees; items = countFor th n (b .present) }) nodes′ trees′ (length out)) out out′ w
       → Paired (entriesIn n ws) th l query nodes trees order out nodes′ trees′ order′ out′ (record { build = Built b; walk = w })
+  unfolding entriesIn
   walked out′ w walk =
+      let same = same-walk (entriesIn n ws) (words-listed n ws) th l nodes trees order nodes′ trees′ order′ b build query (length out) in
       record {
         build-is = build;
-        walk-is = subst (λ o. Promise o out out′ w) same-walk walk;
+        walk-is = subst (λ o. Promise o out out′ w) same walk;
         well-formed = λ z. tree-well-formed (entriesIn n ws) (words-listed n ws) th l nodes trees order nodes′ trees′ order′ b build;
         delivers = λ z. walk-delivers (entriesIn n ws) (words-listed n ws) th l nodes trees order nodes′ trees′ order′ b build query (length out);
       }
