@@ -5,14 +5,18 @@ use Rattle.walk.proofs.state.WalkState.hand_over.Tie as tie
 use mathlib.Core.Path.{_≡_, ap, _∙_}
 use Rattle.walk.specs.Refusals.{whole}
 use Rattle.walk.proofs.Shorts.{same}
-use Rattle.walk.proofs.Given.{short, whole-leaf}
+use Rattle.walk.proofs.Given.{cut-leaf, whole-leaf}
 
 -- what is read of the node
-id-is : (c : tie.After-number) → c .number .result ≡ whole (c .before .before .before .args .n .«item_id»)
-id-is c = c .number .ensures .0 ∙ ap whole (same (c .before .before .before .args .n .«item_id») (c .before .struct-told .given .1 .1 .0 .1))
+id-is : (c : tie.After-number) → c .number .result ≡ whole (c .before .before .args .n .«item_id»)
+id-is c =
+    let n = c .before .before .args .n in
+    c .number .ensures .0 ∙ ap whole (same (n .«item_id») (c .before .struct-told .given .1 .1 .0 .1))
 
-count-is : (c : tie.After-number2) → c .number2 .result ≡ whole (c .before .before .before .before .before .args .n .«item_count»)
-count-is c = c .number2 .ensures .0 ∙ ap whole (same (c .before .before .before .before .before .args .n .«item_count») (c .before .struct-told2 .given .1 .1 .1 .0 .1))
+count-is : (c : tie.After-number2) → c .number2 .result ≡ whole (c .before .before .before .before .args .n .«item_count»)
+count-is c =
+    let n = c .before .before .before .before .args .n in
+    c .number2 .ensures .0 ∙ ap whole (same (n .«item_count») (c .before .struct-told2 .given .1 .1 .1 .0 .1))
 
 number-requires : tie.Need-number-requires
 number-requires c κs = search needs
@@ -23,45 +27,45 @@ number-requires-2 c κs = search needs
 sub-room : tie.Need-sub-room
 sub-room c = search needs
 
-hand-out-requires : tie.Need-hand-out-requires
-hand-out-requires c κs = search needs
+add-t8 : tie.Need-add-t8
+add-t8 c = search needs
 
-add-t12 : tie.Need-add-t12
-add-t12 c = search needs
+add-t9 : tie.Need-add-t9
+add-t9 c = search needs
 
-add-t13 : tie.Need-add-t13
-add-t13 c = search needs
+add-t10 : tie.Need-add-t10
+add-t10 c = search needs
 
-add-t14 : tie.Need-add-t14
-add-t14 c = search needs
-
-same-length : tie.Need-same-length
-same-length c = search needs
+cast-t14 : tie.Need-cast-t14
+cast-t14 c = search needs
 
 returns : tie.Need-returns
 returns c =
-    let a = c .before .before .before .before .before .before .before .before .before .before .before .before .before .before .args in
-    short (a .items) (a .n) (a .self) (a .out .now) _ _ _ (id-is (c .before .before .before .before .before .before .before .before .before .before .before)) (count-is (c .before .before .before .before .before .before .before .before .before)) (c .before .before .before .before .before .before .before .if1 .taken) (c .before .before .before .before .before .hand-out .ensures)
+    let test = c .before .before .before in
+    let count = test .before .before in
+    let id = count .before .before in
+    let a = id .before .before .args in
+    cut-leaf (a .items) (a .n) (a .self) _ _ (id-is id) (count-is count) (id .number .ensures .1) (count .number2 .ensures .1) (test .if1 .taken)
 
-hand-out-requires-2 : tie.Need-hand-out-requires-2
-hand-out-requires-2 c κs = search needs
+add-t16 : tie.Need-add-t16
+add-t16 c = search needs
 
-add-t19 : tie.Need-add-t19
-add-t19 c = search needs
+add-t17 : tie.Need-add-t17
+add-t17 c = search needs
 
-add-t20 : tie.Need-add-t20
-add-t20 c = search needs
+add-t18 : tie.Need-add-t18
+add-t18 c = search needs
 
-add-t21 : tie.Need-add-t21
-add-t21 c = search needs
-
-same-length-2 : tie.Need-same-length-2
-same-length-2 c = search needs
+cast-t21 : tie.Need-cast-t21
+cast-t21 c = search needs
 
 returns-2 : tie.Need-returns-2
 returns-2 c =
-    let a = c .before .before .before .before .before .before .before .before .before .before .before .before .before .before .args in
-    whole-leaf (a .items) (a .n) (a .self) (a .out .now) _ _ _ (id-is (c .before .before .before .before .before .before .before .before .before .before .before)) (count-is (c .before .before .before .before .before .before .before .before .before)) (c .before .before .before .before .before .before .before .if1 .left) (c .before .before .before .before .before .hand-out2 .ensures)
+    let test = c .before .before .before in
+    let count = test .before .before in
+    let id = count .before .before in
+    let a = id .before .before .args in
+    whole-leaf (a .items) (a .n) (a .self) _ _ (id-is id) (count-is count) (id .number .ensures .1) (count .number2 .ensures .1) (test .if1 .left)
 
 pub hand-over-spec : {M : Type 1} → statement M
 hand-over-spec =
@@ -70,15 +74,13 @@ hand-over-spec =
     number-requires
     number-requires-2
     sub-room
-    hand-out-requires
-    add-t12
-    add-t13
-    add-t14
-    same-length
+    add-t8
+    add-t9
+    add-t10
+    cast-t14
     returns
-    hand-out-requires-2
-    add-t19
-    add-t20
-    add-t21
-    same-length-2
+    add-t16
+    add-t17
+    add-t18
+    cast-t21
     returns-2)
