@@ -17,7 +17,7 @@ use Rattle.records.specs.declared.BvhTree.{BvhTree}
 use Rattle.records.specs.declared.scale.Scale.{Scale}
 use Rattle.records.specs.Records.{treeAt}
 use Rattle.split.specs.declared.boxes.BoxWords.{BoxWords}
-use Rattle.bvh.specs.Decode.{Small}
+use Rattle.bvh.specs.steps.Decode.{Small}
 use Rattle.bvh.specs.Numbers.{upFrom}
 use Rattle.bvh.specs.Output.{idOf, nodeOf, nodesBytes, treeRecord, treesBytes}
 use Rattle.bvh.specs.Ranges.{Range, Subtree, parts, rangeOf, ranges}

@@ -18,8 +18,9 @@ use Rattle.split.specs.Folding.{foldBox}
 use Rattle.split.specs.Lists.{occurrences, Among}
 use Rattle.split.specs.declared.boxes.BoxWords.{BoxWords}
 use Rattle.bvh.specs.Build.{Entries, treeOf, scaleIn, nodesWritten, treesWritten}
-use Rattle.bvh.specs.Decode.{Below, Rising, Small, SmallRows}
-use Rattle.bvh.specs.Flat.{Full, Filled}
+use Rattle.bvh.specs.Entry.{outputs}
+use Rattle.bvh.specs.steps.Decode.{Below, Rising, Small, SmallRows}
+use Rattle.bvh.specs.steps.Flat.{Full, Filled}
 use Rattle.bvh.specs.Output.{over, nodesBytes, padBytes, treesBytes, capacityOf}
 use Rattle.bvh.specs.Promises.{itemAt}
 use Rattle.bvh.specs.Ranges.{parts, ranges, rangeLimit}
@@ -30,12 +31,13 @@ use Rattle.bvh.proofs.FlatLaws.{grow-filled, length-trees}
 use Rattle.bvh.proofs.Lawful.{Lawful, lawful}
 use Rattle.bvh.proofs.Promises.{rising-once, rising-at-most, rows-at-most}
 use Rattle.bvh.proofs.RangeLaws.{ranges-few}
-use Rattle.bvh.proofs.RowsInLaws.{small-rows}
+use Rattle.bvh.proofs.SmallLaws.{small-rows}
 use Rattle.bvh.proofs.TreeLaws.{AtMost, grow-induction, grow-at-most, grow-full, leaf-order-permutes, leaf-order-length, leaf-order-within, length-rows}
 use Rattle.bvh.proofs.WordLaws.{below-within, within-below, below-wider, below-at}
 use Rattle.walk.specs.Boxes.{queryOf, meetsBox}
 use Rattle.walk.specs.Step.{Lent, started}
-use Rattle.walk.specs.Walks.{Outcome, walkOf, walkFrom, ended, statusNumber, unread, pickOutcome}
+use Rattle.walk.specs.Walks.{Outcome, walkOf, walkFrom, ended, statusNumber, unread}
+use Rattle.walk.specs.declared.core.WalkRefusal.the-variants.{BufferTooShort}
 use Rattle.walk.specs.declared.state.Sizes.{Sizes}
 use Rattle.tree.specs.Pair.{itemCount, sizesOf, outcomeOf, Ordinary, boxValues, hitIn, itemsHanded, Delivered}
 use Rattle.tree.specs.Visit.{visitParts, partReads, Hits, FromHit}
@@ -77,7 +79,7 @@ grow-box at th some = grow-induction (builder at) (lawful at) th some (λ ps t. 
 walk-runs : (box : Aabb) (cen inverse : Vec3) (z : Sizes) (nodes trees : List ℕ) (room : ℕ)
     → z .nodes ≤ 65535 → z .trees ≤ 65535 → z .items ≤ 65535 → 16 * z .nodes ≤ length nodes → 16 * z .trees ≤ length trees
     → walkOf box cen inverse z nodes trees room
-    ≡ pickOutcome (ltb room (z .items)) (unread 2)
+    ≡ cond (ltb room (z .items)) (unread BufferTooShort)
     (ended (walkFrom (record { query = queryOf box cen inverse; sizes = z; nodes = nodes; trees = trees }) started))
 unfolding walkOf
 walk-runs box cen inverse z nodes trees room h₁ h₂ h₃ h₄ h₅ =
@@ -261,7 +263,7 @@ module _ (e : Entries) (th : ℕ) (stands : Stands e th) where
           reads-at-most = omega (arith, er, parts-reads (hitIn query scale) th order rangeLimit limit-some 0 t);
         }
 
-    delivered-unread : Delivered e th query (unread 2)
+    delivered-unread : Delivered e th query (unread BufferTooShort)
     unfolding treeOf itemsHanded
     delivered-unread =
         record {
@@ -282,7 +284,7 @@ module _ (e : Entries) (th : ℕ) (stands : Stands e th) where
         (ap (λ (l : Lent). walkFrom l started .state .handed) (sym lent-is) ∙ covers .handed-are)
         (ap (λ (l : Lent). walkFrom l started .state .reads) (sym lent-is) ∙ covers .reads-are)
 
-    either : (q : Bool) → Delivered e th query (pickOutcome q (unread 2) (ended (walkFrom bytes started)))
+    either : (q : Bool) → Delivered e th query (cond q (unread BufferTooShort) (ended (walkFrom bytes started)))
     either true = delivered-unread
     either false = delivered-read
 
@@ -303,9 +305,10 @@ module _ (e : Entries) (th : ℕ) (stands : Stands e th) where
         let written = treesBytes scale (ranges rangeLimit 0 t) in
         omega (arith, length-append written (drop (length written) trees), length-trees scale (ranges rangeLimit 0 t))
 
-    pub delivered : (room : ℕ) → Delivered e th query (outcomeOf e th query (over (nodesWritten e th) nodes) (over (treesWritten e th) trees) room)
+    pub delivered : (written-order : List ℕ) (room : ℕ)
+        → Delivered e th query (outcomeOf e th query (outputs (over (nodesWritten e th) nodes) (over (treesWritten e th) trees) written-order) room)
     unfolding treeOf outcomeOf sizesOf
-    delivered room =
+    delivered written-order room =
         let few-trees = ranges-few rangeLimit limit-some 0 t in
         let runs =
         walk-runs query (scale .cen) (scale .inverse) (sizesOf e th) (bytes .nodes) (bytes .trees) room

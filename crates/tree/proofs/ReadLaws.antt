@@ -12,7 +12,7 @@ use Rattle.records.specs.declared.scale.Scale.{Scale}
 use Rattle.records.specs.Records.{nodeBytes, treeBytes, nodeAt, treeAt, NodeFits, TreeFits}
 use Rattle.records.proofs.Fitting.{quantise-fits}
 use Rattle.records.proofs.ReadBack.{node-back, tree-back}
-use Rattle.bvh.specs.Decode.{Small}
+use Rattle.bvh.specs.steps.Decode.{Small}
 use Rattle.bvh.specs.Output.{nodeOf, nodesBytes, treeRecord, treesBytes}
 use Rattle.bvh.specs.Ranges.{Range}
 use Rattle.bvh.specs.Rows.{Row}
