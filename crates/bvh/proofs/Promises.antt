@@ -13,7 +13,7 @@ use lib.Seq.{drop-at, drop-drop, getD-drop}
 use Rattle.split.specs.Lists.{occurrences, sift, pick}
 use Rattle.split.specs.declared.boxes.BoxWords.{BoxWords}
 use Rattle.bvh.specs.Build.{Entries, treeOf}
-use Rattle.bvh.specs.Decode.{Rising}
+use Rattle.bvh.specs.steps.Decode.{Rising}
 use Rattle.bvh.specs.declared.items.BvhItem.{BvhItem}
 use Rattle.bvh.specs.Entry.{entriesIn, entriesOf}
 use Rattle.bvh.specs.Items.{wordsOf}
