@@ -1,5 +1,6 @@
 -- Point 3 of the request: a walk over a build's records is refused only with 2, and otherwise hands out every present item that meets the query,
--- none twice, none from a leaf that misses it, within the bound on the readings. The walk is the visit (MachineLaws), and the visit has these properties (VisitLaws, HitLaws, MeetLaws).
+-- none twice, none from a leaf that misses it, within the bound on the readings.
+-- The walk is the visit (MachineLaws), and the visit has these properties (VisitLaws, HitLaws, MeetLaws).
 use Prim.Native.Nat.{ℕ, _+_, _-_, _*_, _≤_, _<_}
 use native.Mathlib.Omega.{arith}
 use mathlib.Core.Bool.{Bool, true, false, cond}

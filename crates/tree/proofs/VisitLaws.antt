@@ -3,8 +3,8 @@
 use Prim.Native.Nat.{ℕ, zero, suc, _+_, _≤_, _<_}
 use native.Mathlib.Omega.{arith}
 use mathlib.Core.Bool.{Bool, true, false, cond}
-use mathlib.Core.List.{List, [], _∷_, _++_, map, map-append, append-assoc, append-nil}
-use mathlib.Core.List.{List·Memᴰ, List·Memᴰ·head, List·Memᴰ·tail, List·Memᴰ·not-nil, List·Memᴰ·cases-cons, List·Memᴰ·append-cases, Memᴰ·append-left, Memᴰ·append-right}
+use mathlib.Core.List.{List, [], _∷_, _++_, map, map-append, append-assoc, append-nil, Memᴰ·append-left, Memᴰ·append-right}
+use mathlib.Core.List.{List·Memᴰ, List·Memᴰ·head, List·Memᴰ·tail, List·Memᴰ·not-nil, List·Memᴰ·cases-cons, List·Memᴰ·append-cases}
 use mathlib.Core.Logic.{⊎-elim}
 use mathlib.Core.Path.{_≡_, refl, sym, ap, _∙_, subst}
 use lib.Dec.{T}
@@ -121,7 +121,8 @@ module _ (hit : BoxWords → Bool) (th : ℕ) (order : List ℕ) where
       (List·Memᴰ·cases-cons m)
 
   from-leaf : (q : Bool) (lo i : ℕ) (b : BoxWords) (ps : List ℕ) → hit b ≡ q
-      → List·Memᴰ i (cond q (upFrom (idOf th order (record { box = b; head = lo; count = length ps })) (length ps)) []) → FromHit hit th order (rows lo (leaf b ps)) i
+      → List·Memᴰ i (cond q (upFrom (idOf th order (record { box = b; head = lo; count = length ps })) (length ps)) [])
+      → FromHit hit th order (rows lo (leaf b ps)) i
   from-leaf true lo i b ps e m =
       let row : Row = record { box = b; head = lo; count = length ps } in
       let h = up-within (length ps) (idOf th order row) i m in

@@ -71,7 +71,16 @@ pub fn build_and_walk(
         (now (out .entry)) (now (out .exit)) r ⌝ }
 {
     let built = bvh::core::build_core(
-        n, threshold, entries, node_bytes, tree_bytes, order, places, temp, stack, rows,
+        n,
+        threshold,
+        entries,
+        node_bytes,
+        tree_bytes,
+        order,
+        places,
+        temp,
+        stack,
+        rows,
     );
     match built {
         Build::Refused(why) => Found::Unbuilt(why),
@@ -82,7 +91,15 @@ pub fn build_and_walk(
                 items: item_count(threshold, n, tree.present),
             };
             let scale = tree.scale;
-            let walked = walk::entry::walk_bvh(query, scale.cen, scale.inverse, sizes, node_bytes, tree_bytes, out);
+            let walked = walk::entry::walk_bvh(
+                query,
+                scale.cen,
+                scale.inverse,
+                sizes,
+                node_bytes,
+                tree_bytes,
+                out,
+            );
             Found::Walked(tree, walked)
         }
     }
