@@ -25,13 +25,12 @@ use Rattle.bvh.specs.Rows.{Row, rows}
 use Rattle.bvh.specs.Tree.{Node, leaf, inner, boxOf, leafOrder, size}
 use Rattle.bvh.proofs.RangeLaws.{size-some, parts-induction}
 use Rattle.bvh.proofs.TreeLaws.{length-rows}
-use Rattle.walk.specs.Refusals.{whole, badRange, badNode}
+use Rattle.walk.specs.Refusals.{badRange, badNode}
 use Rattle.walk.specs.Step.{Lent, Turn, more, stepOf, atNode, atTree, handing, quiet, onward, passing, strideOf, started}
 use Rattle.walk.specs.Step as W
 use Rattle.walk.specs.Walks.{joined, walkFrom}
 use Rattle.walk.specs.declared.boxes.Query.{Query}
 use Rattle.walk.specs.declared.state.Sizes.{Sizes}
-use Rattle.walk.specs.declared.state.Status.{Status}
 use Rattle.walk.specs.declared.state.Status.the-variants.{Going}
 use Rattle.walk.specs.declared.state.WalkState.{WalkState}
 use Rattle.walk.proofs.StepLaws.{step-node, step-tree, node-handing, node-onward, tree-entered, tree-passed}
