@@ -1,5 +1,5 @@
 -- Tests joined by `&&` and `||`, of which one is known; tests that say the same; and choices by a test. Assumes nothing.
--- A test as a fact and back are `passes` and `is-true` of `denote.Floats`.
+-- That both of `a && b` hold is mathlib's `and-eq-true-iff`; a test as a fact and back are `passes` and `is-true` of `denote.Floats`.
 use mathlib.Core.Path.{_≡_, refl, sym, subst, _∙_}
 use mathlib.Core.Logic.{_⊎_, inl, inr}
 use mathlib.Core.Bool.{Bool, true, false, cond, _&&_, _||_}
@@ -21,10 +21,6 @@ or-no b h = rw h
 
 pub both-yes : {a b : Bool} → a ≡ true → b ≡ true → a && b ≡ true
 both-yes {a} {b} h k = and-yes b h ∙ k
-
-pub both : (a b : Bool) → a && b ≡ true → (a ≡ true) × (b ≡ true)
-both true b e = (refl, e)
-both false b e = absurd (subst T (sym e) tt)
 
 pub neither : (a b : Bool) → a || b ≡ false → (a ≡ false) × (b ≡ false)
 neither true b e = absurd (subst T e tt)

@@ -6,33 +6,12 @@ use mathlib.Core.Path.{_≡_, refl, sym, ap, ap₂, _∙_}
 use mathlib.Core.List.{List, [], _∷_, _++_, append-assoc, append-nil}
 use lib.ListN.{length, getD, take, drop, set, length-append}
 use lib.Seq.{take-at, drop-append-add, drop-drop, drop-cons, set-at}
+use Rattle.base.specs.Lists.{over}
 use Rattle.records.specs.declared.scale.Scale.{Scale}
 use Rattle.records.specs.Records.{nodeBytes}
 use Rattle.records.proofs.Sizes.{node-bytes}
 use Rattle.bvh.specs.Rows.{Row}
-use Rattle.bvh.specs.Output.{over, nodeOf, nodesBytes, padNode, padBytes}
-
--- Another part behind what is written.
-pub over-more : (written part before : List ℕ) (m n : ℕ) → length written ≡ m → length part ≡ n
-    → take m (over written before) ++ (part ++ drop (m + n) (over written before)) ≡ over (written ++ part) before
-over-more written part before m n e f =
-    let kept : take m (over written before) ≡ written = take-at written (drop (length written) before) m e in
-    let past : drop (m + n) (over written before) ≡ drop (length (written ++ part)) before =
-    ap (λ (k : ℕ). drop (k + n) (over written before)) (sym e)
-    ∙ drop-append-add written (drop (length written) before) n
-    ∙ drop-drop n (length written) before
-    ∙ ap (λ (k : ℕ). drop k before) (ap (λ (k : ℕ). length written + k) (sym f) ∙ sym (length-append written part)) in
-    ap₂ (λ (a b : List ℕ). a ++ (part ++ b)) kept past ∙ sym (append-assoc written part (drop (length (written ++ part)) before))
-
--- One number behind what is written.
-pub over-one : (written before : List ℕ) (x i : ℕ) → length written ≡ i → i < length before → set (over written before) i x ≡ over (written ++ (x ∷ [])) before
-over-one written before x i e h =
-    let cut : drop (length written) before ≡ getD before i 0 ∷ drop (suc i) before = ap (λ (k : ℕ). drop k before) e ∙ drop-cons before i 0 h in
-    let next : suc i ≡ length (written ++ (x ∷ [])) = omega (arith, length-append written (x ∷ [])) in
-    ap (λ (l : List ℕ). set (written ++ l) i x) cut
-    ∙ set-at written (getD before i 0) (drop (suc i) before) x i e
-    ∙ ap (λ (k : ℕ). written ++ x ∷ drop k before) next
-    ∙ sym (append-assoc written (x ∷ []) (drop (length (written ++ (x ∷ []))) before))
+use Rattle.bvh.specs.Output.{nodeOf, nodesBytes, padNode, padBytes}
 
 pub length-nodes : (s : Scale) (th : ℕ) (order : List ℕ) (rs : List Row) → length (nodesBytes s th order rs) ≡ 16 * length rs
 length-nodes s th order [] = refl

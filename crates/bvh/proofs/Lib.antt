@@ -6,7 +6,6 @@ pub mod ItemWords
 pub mod Lawful
 pub mod MarkedLaws
 pub mod MeetLaws
-pub mod Places
 pub mod Promises
 pub mod RangeLaws
 pub mod SmallLaws

@@ -8,11 +8,10 @@ use mathlib.Core.List.{List, [], _∷_, _++_, append-assoc}
 use lib.Dec.{eqb}
 use lib.ListN.{length, getD, take, drop, set, length-append}
 use lib.Seq.{getD-at, take-set-le, take-suc-set}
-use Rattle.base.specs.Lists.{oneIf}
+use Rattle.base.specs.Lists.{oneIf, Below, Rising}
 use Rattle.bvh.specs.declared.items.BvhItem.{BvhItem}
 use Rattle.bvh.specs.Items.{present, itemWords, wordsOf, isMarked, marked}
-use Rattle.bvh.specs.steps.Decode.{Below, Rising}
-use Rattle.bvh.proofs.WordLaws.{below-wider, rising-lower}
+use Rattle.base.proofs.NumberLaws.{below-wider, below-kept, rising-kept}
 
 is-marked : (b : Bool) → isMarked (cond b 1 0) ≡ b
 is-marked true = refl
@@ -47,20 +46,12 @@ pub marked-next : (ws : List ℕ) (p n : ℕ) → p < n
     → marked p (n - p) ws ≡ cond (isMarked (getD ws (7 * p) 0)) (p ∷ marked (p + 1) (n - (p + 1)) ws) (marked (p + 1) (n - (p + 1)) ws)
 marked-next ws p n h = let less : n - p ≡ suc (n - (p + 1)) = omega arith in ap (λ (k : ℕ). marked p k ws) less
 
-below-pick : (b : Bool) (n x : ℕ) (xs : List ℕ) → x < n → Below n xs → Below n (cond b (x ∷ xs) xs)
-below-pick true n x xs h hs = (h, hs)
-below-pick false n x xs h hs = hs
-
 pub marked-below : (at n : ℕ) (ws : List ℕ) → Below (at + n) (marked at n ws)
 marked-below at zero ws = tt
 marked-below at (suc n) ws =
-    below-pick (isMarked (getD ws (7 * at) 0)) (at + suc n) at (marked (at + 1) n ws) (omega arith)
+    below-kept (isMarked (getD ws (7 * at) 0)) (at + suc n) at (marked (at + 1) n ws) (omega arith)
     (below-wider (at + 1 + n) (at + suc n) (marked (at + 1) n ws) (omega arith) (marked-below (at + 1) n ws))
-
-rising-pick : (b : Bool) (at : ℕ) (xs : List ℕ) → Rising (at + 1) xs → Rising at (cond b (at ∷ xs) xs)
-rising-pick true at xs hs = (omega arith, hs)
-rising-pick false at xs hs = rising-lower at (at + 1) xs (omega arith) hs
 
 pub marked-rising : (at n : ℕ) (ws : List ℕ) → Rising at (marked at n ws)
 marked-rising at zero ws = tt
-marked-rising at (suc n) ws = rising-pick (isMarked (getD ws (7 * at) 0)) at (marked (at + 1) n ws) (marked-rising (at + 1) n ws)
+marked-rising at (suc n) ws = rising-kept (isMarked (getD ws (7 * at) 0)) at (marked (at + 1) n ws) (marked-rising (at + 1) n ws)

@@ -12,14 +12,13 @@ use borrow.Author.Tests.{eq-eqb, ne-eqb, eqb-true}
 use lib.Dec.{eqb}
 use lib.ListN.{length, getD, drop}
 use lib.Seq.{drop-at, drop-drop, getD-drop}
-use Rattle.base.specs.Lists.{occurrences, sift}
+use Rattle.base.proofs.NumberLaws.{rising-once}
+use Rattle.base.specs.Lists.{occurrences, sift, Rising, upFrom}
 use Rattle.split.specs.declared.boxes.BoxWords.{BoxWords}
 use Rattle.bvh.specs.Build.{Entries, treeOf}
-use Rattle.bvh.specs.steps.Decode.{Rising}
 use Rattle.bvh.specs.declared.items.BvhItem.{BvhItem}
 use Rattle.bvh.specs.Entry.{entriesIn, entriesOf}
 use Rattle.bvh.specs.Items.{wordsOf}
-use Rattle.bvh.specs.Numbers.{upFrom}
 use Rattle.bvh.specs.Promises.{itemsIn, itemsOf, WellFormed}
 use Rattle.bvh.specs.Ranges.{rangeLimit}
 use Rattle.bvh.specs.Rows.{Row, rows}
@@ -28,34 +27,6 @@ use Rattle.bvh.proofs.Lawful.{lawful}
 use Rattle.bvh.proofs.MarkedLaws.{marked-present, marked-rising}
 use Rattle.bvh.proofs.RangeLaws.{ranges-cut}
 use Rattle.bvh.proofs.TreeLaws.{AtMost, grow-at-most, leaf-order-permutes}
-
--- ---- rising places
-
-none-below : (lo p : ℕ) (xs : List ℕ) → Rising lo xs → p < lo → occurrences p xs ≡ 0
-none-below lo p [] hs h = refl
-none-below lo p (x ∷ xs) hs h = rw (ne-eqb x p (λ e. omega (arith, hs .0))) (none-below (x + 1) p xs (hs .1) (omega (arith, hs .0)))
-
-none-above : (lo p : ℕ) (xs : List ℕ) → Rising lo xs → List·Memᴰ p xs → lo ≤ p
-none-above lo p [] hs m = absurd (List·Memᴰ·not-nil m)
-none-above lo p (x ∷ xs) hs m =
-    ⊎-elim (λ e. omega (arith, hs .0)) (λ m′. omega (arith, none-above (x + 1) p xs (hs .1) m′, hs .0)) (List·Memᴰ·cases-cons m)
-
--- each stands there once
-pub rising-once : (lo p : ℕ) (xs : List ℕ) → Rising lo xs → List·Memᴰ p xs → occurrences p xs ≡ 1
-rising-once lo p [] hs m = absurd (List·Memᴰ·not-nil m)
-rising-once lo p (x ∷ xs) hs m =
-    ⊎-elim (λ e. rw (eq-eqb x p (sym e)) (ap suc (none-below (x + 1) p xs (hs .1) (omega arith))))
-    (λ m′. rw (ne-eqb x p (λ e. omega (arith, none-above (x + 1) p xs (hs .1) m′))) (rising-once (x + 1) p xs (hs .1) m′))
-    (List·Memᴰ·cases-cons m)
-
--- and nothing more than once
-pub rising-at-most : (lo p : ℕ) (xs : List ℕ) → Rising lo xs → occurrences p xs ≤ 1
-rising-at-most lo p [] hs = omega arith
-rising-at-most lo p (x ∷ xs) hs = by (eqb x p) refl (rising-at-most (x + 1) p xs (hs .1))
-  where
-    by : (q : Bool) → eqb x p ≡ q → occurrences p xs ≤ 1 → length (cond q (x ∷ sift (λ y. eqb y p) xs) (sift (λ y. eqb y p) xs)) ≤ 1
-    by true e h = omega (arith, none-below (x + 1) p xs (hs .1) (let same : x ≡ p = eqb-true x p e in omega arith))
-    by false e h = h
 
 -- ---- the items of a leaf
 

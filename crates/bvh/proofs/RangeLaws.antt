@@ -12,11 +12,12 @@ use lib.Dec.{leb, ltb}
 use lib.ListN.{length, length-append}
 use lib.Seq.{drop-append-le, drop-append-add}
 use borrow.Author.Tests.{ltb-true, ltb-false, leb-true, leb-false, le-leb, lt-leb, lt-ltb, le-ltb}
+use Rattle.base.specs.Lists.{upFrom}
 use Rattle.split.specs.declared.boxes.BoxWords.{BoxWords}
 use Rattle.bvh.specs.Tree.{Node, leaf, inner, leafOrder, size}
 use Rattle.bvh.specs.Ranges.{Range, Subtree, parts, rangeOf, ranges, rangeLimit}
 use Rattle.bvh.specs.Rows.{Row, rows}
-use Rattle.bvh.specs.Numbers.{subtrees, leafNumbers, upFrom, holds, nodesIn, rangesHolding, RisingRanges, Part, RowsFrom, Cut}
+use Rattle.bvh.specs.Numbers.{subtrees, leafNumbers, holds, nodesIn, rangesHolding, RisingRanges, Part, RowsFrom, Cut}
 use Rattle.bvh.proofs.TreeLaws.{length-rows}
 
 pub size-some : (t : Node) → 0 < size t

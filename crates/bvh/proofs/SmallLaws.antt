@@ -6,13 +6,14 @@ use mathlib.Core.Bool.{Bool, true, false, cond}
 use mathlib.Core.List.{List, [], _∷_, _++_}
 use lib.Dec.{eqb}
 use lib.ListN.{length, getD, length-append}
+use Rattle.base.proofs.NumberLaws.{below-at}
+use Rattle.base.specs.Lists.{Below}
 use Rattle.bvh.specs.Output.{idOf}
 use Rattle.bvh.specs.Rows.{Row, rows}
 use Rattle.bvh.specs.Tree.{Node, leaf, inner, leafOrder, size}
-use Rattle.bvh.specs.steps.Decode.{Below, Small, SmallRows}
+use Rattle.bvh.specs.steps.Decode.{Small, SmallRows}
 use Rattle.bvh.specs.steps.Table.{rowAt, rowsIn}
 use Rattle.bvh.proofs.TableLaws.{length-rows-in, row-in}
-use Rattle.bvh.proofs.WordLaws.{below-at}
 
 small-in : (th : ℕ) (order : List ℕ) (rs : List Row) (i : ℕ) (d : Row) → SmallRows th order rs → i < length rs
     → Small th order (getD rs i d)

@@ -9,13 +9,13 @@ use lib.ListN.{length, take, drop, length-append}
 use lib.Seq.{take-at, drop-at}
 use native.Mathlib.Decide.{decLe}
 use borrow.Author.Tests.{leb-true, leb-false, le-leb, lt-leb, lt-ltb, le-ltb}
+use Rattle.base.proofs.ListLaws.{occurs-append}
 use Rattle.base.proofs.WithinLaws.{within-append}
 use Rattle.base.specs.Lists.{Within, Permutes}
 use Rattle.split.specs.declared.boxes.BoxWords.{BoxWords}
 use Rattle.bvh.specs.steps.Flat.{Full}
 use Rattle.bvh.specs.Rows.{Row, rows}
 use Rattle.bvh.specs.Tree.{Node, leaf, inner, Builder, growF, grow, leafOrder, size}
-use Rattle.bvh.proofs.Places.{occurrences-append}
 use Rattle.bvh.proofs.Lawful.{Lawful}
 
 module _ (b : Builder) where
@@ -111,8 +111,8 @@ module _ (b : Builder) (law : Lawful b) (th : ℕ) (pos : 0 < th) where
   pub leaf-order-permutes : (ps : List ℕ) → Permutes (leafOrder (grow b th ps)) ps
   leaf-order-permutes = grow-induction b law th pos (λ ps t. Permutes (leafOrder t) ps)
       (λ ps h p. refl)
-      (λ ps l r h el er p. occurrences-append p (leafOrder l) (leafOrder r) ∙ ap₂ _+_ (el p) (er p)
-      ∙ sym (occurrences-append p (b .first ps) (b .second ps)) ∙ law .permutes ps p)
+      (λ ps l r h el er p. occurs-append p (leafOrder l) (leafOrder r) ∙ ap₂ _+_ (el p) (er p)
+      ∙ sym (occurs-append p (b .first ps) (b .second ps)) ∙ law .permutes ps p)
 
   pub leaf-order-length : (ps : List ℕ) → length (leafOrder (grow b th ps)) ≡ length ps
   leaf-order-length = grow-induction b law th pos (λ ps t. length (leafOrder t) ≡ length ps)

@@ -4,6 +4,7 @@ use mathlib.Core.Bool.{Bool, cond, _||_}
 use mathlib.Core.List.{List, _++_}
 use lib.Dec.{ltb}
 use lib.ListN.{length}
+use Rattle.base.specs.Lists.{over}
 use Rattle.split.specs.declared.boxes.BoxWords.{BoxWords}
 use Rattle.records.specs.declared.scale.Scale.{Scale}
 use Rattle.records.specs.Scale.{scaleOfBox}
@@ -16,7 +17,7 @@ use Rattle.bvh.specs.declared.core.Lengths.{Lengths}
 use Rattle.bvh.specs.Tree.{Node, grow, builder, boxOf, leafOrder, size}
 use Rattle.bvh.specs.Rows.{rows}
 use Rattle.bvh.specs.Ranges.{ranges, rangeLimit}
-use Rattle.bvh.specs.Output.{over, nodesBytes, padBytes, capacityOf, treesBytes, orderOf}
+use Rattle.bvh.specs.Output.{nodesBytes, padBytes, capacityOf, treesBytes, orderOf}
 
 -- What a build is of: the entries' number, the box at each place, and the places of the present ones.
 pub record Entries : Type 0 where

@@ -19,11 +19,6 @@ abbrev pub leafNumbers : ℕ → Node → List ℕ
 leafNumbers at (leaf b ps) = at ∷ []
 leafNumbers at (inner b l r) = leafNumbers (at + 1) l ++ leafNumbers (at + 1 + size l) r
 
--- n numbers, rising from at
-abbrev pub upFrom : ℕ → ℕ → List ℕ
-upFrom at zero = []
-upFrom at (suc n) = at ∷ upFrom (at + 1) n
-
 -- 01, Walk: a range holds the nodes first to last − 1.
 abbrev pub holds : ℕ → Range → Bool
 holds k r = leb (r .first) k && ltb k (r .last)

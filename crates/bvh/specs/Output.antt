@@ -14,10 +14,6 @@ use Rattle.records.specs.Quantise.{quantiseOf}
 use Rattle.bvh.specs.Rows.{Row}
 use Rattle.bvh.specs.Ranges.{Range}
 
--- what a buffer holds at the end: the bytes written and then what it had
-abbrev pub over : List ℕ → List ℕ → List ℕ
-over written before = written ++ drop (length written) before
-
 -- Rule R11 (01, Records and ranges; bvh.rs, item_id): an inner node's id is its number of nodes. A leaf's is its first position:
 -- the list place of its item at threshold 1, else the place in the leaf order. An empty leaf's is 0.
 abbrev pub idOf : ℕ → List ℕ → Row → ℕ

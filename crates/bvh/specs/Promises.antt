@@ -5,9 +5,9 @@ use mathlib.Core.List.{List, [], _∷_, _++_, map, List·Memᴰ}
 use mathlib.Core.Path.{_≡_}
 use lib.Dec.{eqb}
 use lib.ListN.{getD}
-use Rattle.base.specs.Lists.{occurrences}
+use Rattle.base.specs.Lists.{occurrences, upFrom}
 use Rattle.bvh.specs.Build.{Entries, treeOf}
-use Rattle.bvh.specs.Numbers.{upFrom, Cut}
+use Rattle.bvh.specs.Numbers.{Cut}
 use Rattle.bvh.specs.Output.{idOf}
 use Rattle.bvh.specs.Ranges.{ranges, rangeLimit}
 use Rattle.bvh.specs.Rows.{Row, rows}

@@ -6,10 +6,11 @@ use records::scale::Scale;
 ghost use mathlib.Core.Path.{_≡_};
 ghost use Prim.Native.Nat.{_+_, _*_, _≤_, _<_};
 ghost use lib.ListN.{length, take};
+ghost use Rattle.base.specs.Lists.{over};
 ghost use Rattle.bvh.specs.Build.{short};
 ghost use Rattle.bvh.specs.Entry.{entriesIn, outputs, lent, lengthsOf, Answered};
 ghost use Rattle.bvh.specs.Items.{marked};
-ghost use Rattle.bvh.specs.Output.{over, orderOf};
+ghost use Rattle.bvh.specs.Output.{orderOf};
 ghost use Rattle.bvh.specs.steps.Core.{NodesWritten, OrderFits, WorkRoom, TreePlanted, Writable, Written};
 ghost use Rattle.bvh.specs.steps.Decode.{RowsFit};
 

@@ -8,9 +8,10 @@ ghost use mathlib.Core.Path.{_≡_};
 ghost use mathlib.Core.List.{_++_};
 ghost use Prim.Native.Nat.{_+_, _-_, _*_, _≤_, _<_};
 ghost use lib.ListN.{length, take, drop, getD};
+ghost use Rattle.base.specs.Lists.{over, Below};
 ghost use Rattle.split.specs.declared.boxes.BoxWords.{BoxWords};
-ghost use Rattle.bvh.specs.Output.{over, idOf, nodeOf, nodesBytes, padNode, padBytes};
-ghost use Rattle.bvh.specs.steps.Decode.{Below, Small, RowsFit};
+ghost use Rattle.bvh.specs.Output.{idOf, nodeOf, nodesBytes, padNode, padBytes};
+ghost use Rattle.bvh.specs.steps.Decode.{Small, RowsFit};
 ghost use Rattle.bvh.specs.steps.Table.{rowAt, rowsIn};
 
 // The places, from the start of the order list on.

@@ -7,12 +7,11 @@ use mathlib.Core.List.{List, _∷_, _++_}
 use mathlib.Core.Path.{_≡_, refl, sym, ap, _∙_}
 use lib.ListN.{length, getD, take, drop, length-append, List·getD-append, List·getD-eq-default}
 use lib.Seq.{take-at, getD-append-add}
+use Rattle.base.proofs.StoreLaws.{over-more}
+use Rattle.base.specs.Lists.{upFrom, over}
 use Rattle.split.specs.Boxes.{boxWords, boxFrom}
 use Rattle.bvh.specs.Decode.{marked}
 use Rattle.bvh.specs.Entry.{entriesIn}
-use Rattle.bvh.specs.Numbers.{upFrom}
-use Rattle.bvh.specs.Output.{over}
-use Rattle.bvh.proofs.EmitLaws.{over-more}
 use Rattle.listing.specs.Listing.{childrenOf}
 use Rattle.listing.specs.Reading.{wordAt, cornerAt, childBox, childWords}
 

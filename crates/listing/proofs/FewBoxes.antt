@@ -9,6 +9,9 @@ use types.Run.{OneOf, miss}
 use denote.Enum.Declared.{tagOf}
 use lib.ListN.{length}
 use borrow.Author.Tests.{le-ltb}
+use Rattle.base.proofs.WithinLaws.{below-within, within-below}
+use Rattle.base.proofs.NumberLaws.{below-wider}
+use Rattle.base.specs.Lists.{upFrom, over}
 use Rattle.bvh.proofs.core.Build.{the-type}
 use Rattle.bvh.specs.declared.core.Build.{Build}
 use Rattle.bvh.specs.declared.core.Build.the-variants.{Built}
@@ -17,8 +20,7 @@ use Rattle.bvh.specs.declared.core.Lengths.{Lengths}
 use Rattle.bvh.specs.Build.{Entries, treeOf, builtOf, short, answerOf, kept, nodesWritten, treesWritten}
 use Rattle.bvh.specs.Decode.{Below, SmallRows}
 use Rattle.bvh.specs.Entry.{Answered}
-use Rattle.bvh.specs.Numbers.{upFrom}
-use Rattle.bvh.specs.Output.{over, capacityOf}
+use Rattle.bvh.specs.Output.{capacityOf}
 use Rattle.bvh.specs.Ranges.{ranges}
 use Rattle.bvh.specs.Rows.{rows}
 use Rattle.bvh.specs.Tree.{builder, grow, leafOrder, size}
@@ -26,7 +28,6 @@ use Rattle.bvh.proofs.Lawful.{lawful}
 use Rattle.bvh.proofs.RangeLaws.{ranges-few}
 use Rattle.bvh.proofs.RowsInLaws.{small-rows}
 use Rattle.bvh.proofs.TreeLaws.{grow-leaf, size-most, leaf-order-length, leaf-order-within}
-use Rattle.bvh.proofs.WordLaws.{below-wider, below-within, within-below}
 use Rattle.listing.specs.Lines.{countsLine, recordsText}
 use Rattle.listing.specs.Listing.{childrenOf, listingOf}
 use Rattle.listing.proofs.Records.{node-lines, tree-lines}

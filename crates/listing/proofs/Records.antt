@@ -5,6 +5,7 @@ use native.Mathlib.Omega.{arith}
 use mathlib.Core.List.{List, [], _∷_, _++_, append-assoc, map}
 use mathlib.Core.Path.{_≡_, refl, sym, ap, _∙_, subst}
 use lib.ListN.{length, drop, length-map}
+use Rattle.base.specs.Lists.{over}
 use Rattle.records.specs.declared.scale.Scale.{Scale}
 use Rattle.records.specs.Records.{nodeBytes, nodeAt, NodeFits, treeBytes, treeAt, TreeFits}
 use Rattle.records.proofs.Fitting.{quantise-fits}
@@ -13,7 +14,7 @@ use Rattle.records.proofs.Sizes.{node-bytes, tree-bytes}
 use Rattle.bvh.specs.Build.{Entries, treeOf, nodesWritten, treesWritten, scaleIn}
 use Rattle.bvh.specs.Decode.{SmallRows}
 use Rattle.bvh.specs.Numbers.{RisingRanges}
-use Rattle.bvh.specs.Output.{over, nodeOf, nodesBytes, padBytes, capacityOf, treeRecord, treesBytes}
+use Rattle.bvh.specs.Output.{nodeOf, nodesBytes, padBytes, capacityOf, treeRecord, treesBytes}
 use Rattle.bvh.specs.Ranges.{Range, ranges}
 use Rattle.bvh.specs.Rows.{Row, rows}
 use Rattle.bvh.specs.Tree.{leafOrder, size}

@@ -5,11 +5,11 @@ use mathlib.Core.List.{List, [], _∷_, _++_, map}
 use mathlib.Core.Path.{_≡_}
 use lib.Dec.{ltb, eqb}
 use lib.ListN.{length, drop}
+use Rattle.base.specs.Lists.{upFrom}
 use Rattle.io.specs.Counts.{Counts}
 use Rattle.records.specs.declared.BvhNode.{BvhNode}
 use Rattle.records.specs.declared.BvhTree.{BvhTree}
 use Rattle.bvh.specs.Build.{Entries, treeOf, scaleIn}
-use Rattle.bvh.specs.Numbers.{upFrom}
 use Rattle.bvh.specs.Output.{nodeOf, treeRecord, capacityOf}
 use Rattle.bvh.specs.Ranges.{ranges}
 use Rattle.bvh.specs.Rows.{rows}

@@ -5,8 +5,8 @@ ghost use mathlib.Core.Path.{_≡_};
 ghost use mathlib.Core.List.{_∷_, _++_};
 ghost use Prim.Native.Nat.{_+_, _*_, _≤_, _<_};
 ghost use lib.ListN.{length, take, drop};
+ghost use Rattle.base.specs.Lists.{over};
 ghost use Rattle.split.specs.Boxes.{boxWords};
-ghost use Rattle.bvh.specs.Output.{over};
 ghost use Rattle.listing.specs.Reading.{wordAt, cornerAt, childBox, childWords};
 
 fn wide(byte: u8) -> u32

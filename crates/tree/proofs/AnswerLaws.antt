@@ -8,6 +8,8 @@ use mathlib.Core.Path.{_≡_, refl, ap, subst}
 use borrow.Author.Tests.{ltb-false}
 use lib.Dec.{ltb, T}
 use lib.ListN.{length, getD}
+use Rattle.base.specs.Lists.{Below, Rising}
+use Rattle.base.proofs.Truth.{neither}
 use Rattle.bvh.specs.declared.core.Build.{Build}
 use Rattle.bvh.specs.declared.core.Build.the-variants.{Built, Refused}
 use Rattle.bvh.specs.declared.core.BuildRefusal.{BuildRefusal}
@@ -16,7 +18,6 @@ use Rattle.bvh.specs.declared.core.BuiltTree.{BuiltTree}
 use Rattle.bvh.specs.declared.core.Lengths.{Lengths}
 use Rattle.bvh.specs.Build.{Entries, treeOf, builtOf, refusalNumber, numberOf, short, answerOf}
 use Rattle.bvh.specs.declared.items.BvhItem.{BvhItem}
-use Rattle.bvh.specs.steps.Decode.{Below, Rising}
 use Rattle.bvh.specs.Entry.{entriesIn, entriesOf}
 use Rattle.bvh.specs.Items.{wordsOf, present, isMarked, marked}
 use Rattle.bvh.specs.Tree.{size}
@@ -38,10 +39,6 @@ refusal-numbered TooManyNodes = omega arith
 passed : (q : Bool) (why : BuildRefusal) (rest : Build) (b : BuiltTree) → Built b ≡ cond q (Refused why) rest → (q ≡ false) × (Built b ≡ rest)
 passed true why rest b e = absurd (let n : 0 ≡ refusalNumber why = ap numberOf e in omega (arith, refusal-numbered why))
 passed false why rest b e = (refl, e)
-
-neither : (a b : Bool) → (a || b) ≡ false → (a ≡ false) × (b ≡ false)
-neither false b e = (refl, e)
-neither true b e = absurd (subst T e tt)
 
 pub record Passed (e : Entries) (th : ℕ) (b : BuiltTree) : Type 0 where
   pub few : e .number ≤ 32767

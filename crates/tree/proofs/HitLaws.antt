@@ -5,12 +5,12 @@ use native.Mathlib.Omega.{arith}
 use mathlib.Core.Bool.{Bool, true}
 use mathlib.Core.List.{List, _++_}
 use mathlib.Core.Path.{_≡_, refl, sym, ap₂, _∙_}
+use Rattle.base.proofs.ListLaws.{occurs-append}
+use Rattle.base.specs.Lists.{occurrences, Permutes}
 use Rattle.split.specs.Folding.{foldBox}
-use Rattle.split.specs.Lists.{occurrences, Permutes}
 use Rattle.split.specs.declared.boxes.BoxWords.{BoxWords}
 use Rattle.bvh.specs.Tree.{Node, inner, Builder, builder, grow, leafOrder}
 use Rattle.bvh.proofs.Lawful.{Lawful, lawful}
-use Rattle.bvh.proofs.Places.{occurrences-append}
 use Rattle.bvh.proofs.TreeLaws.{grow-induction}
 use Rattle.tree.specs.Visit.{Hits}
 
@@ -32,7 +32,7 @@ module _ (at : ℕ → BoxWords) (th : ℕ) (some : 0 < th) (hit : BoxWords → 
   law = lawful at
 
   halves : (ps : List ℕ) (x : ℕ) → occurrences x (b .first ps) + occurrences x (b .second ps) ≡ occurrences x ps
-  halves ps x = sym (occurrences-append x (b .first ps) (b .second ps)) ∙ law .permutes ps x
+  halves ps x = sym (occurs-append x (b .first ps) (b .second ps)) ∙ law .permutes ps x
 
   on-inner : (ps : List ℕ) (l r : Node) → (Each Good (b .first ps) → Grows hit p (b .first ps) l) → (Each Good (b .second ps) → Grows hit p (b .second ps) r)
       → Each Good ps → Grows hit p ps (inner (b .box ps) l r)
@@ -40,7 +40,7 @@ module _ (at : ℕ → BoxWords) (th : ℕ) (some : 0 < th) (hit : BoxWords → 
       let fl = gl (λ x h. good x (omega (arith, halves ps x))) in
       let fr = gr (λ x h. good x (omega (arith, halves ps x))) in
       let same : Permutes (leafOrder l ++ leafOrder r) ps =
-      λ x. occurrences-append x (leafOrder l) (leafOrder r) ∙ ap₂ _+_ (fl .same x) (fr .same x) ∙ halves ps x in
+      λ x. occurs-append x (leafOrder l) (leafOrder r) ∙ ap₂ _+_ (fl .same x) (fr .same x) ∙ halves ps x in
       record { same = same; hits = (λ h. fold-hits ps good (omega (arith, same p)), fl .hits, fr .hits) }
 
   grows : (ps : List ℕ) → Each Good ps → Grows hit p ps (grow b th ps)

@@ -12,13 +12,13 @@ use lib.IntN.{pos}
 use lib.ListN.{length, take, drop, length-append, length-map, take-append-drop}
 use lib.Seq.{drop-at, drop-drop}
 use lib.Signed.{ltZ}
+use Rattle.base.specs.Lists.{upFrom}
 use Rattle.records.specs.declared.BvhNode.{BvhNode}
 use Rattle.records.specs.declared.BvhTree.{BvhTree}
 use Rattle.records.specs.declared.scale.Scale.{Scale}
 use Rattle.records.specs.Records.{treeAt}
 use Rattle.split.specs.declared.boxes.BoxWords.{BoxWords}
 use Rattle.bvh.specs.steps.Decode.{Small}
-use Rattle.bvh.specs.Numbers.{upFrom}
 use Rattle.bvh.specs.Output.{idOf, nodeOf, nodesBytes, treeRecord, treesBytes}
 use Rattle.bvh.specs.Ranges.{Range, Subtree, parts, rangeOf, ranges}
 use Rattle.bvh.specs.Rows.{Row, rows}

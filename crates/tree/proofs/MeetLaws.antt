@@ -1,13 +1,14 @@
 -- A node's record meets the quantised query where an item below it meets the query as floats: what holds on each axis (bvh's MeetLaws), put together.
 use Prim.Native.Nat.{ℕ, _<_}
 use native.Mathlib.Omega.{arith}
-use mathlib.Core.Bool.{Bool, true, false, _&&_}
+use mathlib.Core.Bool.{and-eq-true-iff, Bool, true, false, _&&_}
 use mathlib.Core.List.{List, [], _∷_}
 use mathlib.Core.Path.{_≡_, refl, sym, ap₂, subst}
 use lib.Dec.{T}
 use lib.Ieee.{le}
 use lib.ListN.{length}
 use lib.Signed.{leZ}
+use Rattle.base.specs.Lists.{Among}
 use Rattle.math.specs.declared.axis.Axis.{Axis}
 use Rattle.math.specs.declared.axis.Axis.the-variants.{X, Y, Z}
 use Rattle.math.specs.Axes.{coordinate}
@@ -17,7 +18,6 @@ use Rattle.records.specs.declared.BoundVertex.{BoundVertex}
 use Rattle.records.specs.Scale.{scaleOfBox}
 use Rattle.split.specs.Ends.{low, high}
 use Rattle.split.specs.Folding.{foldBox}
-use Rattle.split.specs.Lists.{Among}
 use Rattle.split.specs.declared.boxes.BoxWords.{BoxWords}
 use Rattle.bvh.proofs.MeetLaws.{all-measured, part-below, part-above}
 use Rattle.bvh.specs.Build.{Entries}
@@ -30,10 +30,6 @@ is-true true h = refl
 is-true false h = absurd h
 
 -- the tests of two, and of three, that hold
-two-hold : (a b : Bool) → (a && b) ≡ true → (a ≡ true) × (b ≡ true)
-two-hold true b e = (refl, e)
-two-hold false b e = absurd (subst T (sym e) tt)
-
 overlaps : {A : Type 0} (atMost : A → A → Bool) (min max min′ max′ : A) → T (atMost min max′) → T (atMost min′ max)
     → overlap atMost min max min′ max′ ≡ true
 overlaps atMost min max min′ max′ h k = rw (is-true (atMost min max′) h, is-true (atMost min′ max) k)
@@ -54,8 +50,8 @@ onAxis b query a = overlap le (low a b) (high a b) (coordinate a (query .min)) (
 meets-on : (b : BoxWords) (query : Aabb) → meetsBox (boxValues b) query ≡ true → (a : Axis) → onAxis b query a ≡ true
 unfolding meetsBox
 meets-on b query e a =
-    let first = two-hold (onAxis b query X) (onAxis b query Y && onAxis b query Z) e in
-    let others = two-hold (onAxis b query Y) (onAxis b query Z) (first .1) in
+    let first = and-eq-true-iff (onAxis b query X) (onAxis b query Y && onAxis b query Z) .0 e in
+    let others = and-eq-true-iff (onAxis b query Y) (onAxis b query Z) .0 (first .1) in
     elim a [
       | X ↦ first .0
       | Y ↦ others .0
@@ -68,7 +64,7 @@ holds b e = subst T (sym e) tt
 item-on-axis : (b : BoxWords) (query : Aabb) → meetsBox (boxValues b) query ≡ true → (a : Axis)
     → T (le (low a b) (coordinate a (query .max))) × T (le (coordinate a (query .min)) (high a b))
 item-on-axis b query e a =
-    let h = two-hold (le (low a b) (coordinate a (query .max))) (le (coordinate a (query .min)) (high a b)) (meets-on b query e a) in
+    let h = and-eq-true-iff (le (low a b) (coordinate a (query .max))) (le (coordinate a (query .min)) (high a b)) .0 (meets-on b query e a) in
     (holds (le (low a b) (coordinate a (query .max))) (h .0), holds (le (coordinate a (query .min)) (high a b)) (h .1))
 
 some-held : (p : ℕ) (ps : List ℕ) → Among p ps → 0 < length ps

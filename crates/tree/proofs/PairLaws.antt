@@ -11,18 +11,20 @@ use mathlib.Core.Path.{_≡_, refl, sym, ap, _∙_, subst}
 use borrow.Author.Tests.{le-ltb, ne-eqb, eqb-true}
 use lib.Dec.{ltb, eqb}
 use lib.ListN.{length, getD, drop, length-append}
+use Rattle.base.proofs.WithinLaws.{below-within, within-below}
+use Rattle.base.proofs.NumberLaws.{rising-once, rising-at-most, below-wider, below-at}
+use Rattle.base.specs.Lists.{occurrences, Among, Below, Rising, over}
 use Rattle.math.specs.declared.aabb.Aabb.{Aabb}
 use Rattle.math.specs.declared.vec3.Vec3.{Vec3}
 use Rattle.records.specs.declared.scale.Scale.{Scale}
 use Rattle.records.specs.Scale.{scaleOfBox}
 use Rattle.split.specs.Folding.{foldBox}
-use Rattle.split.specs.Lists.{occurrences, Among}
 use Rattle.split.specs.declared.boxes.BoxWords.{BoxWords}
 use Rattle.bvh.specs.Build.{Entries, treeOf, scaleIn, nodesWritten, treesWritten}
 use Rattle.bvh.specs.Entry.{outputs}
-use Rattle.bvh.specs.steps.Decode.{Below, Rising, Small, SmallRows}
+use Rattle.bvh.specs.steps.Decode.{Small, SmallRows}
 use Rattle.bvh.specs.steps.Flat.{Full, Filled}
-use Rattle.bvh.specs.Output.{over, nodesBytes, padBytes, treesBytes, capacityOf}
+use Rattle.bvh.specs.Output.{nodesBytes, padBytes, treesBytes, capacityOf}
 use Rattle.bvh.specs.Promises.{itemAt}
 use Rattle.bvh.specs.Ranges.{parts, ranges, rangeLimit}
 use Rattle.bvh.specs.Rows.{Row, rows}
@@ -30,11 +32,10 @@ use Rattle.bvh.specs.Tree.{Node, leaf, inner, Builder, builder, grow, boxOf, le
 use Rattle.bvh.proofs.EmitLaws.{length-nodes}
 use Rattle.bvh.proofs.FlatLaws.{grow-filled, length-trees}
 use Rattle.bvh.proofs.Lawful.{Lawful, lawful}
-use Rattle.bvh.proofs.Promises.{rising-once, rising-at-most, rows-at-most}
+use Rattle.bvh.proofs.Promises.{rows-at-most}
 use Rattle.bvh.proofs.RangeLaws.{ranges-few}
 use Rattle.bvh.proofs.SmallLaws.{small-rows}
 use Rattle.bvh.proofs.TreeLaws.{AtMost, grow-induction, grow-at-most, grow-full, leaf-order-permutes, leaf-order-length, leaf-order-within, length-rows}
-use Rattle.bvh.proofs.WordLaws.{below-within, within-below, below-wider, below-at}
 use Rattle.walk.specs.Boxes.{queryOf, meetsBox}
 use Rattle.walk.specs.Step.{Lent, started}
 use Rattle.walk.specs.Walks.{Outcome, walkOf, walkFrom, ended, statusNumber, unread}

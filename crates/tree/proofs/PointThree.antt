@@ -7,13 +7,14 @@ use mathlib.Core.List.{List, _++_}
 use mathlib.Core.Path.{_≡_, refl, sym, ap, _∙_, subst}
 use lib.Dec.{eqb}
 use lib.ListN.{length, getD, drop, List·getD-append}
+use Rattle.base.specs.Lists.{over}
 use Rattle.math.specs.declared.aabb.Aabb.{Aabb}
 use Rattle.bvh.specs.declared.core.Build.the-variants.{Built}
 use Rattle.bvh.specs.declared.core.BuiltTree.{BuiltTree}
 use Rattle.bvh.specs.declared.core.Lengths.{Lengths}
 use Rattle.bvh.specs.Build.{Entries, treeOf, nodesWritten, treesWritten, orderWritten}
 use Rattle.bvh.specs.Entry.{Outputs, outputs, Answered}
-use Rattle.bvh.specs.Output.{over, orderOf}
+use Rattle.bvh.specs.Output.{orderOf}
 use Rattle.bvh.specs.Promises.{itemAt, WellFormed}
 use Rattle.bvh.specs.Tree.{leafOrder}
 use Rattle.bvh.proofs.Promises.{well-formed}

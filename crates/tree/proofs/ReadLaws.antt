@@ -12,6 +12,7 @@ use Rattle.records.specs.declared.scale.Scale.{Scale}
 use Rattle.records.specs.Records.{nodeBytes, treeBytes, nodeAt, treeAt, NodeFits, TreeFits}
 use Rattle.records.proofs.Fitting.{quantise-fits}
 use Rattle.records.proofs.ReadBack.{node-back, tree-back}
+use Rattle.base.proofs.StoreLaws.{cut-at}
 use Rattle.bvh.specs.steps.Decode.{Small}
 use Rattle.bvh.specs.Output.{nodeOf, nodesBytes, treeRecord, treesBytes}
 use Rattle.bvh.specs.Ranges.{Range}
@@ -41,12 +42,6 @@ tree-fits s r h k =
       one = small-signed _ h;
       two = small-signed _ k;
     }
-
--- what stands at a number, and what stands before it
-cut-at : {A : Type 0} (l : List A) (k : ℕ) (x : A) (xs : List A) → drop k l ≡ x ∷ xs → (l ≡ take k l ++ x ∷ xs) × (length (take k l) ≡ k)
-cut-at l k x xs e =
-    let long : length (drop k l) ≡ suc (length xs) = ap length e in
-    (sym (take-append-drop k l) ∙ ap (λ t. take k l ++ t) e, length-take-le k l (omega (arith, length-drop k l)))
 
 pub node-read : (s : Scale) (th : ℕ) (order rest : List ℕ) (rs : List Row) (k : ℕ) (r : Row) (qs : List Row) → drop k rs ≡ r ∷ qs → Small th order r
     → nodeAt (nodesBytes s th order rs ++ rest) (16 * k) ≡ nodeOf s th order r

@@ -10,15 +10,15 @@ use mathlib.Core.Path.{_≡_, refl, sym, ap, _∙_, subst}
 use lib.Dec.{T}
 use lib.ListN.{length, drop, length-append, length-map}
 use lib.Seq.{drop-at, drop-drop}
-use Rattle.split.specs.Lists.{occurrences}
+use Rattle.base.proofs.ListLaws.{occurs-append}
+use Rattle.base.specs.Lists.{occurrences, upFrom}
 use Rattle.split.specs.declared.boxes.BoxWords.{BoxWords}
-use Rattle.bvh.specs.Numbers.{upFrom}
+use Rattle.base.proofs.NumberLaws.{length-up, up-within}
 use Rattle.bvh.specs.Output.{idOf}
 use Rattle.bvh.specs.Promises.{itemAt}
 use Rattle.bvh.specs.Ranges.{Subtree, parts, rangeOf, ranges}
 use Rattle.bvh.specs.Rows.{Row, rows}
 use Rattle.bvh.specs.Tree.{Node, leaf, inner, boxOf, leafOrder, size}
-use Rattle.bvh.proofs.Places.{occurrences-append}
 use Rattle.bvh.proofs.Promises.{leaf-items}
 use Rattle.bvh.proofs.RangeLaws.{parts-induction}
 use Rattle.bvh.proofs.TreeLaws.{AtMost}
@@ -43,10 +43,6 @@ parts-items limit some =
     (λ at b l r h el er.
     omega (arith, below-append (parts limit (at + 1) l) (parts limit (at + 1 + size l) r), length-append (leafOrder l) (leafOrder r)))
 
-pub length-up : (at n : ℕ) → length (upFrom at n) ≡ n
-length-up at zero = refl
-length-up at (suc n) = ap suc (length-up (at + 1) n)
-
 -- the leaf order behind the first child's
 second-order : (order : List ℕ) (lo : ℕ) (l r : Node) (rest : List ℕ) → drop lo order ≡ (leafOrder l ++ leafOrder r) ++ rest
     → drop (lo + length (leafOrder l)) order ≡ leafOrder r ++ rest
@@ -69,7 +65,7 @@ module _ (hit : BoxWords → Bool) (th : ℕ) (order : List ℕ) where
   items is = map (itemAt th order) is
 
   items-append : (p : ℕ) (xs ys : List ℕ) → occurrences p (items (xs ++ ys)) ≡ occurrences p (items xs) + occurrences p (items ys)
-  items-append p xs ys = ap (occurrences p) (map-append (itemAt th order) xs ys) ∙ occurrences-append p (items xs) (items ys)
+  items-append p xs ys = ap (occurrences p) (map-append (itemAt th order) xs ys) ∙ occurs-append p (items xs) (items ys)
 
   -- ---- how often an item is handed out
 
@@ -80,7 +76,7 @@ module _ (hit : BoxWords → Bool) (th : ℕ) (order : List ℕ) where
 
   sum-at-most : (q : Bool) (p : ℕ) (xs ys ps qs : List ℕ) → occurrences p (items xs) ≤ occurrences p ps → occurrences p (items ys) ≤ occurrences p qs
       → occurrences p (items (cond q (xs ++ ys) [])) ≤ occurrences p (ps ++ qs)
-  sum-at-most true p xs ys ps qs h k = omega (arith, items-append p xs ys, occurrences-append p ps qs)
+  sum-at-most true p xs ys ps qs h k = omega (arith, items-append p xs ys, occurs-append p ps qs)
   sum-at-most false p xs ys ps qs h k = omega arith
 
   pub visit-at-most : (p lo : ℕ) (t : Node) (rest : List ℕ) → AtMost th t → drop lo order ≡ leafOrder t ++ rest
@@ -101,7 +97,7 @@ module _ (hit : BoxWords → Bool) (th : ℕ) (order : List ℕ) where
   sum-all : (q : Bool) (p : ℕ) (xs ys ps qs : List ℕ) → (0 < occurrences p (ps ++ qs) → q ≡ true)
       → occurrences p ps ≤ occurrences p (items xs) → occurrences p qs ≤ occurrences p (items ys)
       → occurrences p (ps ++ qs) ≤ occurrences p (items (cond q (xs ++ ys) []))
-  sum-all true p xs ys ps qs h k₁ k₂ = omega (arith, items-append p xs ys, occurrences-append p ps qs)
+  sum-all true p xs ys ps qs h k₁ k₂ = omega (arith, items-append p xs ys, occurs-append p ps qs)
   sum-all false p xs ys ps qs h k₁ k₂ = missed (occurrences p (ps ++ qs)) h
 
   pub visit-all : (p lo : ℕ) (t : Node) (rest : List ℕ) → Hits hit p t → AtMost th t → drop lo order ≡ leafOrder t ++ rest
@@ -113,12 +109,6 @@ module _ (hit : BoxWords → Bool) (th : ℕ) (order : List ℕ) where
       (visit-all p (lo + length (leafOrder l)) r rest (h .2) (most .1) (second-order order lo l r rest e))
 
   -- ---- where positions come from
-
-  up-within : (n at i : ℕ) → List·Memᴰ i (upFrom at n) → (at ≤ i) × (i < at + n)
-  up-within zero at i m = absurd (List·Memᴰ·not-nil m)
-  up-within (suc n) at i m =
-      ⊎-elim (λ e. (omega arith, omega arith)) (λ m′. let h = up-within n (at + 1) i m′ in (omega (arith, h .0), omega (arith, h .1)))
-      (List·Memᴰ·cases-cons m)
 
   from-leaf : (q : Bool) (lo i : ℕ) (b : BoxWords) (ps : List ℕ) → hit b ≡ q
       → List·Memᴰ i (cond q (upFrom (idOf th order (record { box = b; head = lo; count = length ps })) (length ps)) [])

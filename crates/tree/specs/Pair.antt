@@ -7,6 +7,7 @@ use mathlib.Core.Path.{_≡_}
 use lib.Dec.{T, eqb}
 use lib.Ieee.{Float, le, eq}
 use lib.ListN.{length}
+use Rattle.base.specs.Lists.{occurrences}
 use Rattle.math.specs.declared.axis.Axis.{Axis}
 use Rattle.math.specs.Stored.{valuesOf}
 use Rattle.math.specs.declared.aabb.Aabb.{Aabb}
@@ -15,7 +16,6 @@ use Rattle.records.specs.Quantise.{quantiseOf}
 use Rattle.records.specs.declared.scale.Scale.{Scale}
 use Rattle.split.specs.Ends.{low, high, Proper, Bounded, Each}
 use Rattle.split.specs.Folding.{foldBox}
-use Rattle.split.specs.Lists.{occurrences}
 use Rattle.split.specs.declared.boxes.BoxWords.{BoxWords}
 use Rattle.bvh.specs.declared.core.Build.{Build}
 use Rattle.bvh.specs.declared.core.Build.the-variants.{Built, Refused}

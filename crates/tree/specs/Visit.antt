@@ -4,9 +4,8 @@ use mathlib.Core.Bool.{Bool, true, cond}
 use mathlib.Core.List.{List, [], _∷_, _++_, List·Memᴰ}
 use mathlib.Core.Path.{_≡_}
 use lib.ListN.{length}
-use Rattle.split.specs.Lists.{occurrences}
+use Rattle.base.specs.Lists.{occurrences, upFrom}
 use Rattle.split.specs.declared.boxes.BoxWords.{BoxWords}
-use Rattle.bvh.specs.Numbers.{upFrom}
 use Rattle.bvh.specs.Output.{idOf}
 use Rattle.bvh.specs.Ranges.{Subtree}
 use Rattle.bvh.specs.Rows.{Row}

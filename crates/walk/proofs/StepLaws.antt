@@ -1,10 +1,10 @@
 -- What a reading leads to, case by case.
 use mathlib.Core.Path.{_≡_}
-use mathlib.Core.Bool.{true, false, _||_}
+use mathlib.Core.Bool.{and-eq-true-iff, true, false, _||_}
 use Prim.Native.Nat.{ℕ, _+_, _*_, _≤_, _<_}
 use lib.Dec.{ltb}
 use borrow.Author.Tests.{lt-ltb, le-ltb, ltb-true}
-use Rattle.base.proofs.Truth.{both, either-second}
+use Rattle.base.proofs.Truth.{either-second}
 use Rattle.records.specs.Records.{nodeAt, treeAt}
 use Rattle.records.specs.declared.BvhNode.{BvhNode}
 use Rattle.records.specs.declared.BvhTree.{BvhTree}
@@ -58,9 +58,9 @@ module _ (l : Lent) (s : WalkState) where
 
 -- ---- a record is left to read
 pub more-going : (trees : ℕ) (s : WalkState) → more trees s ≡ true → going (s .status) ≡ true
-more-going trees s h = both (going (s .status)) (ltb (s .at) (s .last) || ltb (s .tree) trees) h .0
+more-going trees s h = and-eq-true-iff (going (s .status)) (ltb (s .at) (s .last) || ltb (s .tree) trees) .0 h .0
 
 pub more-tree : (trees : ℕ) (s : WalkState) → more trees s ≡ true → s .last ≤ s .at → s .tree < trees
 more-tree trees s h k =
-    let e = both (going (s .status)) (ltb (s .at) (s .last) || ltb (s .tree) trees) h .1 in
+    let e = and-eq-true-iff (going (s .status)) (ltb (s .at) (s .last) || ltb (s .tree) trees) .0 h .1 in
     ltb-true (s .tree) trees (either-second (ltb (s .at) (s .last)) (ltb (s .tree) trees) e (le-ltb (s .at) (s .last) k))

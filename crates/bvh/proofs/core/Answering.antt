@@ -9,6 +9,7 @@ use lib.Dec.{ltb, T}
 use lib.ListN.{length, take}
 use lib.Seq.{length-take-le}
 use Rattle.split.specs.Boxes.{boxAt}
+use Rattle.base.proofs.Truth.{neither}
 use Rattle.bvh.specs.declared.core.Build.{Build}
 use Rattle.bvh.specs.declared.core.Build.the-variants.{Built, Refused}
 use Rattle.bvh.specs.declared.core.BuildRefusal.{BuildRefusal}
@@ -35,10 +36,6 @@ pub record Enough (n : ℕ) (o : Outputs) (l : Lent) : Type 0 where
   pub temp-room : n ≤ length (l .temp)
   pub stack-room : n ≤ length (l .stack)
   pub rows-room : 8 * (2 * n + 1) ≤ length (l .rows)
-
-neither : (a b : Bool) → (a || b) ≡ false → (a ≡ false) × (b ≡ false)
-neither false b e = (refl, e)
-neither true b e = absurd (subst T e tt)
 
 pub enough : (n : ℕ) (o : Outputs) (l : Lent) → short n (lengthsOf o l) ≡ false → Enough n o l
 enough n o l e =

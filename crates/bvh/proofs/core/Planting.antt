@@ -6,16 +6,18 @@ use mathlib.Core.List.{List, _++_}
 use mathlib.Core.Path.{_≡_, sym, ap, _∙_, subst}
 use lib.ListN.{length, take, drop}
 use lib.Seq.{length-take-le, take-at}
+use Rattle.base.proofs.NumberLaws.{below-wider}
+use Rattle.base.proofs.WithinLaws.{below-within}
+use Rattle.base.specs.Lists.{Below}
 use Rattle.split.specs.Boxes.{boxAt}
 use Rattle.bvh.specs.declared.core.Task.{Task}
 use Rattle.bvh.specs.Entry.{lent}
 use Rattle.bvh.specs.Items.{marked}
 use Rattle.bvh.specs.Tree.{builder}
 use Rattle.bvh.specs.steps.Core.{WorkRoom, TreePlanted}
-use Rattle.bvh.specs.steps.Decode.{Gathered, Below}
+use Rattle.bvh.specs.steps.Decode.{Gathered}
 use Rattle.bvh.specs.steps.Laid.{Room, Grown}
 use Rattle.bvh.proofs.MarkedLaws.{marked-below}
-use Rattle.bvh.proofs.WordLaws.{below-within, below-wider}
 
 -- the marked places are below the number of entries
 pub marks-below : (n : ℕ) (ws : List ℕ) → Below n (marked 0 n ws)

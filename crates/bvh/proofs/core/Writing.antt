@@ -7,7 +7,9 @@ use mathlib.Core.Path.{_≡_, refl, sym, ap, _∙_, subst}
 use borrow.Author.Tests.{eq-eqb, ne-eqb}
 use lib.ListN.{length, take, drop}
 use lib.Seq.{length-take-le}
-use Rattle.base.specs.Lists.{Within}
+use Rattle.base.proofs.NumberLaws.{below-wider}
+use Rattle.base.proofs.WithinLaws.{below-within, within-below}
+use Rattle.base.specs.Lists.{Within, over, Below}
 use Rattle.records.specs.declared.scale.Scale.{Scale}
 use Rattle.records.specs.Scale.{scaleOfBox}
 use Rattle.split.specs.Boxes.{boxAt}
@@ -17,12 +19,12 @@ use Rattle.bvh.specs.declared.core.Task.{Task}
 use Rattle.bvh.specs.Build.{scaleIn, treeOf, nodesWritten, treesWritten, orderWritten}
 use Rattle.bvh.specs.Entry.{Outputs, entriesIn}
 use Rattle.bvh.specs.Items.{marked}
-use Rattle.bvh.specs.Output.{over, nodesBytes, padBytes, capacityOf, treesBytes, orderOf}
+use Rattle.bvh.specs.Output.{nodesBytes, padBytes, capacityOf, treesBytes, orderOf}
 use Rattle.bvh.specs.Ranges.{ranges, rangeLimit}
 use Rattle.bvh.specs.Rows.{Row, rows}
 use Rattle.bvh.specs.Tree.{Node, leaf, inner, Builder, builder, grow, boxOf, leafOrder, size}
 use Rattle.bvh.specs.steps.Core.{NodesWritten, OrderFits, Writable, Written}
-use Rattle.bvh.specs.steps.Decode.{Below, RowsFit, SmallRows}
+use Rattle.bvh.specs.steps.Decode.{RowsFit, SmallRows}
 use Rattle.bvh.specs.steps.Flat.{Filled, Flat, Scannable, TreesPut}
 use Rattle.bvh.specs.steps.Table.{tableOf, rowAt, rowsIn}
 use Rattle.bvh.proofs.EmitLaws.{padded, length-nodes}
@@ -31,7 +33,6 @@ use Rattle.bvh.proofs.Lawful.{Lawful, lawful}
 use Rattle.bvh.proofs.SmallLaws.{small-rows}
 use Rattle.bvh.proofs.TableLaws.{length-rows-in, table-is, rows-held}
 use Rattle.bvh.proofs.TreeLaws.{leaf-order-within, grow-full, length-rows}
-use Rattle.bvh.proofs.WordLaws.{below-within, within-below, below-wider}
 use Rattle.bvh.proofs.core.Planting.{marks-below}
 
 -- ---- the node records and the padding

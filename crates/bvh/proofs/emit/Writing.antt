@@ -6,14 +6,16 @@ use mathlib.Core.Path.{_≡_, refl, sym, ap, _∙_, subst}
 use mathlib.Core.List.{List, [], _∷_, _++_, append-assoc, append-nil}
 use lib.ListN.{length, getD, take, drop, set, length-append, length-set, length-drop, take-append-drop}
 use lib.Seq.{length-take-le, take-suc, take-length, take-all}
+use Rattle.base.proofs.StoreLaws.{over-more, over-one}
+use Rattle.base.specs.Lists.{over}
 use Rattle.records.specs.declared.BvhNode.{BvhNode}
 use Rattle.records.specs.declared.scale.Scale.{Scale}
 use Rattle.records.specs.Records.{nodeBytes}
 use Rattle.records.proofs.Sizes.{node-bytes}
 use Rattle.bvh.specs.Rows.{Row}
-use Rattle.bvh.specs.Output.{over, nodeOf, nodesBytes, padNode, padBytes}
+use Rattle.bvh.specs.Output.{nodeOf, nodesBytes, padNode, padBytes}
 use Rattle.bvh.specs.steps.Table.{rowAt, rowsIn}
-use Rattle.bvh.proofs.EmitLaws.{over-more, over-one, length-nodes, nodes-append, length-pad, pad-more}
+use Rattle.bvh.proofs.EmitLaws.{length-nodes, nodes-append, length-pad, pad-more}
 use Rattle.bvh.proofs.TableLaws.{length-rows-in, row-in}
 
 pub record Writing (before buffer written : List ℕ) (i last : ℕ) : Type 0 where

@@ -10,6 +10,7 @@ use lib.Dec.{leb, eqb}
 use lib.ListN.{length, getD, take, drop, length-append, length-drop, length-take, take-append-drop, drop-of-length-le}
 use lib.Seq.{take-at, drop-at, drop-cons, drop-drop, take-add, take-all, length-take-le}
 use borrow.Author.Tests.{ne-eqb, le-leb, lt-leb}
+use Rattle.base.specs.Lists.{over}
 use Rattle.records.specs.declared.scale.Scale.{Scale}
 use Rattle.records.specs.Records.{treeBytes}
 use Rattle.records.proofs.Sizes.{tree-bytes}
@@ -17,7 +18,7 @@ use Rattle.split.specs.declared.boxes.BoxWords.{BoxWords}
 use Rattle.bvh.specs.Tree.{Node, leaf, inner, leafOrder, size}
 use Rattle.bvh.specs.Rows.{Row, rows}
 use Rattle.bvh.specs.Ranges.{Range, parts, rangeOf, ranges}
-use Rattle.bvh.specs.Output.{treeRecord, treesBytes, over}
+use Rattle.bvh.specs.Output.{treeRecord, treesBytes}
 use Rattle.bvh.specs.steps.Flat.{Full, Filled, treeSize, Flat, Scannable, TreesPut}
 use Rattle.bvh.specs.steps.Table.{rowAt}
 use Rattle.bvh.proofs.FlatLaws.{length-trees, trees-append}

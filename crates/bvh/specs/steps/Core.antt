@@ -3,6 +3,7 @@ use Prim.Native.Nat.{ℕ, _+_, _-_, _*_, _≤_, _<_}
 use mathlib.Core.List.{List, _++_}
 use mathlib.Core.Path.{_≡_}
 use lib.ListN.{length, take}
+use Rattle.base.specs.Lists.{over, Below}
 use Rattle.records.specs.declared.scale.Scale.{Scale}
 use Rattle.split.specs.Boxes.{boxAt}
 use Rattle.bvh.specs.declared.core.BuiltTree.{BuiltTree}
@@ -11,9 +12,8 @@ use Rattle.bvh.specs.declared.core.Task.{Task}
 use Rattle.bvh.specs.Build.{Entries, treeOf, builtOf, nodesWritten, treesWritten, orderWritten}
 use Rattle.bvh.specs.Entry.{Outputs, Lent}
 use Rattle.bvh.specs.Items.{marked}
-use Rattle.bvh.specs.Output.{over, nodesBytes, padBytes, capacityOf}
+use Rattle.bvh.specs.Output.{nodesBytes, padBytes, capacityOf}
 use Rattle.bvh.specs.Tree.{builder}
-use Rattle.bvh.specs.steps.Decode.{Below}
 use Rattle.bvh.specs.steps.Laid.{Grown}
 use Rattle.bvh.specs.steps.Table.{rowsIn}
 

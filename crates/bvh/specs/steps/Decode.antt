@@ -13,16 +13,6 @@ pub record Gathered (n : ℕ) (entries places : List ℕ) (r : ℕ) : Type 0 whe
   pub places-are : take r places ≡ marked 0 n entries
   pub most : r ≤ n
 
--- every one is below n
-abbrev pub Below : ℕ → List ℕ → Type 0
-Below n [] = Unit {0}
-Below n (x ∷ xs) = (x < n) × Below n xs
-
--- each is greater than the one before it, and the first at least lo
-abbrev pub Rising : ℕ → List ℕ → Type 0
-Rising lo [] = Unit {0}
-Rising lo (x ∷ xs) = (lo ≤ x) × Rising (x + 1) xs
-
 -- a row whose id and count an i16 holds, and of a leaf with items a first position within the leaf order
 pub record Small (th : ℕ) (order : List ℕ) (r : Row) : Type 0 where
   pub id : idOf th order r < 32768

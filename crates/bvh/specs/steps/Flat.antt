@@ -5,11 +5,12 @@ use mathlib.Core.List.{List}
 use mathlib.Core.Path.{_≡_}
 use lib.Dec.{eqb}
 use lib.ListN.{length, take}
+use Rattle.base.specs.Lists.{over}
 use Rattle.records.specs.declared.scale.Scale.{Scale}
 use Rattle.bvh.specs.Tree.{Node, leaf, inner, size}
 use Rattle.bvh.specs.Rows.{Row, rows}
 use Rattle.bvh.specs.Ranges.{ranges}
-use Rattle.bvh.specs.Output.{treesBytes, over}
+use Rattle.bvh.specs.Output.{treesBytes}
 use Rattle.bvh.specs.steps.Table.{tableOf}
 
 -- every leaf has an item

@@ -1,9 +1,9 @@
 -- `emit::pad_nodes` meets its contract. The loop's invariant: the records from `from` up to i are padding.
+use Rattle.base.specs.Lists.{over}
 use Rattle.bvh.proofs.emit.pad_nodes.Statement.{statement}
 use Rattle.bvh.proofs.emit.pad_nodes.Tie as tie
 use Prim.Native.Nat.{ℕ, _-_, _≤_}
 use mathlib.Core.Path.{_≡_, refl, ap, _∙_}
-use Rattle.bvh.specs.Output.{over}
 use Rattle.bvh.proofs.emit.Writing.{Writing, paddedTo, padding-begins, pad-next, padding-done}
 use native.Mathlib.Omega.{arith}
 

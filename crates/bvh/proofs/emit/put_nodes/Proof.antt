@@ -1,4 +1,5 @@
 -- `emit::put_nodes` meets its contract. The loop's invariant: the records of the first i rows are written.
+use Rattle.base.specs.Lists.{over}
 use Rattle.bvh.proofs.emit.put_nodes.Statement.{statement}
 use Rattle.bvh.proofs.emit.put_nodes.Tie as tie
 use Prim.Native.Nat.{_-_}
@@ -6,7 +7,7 @@ use mathlib.Core.Path.{refl, ap, _∙_}
 use mathlib.Core.List.{List}
 use lib.ListN.{take}
 use lib.Seq.{take-all}
-use Rattle.bvh.specs.Output.{over, nodesBytes}
+use Rattle.bvh.specs.Output.{nodesBytes}
 use Rattle.bvh.specs.Rows.{Row}
 use Rattle.bvh.specs.steps.Table.{rowsIn}
 use Rattle.bvh.proofs.SmallLaws.{small-at}

@@ -1,4 +1,6 @@
 -- `emit::put_order` meets its contract. The loop's invariant: the first i places are written.
+use Rattle.base.proofs.NumberLaws.{below-at}
+use Rattle.base.specs.Lists.{over}
 use Rattle.bvh.proofs.emit.put_order.Statement.{statement}
 use Rattle.bvh.proofs.emit.put_order.Tie as tie
 use Prim.Native.Nat.{ℕ, _-_}
@@ -6,9 +8,7 @@ use mathlib.Core.Path.{refl, _∙_, ap}
 use mathlib.Core.List.{List}
 use lib.ListN.{length, take}
 use lib.Seq.{take-all}
-use Rattle.bvh.specs.Output.{over}
 use Rattle.bvh.proofs.emit.Writing.{Writing, number-next}
-use Rattle.bvh.proofs.WordLaws.{below-at}
 use native.Mathlib.Omega.{arith}
 
 abbrev Inv-loop : tie.InvT-loop
