@@ -5,7 +5,7 @@ use mathlib.Core.Bool.{Bool}
 use mathlib.Core.List.{List, [], _∷_, _++_}
 use lib.ListN.{length, getD, take, drop}
 use Rattle.base.specs.Lists.{sift, Below, Inside, Within}
-use Rattle.base.proofs.EveryLaws.{every-append, every-left, every-right, every-take, every-drop, every-sift, every-at}
+use Rattle.base.proofs.EveryLaws.{every-append, every-take, every-drop, every-sift, every-at}
 
 module _ (n : ℕ) where
   pub within-sift : (test : ℕ → Bool) (ps : List ℕ) → Within n ps → Within n (sift test ps)
@@ -13,12 +13,6 @@ module _ (n : ℕ) where
 
   pub within-append : (ps rs : List ℕ) → Within n ps → Within n rs → Within n (ps ++ rs)
   within-append = every-append (Inside n)
-
-  pub within-left : (ps rs : List ℕ) → Within n (ps ++ rs) → Within n ps
-  within-left = every-left (Inside n)
-
-  pub within-right : (ps rs : List ℕ) → Within n (ps ++ rs) → Within n rs
-  within-right = every-right (Inside n)
 
   pub within-take : (k : ℕ) (ps : List ℕ) → Within n ps → Within n (take k ps)
   within-take = every-take (Inside n)

@@ -2,11 +2,10 @@
 use Prim.Native.Nat.{ℕ}
 use mathlib.Core.List.{List}
 use mathlib.Core.Path.{_≡_}
-use lib.Ieee.{Float, binary32, ofBits}
+use lib.Ieee.{binary32, ofBits}
 use Rattle.math.specs.declared.vec3.Vec3.{Vec3}
 use Rattle.math.specs.declared.words3.Words3.{Words3}
 use Rattle.records.specs.declared.header.Bvh.{Bvh}
-use Rattle.records.specs.declared.scale.Scale.{Scale}
 use Rattle.records.specs.Header.{headerAnswer, headerExit}
 use Rattle.bvh.specs.declared.core.Build.{Build}
 use Rattle.bvh.specs.declared.core.Build.the-variants.{Built, TooManyEntries, ThresholdOutside, BufferTooShort, TooManyNodes}

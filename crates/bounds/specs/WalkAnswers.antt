@@ -5,8 +5,13 @@ use mathlib.Core.Path.{_≡_}
 use lib.ListN.{length, drop}
 use Rattle.walk.specs.declared.core.Counts.{Counts}
 use Rattle.walk.specs.declared.core.Walk.{Walk}
+use Rattle.walk.specs.declared.state.Sizes.{Sizes}
 use Rattle.walk.specs.Walks.{Outcome, numberOf, countsOf}
 use Rattle.bounds.specs.declared.WalkAnswer.{WalkAnswer}
+
+-- how many nodes, trees and items there are
+abbrev pub sizesOf : ℕ → ℕ → ℕ → Sizes
+sizesOf nodes trees items = record { nodes = nodes; trees = trees; items = items }
 
 unfoldable pub counted : ℕ → Counts → WalkAnswer
 counted n c = record { refusal = n; reads = c .reads; handed = c .handed }

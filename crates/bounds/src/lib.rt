@@ -13,6 +13,7 @@ use records::header::Header;
 use records::scale::Scale;
 use walk::core::Counts;
 use walk::core::Walk;
+use walk::core::WalkRefusal;
 use walk::state::Sizes;
 ghost use mathlib.Core.Path.{_≡_};
 ghost use Prim.Native.Nat.{_+_, _*_};
@@ -30,9 +31,9 @@ ghost use Rattle.math.specs.Vec3s.{addOf, subOf, scaleOf, negOf, absOf, dotOf, 
 ghost use Rattle.records.specs.Header.{headerNumber, headerAnswer, headerExit};
 ghost use Rattle.bvh.specs.Entry.{entriesIn, lengthsOf};
 ghost use Rattle.bounds.specs.Numbers.{relationNumber, orderingNumber};
-ghost use Rattle.walk.specs.Walks.{walkOf};
+ghost use Rattle.walk.specs.Walks.{refusalNumber, walkOf};
 ghost use Rattle.bounds.specs.Trees.{refusedBy, treeValues, buildAnswer, Answers, HeaderWritten};
-ghost use Rattle.bounds.specs.WalkAnswers.{counted, walkAnswer, WalkAnswered};
+ghost use Rattle.bounds.specs.WalkAnswers.{sizesOf, counted, walkAnswer, WalkAnswered};
 
 // ---- words and floats
 
@@ -484,28 +485,24 @@ fn with_counts(number: u32, c: Counts) -> WalkAnswer
     }
 }
 
+fn walk_refusal_number(why: WalkRefusal) -> u32
+    ensures { λ r. ⌜ r ≡ refusalNumber why ⌝ }
+{
+    match why {
+        WalkRefusal::TooMany => 1,
+        WalkRefusal::BufferTooShort => 2,
+        WalkRefusal::TreeRange => 9,
+        WalkRefusal::NodeRecord => 10,
+        WalkRefusal::TooManyHandedOut => 11,
+    }
+}
+
 fn walk_answer(w: Walk) -> WalkAnswer
     ensures { λ r. ⌜ r ≡ walkAnswer w ⌝ }
 {
     match w {
         Walk::Walked(c) => with_counts(0, c),
-        Walk::TooMany => with_counts(
-            1,
-            Counts {
-                reads: 0,
-                handed: 0,
-            },
-        ),
-        Walk::BufferTooShort => with_counts(
-            2,
-            Counts {
-                reads: 0,
-                handed: 0,
-            },
-        ),
-        Walk::TreeRange(c) => with_counts(9, c),
-        Walk::NodeRecord(c) => with_counts(10, c),
-        Walk::TooManyHandedOut(c) => with_counts(11, c),
+        Walk::Refused(why, c) => with_counts(walk_refusal_number(why), c),
     }
 }
 
@@ -515,19 +512,20 @@ pub extern "C" fn bounds_walk(
     query: Aabb,
     cen: Vec3,
     inverse: Vec3,
-    nodes: &[u8],
+    node_bytes: &[u8],
     node_count: usize,
-    trees: &[u8],
+    tree_bytes: &[u8],
     tree_count: usize,
     item_count: usize,
     out: &mut [u16],
 ) -> WalkAnswer
-    ensures { λ r. ⌜ WalkAnswered (walkOf query cen inverse (record { nodes = «node_count»; trees = «tree_count»; items = «item_count» }) (now (nodes .entry)) (now (trees .entry)) (length (now (out .entry)))) (now (out .entry)) (now (out .exit)) r ⌝ }
+    ensures { λ r. ⌜ WalkAnswered (walkOf query cen inverse (sizesOf «node_count» «tree_count» «item_count»)
+        (now («node_bytes» .entry)) (now («tree_bytes» .entry)) (length (now (out .entry)))) (now (out .entry)) (now (out .exit)) r ⌝ }
 {
     let sizes = Sizes {
         nodes: node_count,
         trees: tree_count,
         items: item_count,
     };
-    walk_answer(walk::entry::walk_bvh(query, cen, inverse, sizes, nodes, trees, out))
+    walk_answer(walk::entry::walk_bvh(query, cen, inverse, sizes, node_bytes, tree_bytes, out))
 }

@@ -3,8 +3,8 @@ use Prim.Native.Nat.{ℕ, _+_, _≤_, _<_}
 use mathlib.Core.List.{List, _++_}
 use mathlib.Core.Path.{_≡_}
 use lib.ListN.{length}
+use Rattle.base.specs.Lists.{Within, Permutes}
 use Rattle.split.specs.declared.boxes.BoxWords.{BoxWords}
-use Rattle.split.specs.Lists.{Within, Permutes}
 use Rattle.split.proofs.DivideLaws.{divide-total, divide-some-first, divide-some-second, divide-within-first, divide-within-second, divide-permutes}
 use Rattle.bvh.specs.Tree.{Builder, builder}
 

@@ -8,10 +8,10 @@ use mathlib.Core.List.{List, [], _∷_, _++_, append-assoc}
 use lib.Dec.{eqb}
 use lib.ListN.{length, getD, take, drop, set, length-append}
 use lib.Seq.{getD-at, take-set-le, take-suc-set}
-use Rattle.split.specs.Lists.{pick, oneIf}
+use Rattle.base.specs.Lists.{oneIf}
 use Rattle.bvh.specs.declared.items.BvhItem.{BvhItem}
-use Rattle.bvh.specs.Items.{present, itemWords, wordsOf}
-use Rattle.bvh.specs.Decode.{isMarked, marked, Below, Rising}
+use Rattle.bvh.specs.Items.{present, itemWords, wordsOf, isMarked, marked}
+use Rattle.bvh.specs.steps.Decode.{Below, Rising}
 use Rattle.bvh.proofs.WordLaws.{below-wider, rising-lower}
 
 is-marked : (b : Bool) → isMarked (cond b 1 0) ≡ b
@@ -28,14 +28,14 @@ marked-onto at before (i ∷ is) rest e =
     let longer : length (before ++ itemWords i) ≡ 7 * (at + 1) = omega (arith, length-append before (itemWords i)) in
     let others : marked (at + 1) (length is) ws ≡ present (at + 1) is =
     ap (marked (at + 1) (length is)) moved ∙ marked-onto (at + 1) (before ++ itemWords i) is rest longer in
-    ap₂ (λ (b : Bool) (ps : List ℕ). pick b (at ∷ ps) ps) (ap isMarked mark ∙ is-marked (i .present)) others
+    ap₂ (λ (b : Bool) (ps : List ℕ). cond b (at ∷ ps) ps) (ap isMarked mark ∙ is-marked (i .present)) others
 
 -- The marks in the entries' words are those of the entries.
 pub marked-present : (is : List BvhItem) (rest : List ℕ) → marked 0 (length is) (wordsOf is ++ rest) ≡ present 0 is
 marked-present is rest = marked-onto 0 [] is rest refl
 
 -- A place that is stored and counted if it is marked.
-pub kept-if : (b : Bool) (places rest : List ℕ) (k p : ℕ) → k < length places → take (k + oneIf b) (set places k p) ++ rest ≡ take k places ++ pick b (p ∷ rest) rest
+pub kept-if : (b : Bool) (places rest : List ℕ) (k p : ℕ) → k < length places → take (k + oneIf b) (set places k p) ++ rest ≡ take k places ++ cond b (p ∷ rest) rest
 kept-if true places rest k p h =
     rw add-one (ap (λ (ps : List ℕ). ps ++ rest) (take-suc-set places k p h) ∙ append-assoc (take k places) (p ∷ []) rest)
 kept-if false places rest k p h =
@@ -43,10 +43,10 @@ kept-if false places rest k p h =
     rw none (ap (λ (ps : List ℕ). ps ++ rest) (take-set-le k places k p (omega arith)))
 
 pub marked-next : (ws : List ℕ) (p n : ℕ) → p < n
-    → marked p (n - p) ws ≡ pick (isMarked (getD ws (7 * p) 0)) (p ∷ marked (p + 1) (n - (p + 1)) ws) (marked (p + 1) (n - (p + 1)) ws)
+    → marked p (n - p) ws ≡ cond (isMarked (getD ws (7 * p) 0)) (p ∷ marked (p + 1) (n - (p + 1)) ws) (marked (p + 1) (n - (p + 1)) ws)
 marked-next ws p n h = let less : n - p ≡ suc (n - (p + 1)) = omega arith in ap (λ (k : ℕ). marked p k ws) less
 
-below-pick : (b : Bool) (n x : ℕ) (xs : List ℕ) → x < n → Below n xs → Below n (pick b (x ∷ xs) xs)
+below-pick : (b : Bool) (n x : ℕ) (xs : List ℕ) → x < n → Below n xs → Below n (cond b (x ∷ xs) xs)
 below-pick true n x xs h hs = (h, hs)
 below-pick false n x xs h hs = hs
 
@@ -56,7 +56,7 @@ marked-below at (suc n) ws =
     below-pick (isMarked (getD ws (7 * at) 0)) (at + suc n) at (marked (at + 1) n ws) (omega arith)
     (below-wider (at + 1 + n) (at + suc n) (marked (at + 1) n ws) (omega arith) (marked-below (at + 1) n ws))
 
-rising-pick : (b : Bool) (at : ℕ) (xs : List ℕ) → Rising (at + 1) xs → Rising at (pick b (at ∷ xs) xs)
+rising-pick : (b : Bool) (at : ℕ) (xs : List ℕ) → Rising (at + 1) xs → Rising at (cond b (at ∷ xs) xs)
 rising-pick true at xs hs = (omega arith, hs)
 rising-pick false at xs hs = rising-lower at (at + 1) xs (omega arith) hs
 

@@ -6,13 +6,14 @@ use lib.Dec.{T}
 use lib.Signed.{leZ}
 use lib.ListN.{length}
 use lib.Ieee.{le, eq}
+use Rattle.base.specs.Lists.{Among}
 use Rattle.float32.proofs.OrderLaws.{le-trans}
-use Rattle.math.specs.Axes.{Axis, coordinate}
+use Rattle.math.specs.declared.axis.Axis.{Axis}
+use Rattle.math.specs.Axes.{coordinate}
 use Rattle.math.specs.declared.vec3.Vec3.{Vec3}
 use Rattle.split.specs.declared.boxes.BoxWords.{BoxWords}
 use Rattle.split.specs.Ends.{low, high, Proper, Bounded, Each}
 use Rattle.split.specs.Folding.{foldBox}
-use Rattle.split.specs.Lists.{Among}
 use Rattle.split.proofs.FoldLaws.{fold-below-each, fold-above-each, fold-proper, fold-bounded, fold-contains}
 use Rattle.records.specs.Axis.{extent, largest, smallest, nought, Measured}
 use Rattle.records.proofs.AxisLaws.{built, asked, Inside, built-below, built-above, built-mono}

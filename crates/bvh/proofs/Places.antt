@@ -1,15 +1,15 @@
 -- How often a place stands in a joined list.
 use Prim.Native.Nat.{ℕ, _+_}
 use native.Mathlib.Omega.{arith}
-use mathlib.Core.Bool.{Bool, true, false}
+use mathlib.Core.Bool.{Bool, true, false, cond}
 use mathlib.Core.List.{List, [], _∷_, _++_}
 use mathlib.Core.Path.{_≡_}
 use lib.Dec.{eqb}
 use lib.ListN.{length}
-use Rattle.split.specs.Lists.{occurrences, pick, sift}
+use Rattle.base.specs.Lists.{occurrences, sift}
 
 one-more : (t : Bool) (x : ℕ) (xs ys zs : List ℕ) → length zs ≡ length xs + length ys
-    → length (pick t (x ∷ zs) zs) ≡ length (pick t (x ∷ xs) xs) + length ys
+    → length (cond t (x ∷ zs) zs) ≡ length (cond t (x ∷ xs) xs) + length ys
 one-more true x xs ys zs e = omega arith
 one-more false x xs ys zs e = e
 

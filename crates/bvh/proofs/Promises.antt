@@ -10,15 +10,16 @@ use borrow.Author.Tests.{eq-eqb, ne-eqb, eqb-true}
 use lib.Dec.{eqb}
 use lib.ListN.{length, getD, drop}
 use lib.Seq.{drop-at, drop-drop, getD-drop}
-use Rattle.split.specs.Lists.{occurrences, sift, pick}
+use Rattle.base.specs.Lists.{occurrences, sift}
 use Rattle.split.specs.declared.boxes.BoxWords.{BoxWords}
 use Rattle.bvh.specs.Build.{Entries, treeOf}
-use Rattle.bvh.specs.Decode.{Rising}
+use Rattle.bvh.specs.steps.Decode.{Rising}
 use Rattle.bvh.specs.declared.items.BvhItem.{BvhItem}
 use Rattle.bvh.specs.Entry.{entriesIn, entriesOf}
 use Rattle.bvh.specs.Items.{wordsOf}
 use Rattle.bvh.specs.Numbers.{upFrom}
 use Rattle.bvh.specs.Promises.{itemsIn, itemsOf, WellFormed}
+use Rattle.bvh.specs.Ranges.{rangeLimit}
 use Rattle.bvh.specs.Rows.{Row, rows}
 use Rattle.bvh.specs.Tree.{Node, leaf, inner, builder, grow, leafOrder}
 use Rattle.bvh.proofs.Lawful.{lawful}
@@ -50,7 +51,7 @@ pub rising-at-most : (lo p : ℕ) (xs : List ℕ) → Rising lo xs → occurrenc
 rising-at-most lo p [] hs = omega arith
 rising-at-most lo p (x ∷ xs) hs = by (eqb x p) refl (rising-at-most (x + 1) p xs (hs .1))
   where
-    by : (q : Bool) → eqb x p ≡ q → occurrences p xs ≤ 1 → length (pick q (x ∷ sift (λ y. eqb y p) xs) (sift (λ y. eqb y p) xs)) ≤ 1
+    by : (q : Bool) → eqb x p ≡ q → occurrences p xs ≤ 1 → length (cond q (x ∷ sift (λ y. eqb y p) xs) (sift (λ y. eqb y p) xs)) ≤ 1
     by true e h = omega (arith, none-below (x + 1) p xs (hs .1) (let same : x ≡ p = eqb-true x p e in omega arith))
     by false e h = h
 
@@ -113,7 +114,7 @@ well-formed e th some rising =
       present-once = λ p m. same p ∙ rising-once 0 p (e .places) rising m;
       only-present = same;
       at-most = rows-at-most th 0 t most;
-      cut = ranges-cut t;
+      cut = ranges-cut rangeLimit (omega arith) t;
     }
 
 -- the entries of words

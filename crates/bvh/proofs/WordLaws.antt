@@ -6,9 +6,9 @@ use mathlib.Core.Path.{_≡_, sym, ap, _∙_}
 use mathlib.Core.List.{List, [], _∷_}
 use lib.ListN.{length, getD, drop}
 use lib.Seq.{getD-drop}
+use Rattle.base.specs.Lists.{Within}
 use Rattle.split.specs.Boxes.{pointAt, boxFrom}
-use Rattle.split.specs.Lists.{Within}
-use Rattle.bvh.specs.Decode.{Below, Rising}
+use Rattle.bvh.specs.steps.Decode.{Below, Rising}
 
 word-drop : (n : ℕ) (ws : List ℕ) (at k : ℕ) → getD (drop n ws) (at + k) 0 ≡ getD ws (n + at + k) 0
 word-drop n ws at k = getD-drop n ws (at + k) 0 ∙ ap (λ (m : ℕ). getD ws m 0) (sym (add-assoc n at k))

@@ -1,10 +1,10 @@
--- The list of entries that a build is lent. Definitions only.
-use Prim.Native.Nat.{ℕ, _+_}
-use mathlib.Core.Bool.{Bool, true, false, cond}
+-- The list of entries that a build is lent, as items and as words. Definitions only.
+use Prim.Native.Nat.{ℕ, zero, suc, _+_, _*_}
+use mathlib.Core.Bool.{Bool, true, false, cond, not}
 use mathlib.Core.List.{List, [], _∷_, _++_}
+use lib.Dec.{eqb}
 use lib.ListN.{getD}
 use Rattle.split.specs.Boxes.{boxWords}
-use Rattle.split.specs.Lists.{pick}
 use Rattle.split.specs.declared.boxes.BoxWords.{BoxWords}
 use Rattle.bvh.specs.declared.items.BvhItem.{BvhItem}
 
@@ -24,7 +24,7 @@ boxIn items p = itemBox (getD items p absent)
 -- Rule T9 (bvh.rs, build_bvh): the places of the present entries, rising; the first entry's place is at.
 abbrev pub present : ℕ → List BvhItem → List ℕ
 present at [] = []
-present at (i ∷ is) = pick (i .present) (at ∷ present (at + 1) is) (present (at + 1) is)
+present at (i ∷ is) = cond (i .present) (at ∷ present (at + 1) is) (present (at + 1) is)
 
 -- an entry as seven words: 1 or 0, then the box
 abbrev pub itemWords : BvhItem → List ℕ
@@ -33,3 +33,12 @@ itemWords i = cond (i .present) 1 0 ∷ boxWords (itemBox i)
 abbrev pub wordsOf : List BvhItem → List ℕ
 wordsOf [] = []
 wordsOf (i ∷ is) = itemWords i ++ wordsOf is
+
+-- an entry's first word: 0 where it is absent
+abbrev pub isMarked : ℕ → Bool
+isMarked w = not (eqb w 0)
+
+-- Rule T9, of entries in words: the places of the present ones among the n from `at` on, rising. Entry p begins at word 7 · p.
+abbrev pub marked : ℕ → ℕ → List ℕ → List ℕ
+marked at zero ws = []
+marked at (suc n) ws = cond (isMarked (getD ws (7 * at) 0)) (at ∷ marked (at + 1) n ws) (marked (at + 1) n ws)

@@ -6,7 +6,6 @@ use lib.Dec.{eqb}
 use lib.IntN.{ℤ, pos}
 use lib.ListN.{length, getD, drop}
 use Rattle.split.specs.declared.boxes.BoxWords.{BoxWords}
-use Rattle.split.specs.Lists.{pick}
 use Rattle.records.specs.declared.BvhNode.{BvhNode}
 use Rattle.records.specs.declared.BvhTree.{BvhTree}
 use Rattle.records.specs.declared.scale.Scale.{Scale}
@@ -71,4 +70,4 @@ treesBytes s (r ∷ rs) = treeBytes (treeRecord s r) ++ treesBytes s rs
 
 -- Rule R13 (01, Records and ranges; bvh.rs, item_order): the present places rising at threshold 1, else the leaf order.
 abbrev pub orderOf : ℕ → List ℕ → List ℕ → List ℕ
-orderOf th places leaves = pick (eqb th 1) places leaves
+orderOf th places leaves = cond (eqb th 1) places leaves

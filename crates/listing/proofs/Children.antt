@@ -73,7 +73,9 @@ module _ (bytes : List ℕ) where
           ap (λ (i : ℕ). getD (childWords bytes n ++ (1 ∷ boxWords (childBox bytes (32 * n)))) i 0) far
           ∙ getD-append-add (childWords bytes n) (1 ∷ boxWords (childBox bytes (32 * n))) j 0
           ∙ ap (λ (i : ℕ). getD (1 ∷ boxWords (childBox bytes (32 * i))) j 0) (sym same)
-      go (no l) earlier = List·getD-append (childWords bytes n) (1 ∷ boxWords (childBox bytes (32 * n))) 0 (7 * p + j) (omega (arith, length-children bytes n)) ∙ earlier (omega arith)
+      go (no l) earlier =
+          List·getD-append (childWords bytes n) (1 ∷ boxWords (childBox bytes (32 * n))) 0 (7 * p + j) (omega (arith, length-children bytes n))
+          ∙ earlier (omega arith)
 
   word-at : (n p j k : ℕ) → p < n → j < 7 → k ≡ 7 * p + j → getD (childWords bytes n) k 0 ≡ getD (1 ∷ boxWords (childBox bytes (32 * p))) j 0
   word-at n p j k h l e = ap (λ (i : ℕ). getD (childWords bytes n) i 0) e ∙ word-in n p j h l
@@ -92,7 +94,12 @@ module _ (bytes : List ℕ) where
   -- past the records both are zeros
   word-past : (k : ℕ) → length bytes ≤ k → wordAt bytes k ≡ 0
   word-past k h =
-      rw (List·getD-eq-default bytes 0 {n = k} h, List·getD-eq-default bytes 0 {n = k + 1} (omega arith), List·getD-eq-default bytes 0 {n = k + 2} (omega arith), List·getD-eq-default bytes 0 {n = k + 3} (omega arith))
+      rw (
+        List·getD-eq-default bytes 0 {n = k} h,
+        List·getD-eq-default bytes 0 {n = k + 1} (omega arith),
+        List·getD-eq-default bytes 0 {n = k + 2} (omega arith),
+        List·getD-eq-default bytes 0 {n = k + 3} (omega arith),
+      )
 
   both-past : (n k j : ℕ) → 7 * n ≤ k → length bytes ≤ j → getD (childWords bytes n) k 0 ≡ wordAt bytes j
   both-past n k j h l = List·getD-eq-default (childWords bytes n) 0 {n = k} (omega (arith, length-children bytes n)) ∙ sym (word-past j l)

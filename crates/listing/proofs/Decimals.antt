@@ -42,7 +42,8 @@ fewest-digits (suc most) (suc (suc j)) n m l u f =
     let least : 1 ≤ 10 ^ j = pow-le-pow-right {n = 10} (omega arith) {i = 0} {j = j} (omega arith) in
     let big : 10 ^ j ≤ n / 10 = omega (arith, rw pow-suc at some) in
     let below : n / 10 < 10 ^ suc j = omega (arith, rw (pow-suc 10 (suc j)) at u) in
-    let rest : digits 10 (suc j) (n / 10) ≡ decimalOf most (n / 10) = fewest-digits most (suc j) (n / 10) (omega arith) (omega arith) below (λ h. subst (λ (i : ℕ). 10 ^ i ≤ n / 10) before big) in
+    let rest : digits 10 (suc j) (n / 10) ≡ decimalOf most (n / 10) =
+    fewest-digits most (suc j) (n / 10) (omega arith) (omega arith) below (λ h. subst (λ (i : ℕ). 10 ^ i ≤ n / 10) before big) in
     ap (λ (l : List ℕ). l ++ (glyph (n % 10) ∷ [])) rest ∙ sym (last-digit most n (omega arith))
 
 pub digits-are : (k n : ℕ) → k ≤ 20 → Fewest 10 1 n k → digits 10 k n ≡ decimal n

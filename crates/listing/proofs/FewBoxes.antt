@@ -112,7 +112,9 @@ module _ (e : Entries) (f : FewEntries e) where
       (omega (arith, leaf-order-length b law 1 (omega arith) (e .places), f .few, f .most)) (omega (arith, entries-size))
 
   records-listed : (nodes trees : List ℕ)
-      → recordsText (over (nodesWritten e 1) nodes) (size (treeOf e 1)) (capacityOf 1 (e .number) (size (treeOf e 1))) (over (treesWritten e 1) trees) (length (ranges 0 (treeOf e 1))) ≡ listingOf e
+      → recordsText (over (nodesWritten e 1) nodes) (size (treeOf e 1)) (capacityOf 1 (e .number) (size (treeOf e 1)))
+      (over (treesWritten e 1) trees) (length (ranges 0 (treeOf e 1)))
+      ≡ listingOf e
   unfolding listingOf recordsText
   records-listed nodes trees =
       let counts = countsLine (size (treeOf e 1)) (capacityOf 1 (e .number) (size (treeOf e 1))) in
@@ -163,6 +165,7 @@ module _ (e : Entries) {r : Build} {nodes trees nodes′ trees′ : List ℕ} (m
 
     pub made-listed : recordsText nodes′ (b .nodes) (b .capacity) trees′ (b .trees) ≡ listingOf e
     made-listed =
+        let t = builtOf e 1 (treeOf e 1) in
         ap (λ (t : BuiltTree). recordsText nodes′ (t .nodes) (t .capacity) trees′ (t .trees)) tree-is
-        ∙ ap₂ (λ (ns ts : List ℕ). recordsText ns (size (treeOf e 1)) (capacityOf 1 (e .number) (size (treeOf e 1))) ts (length (ranges 0 (treeOf e 1)))) (m .nodes-are) (m .trees-are)
+        ∙ ap₂ (λ (ns ts : List ℕ). recordsText ns (t .nodes) (t .capacity) ts (t .trees)) (m .nodes-are) (m .trees-are)
         ∙ records-listed e (m .few) nodes trees

@@ -18,10 +18,12 @@ use Rattle.listing.proofs.Putting.{put-as, put-then, put-none, put-leng
 same-short : (v : ℤ) → mag v < 2 ^ 15 → toZ w16 (ofZ w16 v) ≡ v
 same-short v h = toZ-ofZ (record { sfits = h })
 
-pub field-put : {m : ℕ} {before after : List ℕ} {at r : ℕ} (v : ℤ) → mag v < 2 ^ 15 → Put m (field (toZ w16 (ofZ w16 v))) before at after r → Put m (field v) before at after r
+pub field-put : {m : ℕ} {before after : List ℕ} {at r : ℕ} (v : ℤ) → mag v < 2 ^ 15
+    → Put m (field (toZ w16 (ofZ w16 v))) before at after r → Put m (field v) before at after r
 field-put v h p = put-as (ap field (same-short v h)) (omega arith) p
 
-pub record-put : {m : ℕ} {before after : List ℕ} {at r : ℕ} (word : List ℕ) (number : ℕ) (min max : BoundVertex) (one two : ℤ) → mag one < 2 ^ 15 → mag two < 2 ^ 15
+pub record-put : {m : ℕ} {before after : List ℕ} {at r : ℕ} (word : List ℕ) (number : ℕ) (min max : BoundVertex) (one two : ℤ)
+    → mag one < 2 ^ 15 → mag two < 2 ^ 15
     → Put m (recordLine word number min max (toZ w16 (ofZ w16 one)) (toZ w16 (ofZ w16 two))) before at after r
     → Put m (recordLine word number min max one two) before at after r
 record-put word number min max one two h k p = put-as (ap₂ (recordLine word number min max) (same-short one h) (same-short two k)) (omega arith) p
@@ -35,7 +37,8 @@ pub record Lined (line : ℕ → List ℕ) (before after : List ℕ) (at end i c
 pub no-line : (line : ℕ → List ℕ) (before : List ℕ) (at count : ℕ) → Lined line before before at at 0 count
 no-line line before at count = record { upto = omega arith; same = refl; put = put-none before at }
 
-pub line-next : (line : ℕ → List ℕ) {before mid after : List ℕ} {at end r i count : ℕ} → Lined line before mid at end i count → i < count → Put 67 (line i) mid end after r → Lined line before after at r (i + 1) count
+pub line-next : (line : ℕ → List ℕ) {before mid after : List ℕ} {at end r i count : ℕ} → Lined line before mid at end i count → i < count
+    → Put 67 (line i) mid end after r → Lined line before after at r (i + 1) count
 line-next line {before} {mid} {after} {at} {end} {r} {i} {count} l h p =
     record {
       upto = omega arith;
@@ -44,10 +47,12 @@ line-next line {before} {mid} {after} {at} {end} {r} {i} {count} l h p =
     }
 
 -- There is room for another line.
-pub line-room : (line : ℕ → List ℕ) {before mid : List ℕ} {at end i count : ℕ} → Lined line before mid at end i count → i < count → at + 67 * count ≤ length before → end + 67 ≤ length mid
+pub line-room : (line : ℕ → List ℕ) {before mid : List ℕ} {at end i count : ℕ} → Lined line before mid at end i count → i < count
+    → at + 67 * count ≤ length before → end + 67 ≤ length mid
 line-room line l h room = omega (arith, l .same, l .put .ends, l .put .few)
 
-pub all-lines : (line : ℕ → List ℕ) {before after : List ℕ} {at end i count : ℕ} → Lined line before after at end i count → count ≤ i → Put (67 * count) (lines line count) before at after end
+pub all-lines : (line : ℕ → List ℕ) {before after : List ℕ} {at end i count : ℕ} → Lined line before after at end i count → count ≤ i
+    → Put (67 * count) (lines line count) before at after end
 all-lines line {before} {after} {at} {end} {i} {count} l h =
     let e : i ≡ count = omega (arith, l .upto) in
     put-as (ap (lines line) e) (omega arith) (l .put)

@@ -22,13 +22,16 @@ abbrev pub Reads : {A : Type 0} → (List ℕ → ℕ → A) → List ℕ → �
 Reads readAt bytes k [] = Unit {0}
 Reads readAt bytes k (x ∷ xs) = (readAt bytes (16 * k) ≡ x) × Reads readAt bytes (k + 1) xs
 
-module _ {A : Type 0} (bytesOf : A → List ℕ) (readAt : List ℕ → ℕ → A) (Fits : A → Type 0) (sixteen : (x : A) → length (bytesOf x) ≡ 16) (back : (p rest : List ℕ) (at : ℕ) (x : A) → length p ≡ at → Fits x → readAt (p ++ (bytesOf x ++ rest)) at ≡ x) where
+module _ {A : Type 0} (bytesOf : A → List ℕ) (readAt : List ℕ → ℕ → A) (Fits : A → Type 0) (sixteen : (x : A) → length (bytesOf x) ≡ 16)
+    (back : (p rest : List ℕ) (at : ℕ) (x : A) → length p ≡ at → Fits x → readAt (p ++ (bytesOf x ++ rest)) at ≡ x) where
   pub reads-back : (p rest : List ℕ) (k : ℕ) (xs : List A) → length p ≡ 16 * k → Each Fits xs → Reads readAt (p ++ (joined bytesOf xs ++ rest)) k xs
   reads-back p rest k [] e f = tt
   reads-back p rest k (x ∷ xs) e f =
       let more : length (p ++ bytesOf x) ≡ 16 * (k + 1) = length-append p (bytesOf x) ∙ omega (arith, sixteen x) in
-      let first : p ++ (bytesOf x ++ (joined bytesOf xs ++ rest)) ≡ p ++ (bytesOf x ++ joined bytesOf xs ++ rest) = ap (λ (l : List ℕ). p ++ l) (sym (append-assoc (bytesOf x) (joined bytesOf xs) rest)) in
-      let whole : p ++ bytesOf x ++ (joined bytesOf xs ++ rest) ≡ p ++ (bytesOf x ++ joined bytesOf xs ++ rest) = append-assoc p (bytesOf x) (joined bytesOf xs ++ rest) ∙ first in (
+      let first : p ++ (bytesOf x ++ (joined bytesOf xs ++ rest)) ≡ p ++ (bytesOf x ++ joined bytesOf xs ++ rest) =
+      ap (λ (l : List ℕ). p ++ l) (sym (append-assoc (bytesOf x) (joined bytesOf xs) rest)) in
+      let whole : p ++ bytesOf x ++ (joined bytesOf xs ++ rest) ≡ p ++ (bytesOf x ++ joined bytesOf xs ++ rest) =
+      append-assoc p (bytesOf x) (joined bytesOf xs ++ rest) ∙ first in (
         subst (λ (l : List ℕ). readAt l (16 * k) ≡ x) first (back p (joined bytesOf xs ++ rest) (16 * k) x e (f .0)),
         subst (λ (l : List ℕ). Reads readAt l (k + 1) xs) whole (reads-back (p ++ bytesOf x) rest (k + 1) xs more (f .1)),
       )
@@ -38,7 +41,8 @@ module _ {A : Type 0} (readAt : List ℕ → ℕ → A) (line : ℕ → A → Li
   abbrev read : ℕ → List ℕ
   read i = line i (readAt bytes (16 * i))
 
-  pub lines-numbered : (k : ℕ) (xs : List A) → Reads readAt bytes k xs → lines (λ i. line i (readAt bytes (16 * i))) (k + length xs) ≡ lines (λ i. line i (readAt bytes (16 * i))) k ++ numbered line k xs
+  pub lines-numbered : (k : ℕ) (xs : List A) → Reads readAt bytes k xs
+      → lines (λ i. line i (readAt bytes (16 * i))) (k + length xs) ≡ lines (λ i. line i (readAt bytes (16 * i))) k ++ numbered line k xs
   lines-numbered k [] r = ap (lines read) (add-zero k) ∙ sym (append-nil (lines read k))
   lines-numbered k (x ∷ xs) r =
       let far : k + length (x ∷ xs) ≡ k + 1 + length xs = omega arith in

@@ -9,7 +9,8 @@ use lib.Seq.{sets, length-sets, length-take-le, take-suc, take-all}
 use Rattle.base.proofs.StoreLaws.{store-next}
 use Rattle.listing.specs.Text.{Put}
 
-pub put-then : {m n : ℕ} {a b before mid after : List ℕ} {at end r : ℕ} → Put m a before at mid end → Put n b mid end after r → Put (m + n) (a ++ b) before at after r
+pub put-then : {m n : ℕ} {a b before mid after : List ℕ} {at end r : ℕ} → Put m a before at mid end → Put n b mid end after r
+    → Put (m + n) (a ++ b) before at after r
 put-then {m} {n} {a} {b} {before} {mid} {after} {at} {end} {r} p q =
     record {
       stored = store-next before a b at (length a) refl (p .stored) (q .stored ∙ ap (λ (k : ℕ). sets mid k b) (p .ends));
@@ -39,7 +40,8 @@ pub record Copied (before after text : List ℕ) (at i : ℕ) : Type 0 where
   pub same : length after ≡ length before
   pub stored : after ≡ sets before at (take i text)
 
-pub copy-next : (before after text : List ℕ) (at i : ℕ) → Copied before after text at i → i < length text → Copied before (set after (at + i) (getD text i 0)) text at (i + 1)
+pub copy-next : (before after text : List ℕ) (at i : ℕ) → Copied before after text at i → i < length text
+    → Copied before (set after (at + i) (getD text i 0)) text at (i + 1)
 copy-next before after text at i c h =
     record {
       upto = omega arith;
@@ -49,6 +51,7 @@ copy-next before after text at i c h =
           ∙ ap (sets before at) (sym (ap (λ (k : ℕ). take k text) (add-one i) ∙ take-suc text i 0 h));
     }
 
-pub copied-all : (before after text : List ℕ) (at i : ℕ) → Copied before after text at i → length text ≤ i → Put (length text) text before at after (at + length text)
+pub copied-all : (before after text : List ℕ) (at i : ℕ) → Copied before after text at i → length text ≤ i
+    → Put (length text) text before at after (at + length text)
 copied-all before after text at i c h =
     record { stored = c .stored ∙ ap (sets before at) (take-all i text h); ends = refl; few = omega arith }

@@ -51,9 +51,11 @@ node-lines e before small =
     let pad = padBytes (capacityOf 1 (e .number) (size t) - size t) in
     let rest = pad ++ drop (length (nodesWritten e 1)) before in
     let bytes : joined nodeBytes ns ++ rest ≡ over (nodesWritten e 1) before =
-    ap (λ (l : List ℕ). l ++ rest) (joined-nodes (scaleIn t) (leafOrder t) (rows 0 t)) ∙ sym (append-assoc (nodesBytes (scaleIn t) 1 (leafOrder t) (rows 0 t)) pad (drop (length (nodesWritten e 1)) before)) in
+    ap (λ (l : List ℕ). l ++ rest) (joined-nodes (scaleIn t) (leafOrder t) (rows 0 t))
+    ∙ sym (append-assoc (nodesBytes (scaleIn t) 1 (leafOrder t) (rows 0 t)) pad (drop (length (nodesWritten e 1)) before)) in
     let count : 0 + length ns ≡ size t = zero-add (length ns) ∙ length-map (rows 0 t) (nodeOf (scaleIn t) 1 (leafOrder t)) ∙ length-rows 0 t in
-    let read = reads-back nodeBytes nodeAt NodeFits (λ n. node-bytes n .size) node-back [] rest 0 ns refl (nodes-fit (scaleIn t) (leafOrder t) (rows 0 t) small) in
+    let fit = nodes-fit (scaleIn t) (leafOrder t) (rows 0 t) small in
+    let read = reads-back nodeBytes nodeAt NodeFits (λ n. node-bytes n .size) node-back [] rest 0 ns refl fit in
     subst (λ (l : List ℕ). nodeLines l (size t) ≡ numbered nodeLine 0 ns) bytes
     (ap (nodeLines (joined nodeBytes ns ++ rest)) (sym count) ∙ lines-numbered nodeAt nodeLine (joined nodeBytes ns ++ rest) 0 ns read)
 
@@ -90,6 +92,7 @@ tree-lines e before few =
     let rest = drop (length (treesWritten e 1)) before in
     let bytes : joined treeBytes ts ++ rest ≡ over (treesWritten e 1) before = ap (λ (l : List ℕ). l ++ rest) (joined-trees (scaleIn t) (ranges 0 t)) in
     let count : 0 + length ts ≡ length (ranges 0 t) = zero-add (length ts) ∙ length-map (ranges 0 t) (treeRecord (scaleIn t)) in
-    let read = reads-back treeBytes treeAt TreeFits (λ r. tree-bytes r .size) tree-back [] rest 0 ts refl (trees-fit (scaleIn t) 0 (0 + size t) (ranges 0 t) (omega arith) (ranges-rise 0 t)) in
+    let fit = trees-fit (scaleIn t) 0 (0 + size t) (ranges 0 t) (omega arith) (ranges-rise 0 t) in
+    let read = reads-back treeBytes treeAt TreeFits (λ r. tree-bytes r .size) tree-back [] rest 0 ts refl fit in
     subst (λ (l : List ℕ). treeLines l (length (ranges 0 t)) ≡ numbered treeLine 0 ts) bytes
     (ap (treeLines (joined treeBytes ts ++ rest)) (sym count) ∙ lines-numbered treeAt treeLine (joined treeBytes ts ++ rest) 0 ts read)

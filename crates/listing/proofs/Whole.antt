@@ -22,7 +22,8 @@ pub served : (input : List ℕ) → length input ≤ 8192 → length input % 32 
 unfolding boxesText
 served input h k = rw (le-ltb 8192 (length input) h, eq-eqb (length input % 32) 0 k)
 
-pub whole-text : {input text before after : List ℕ} {m r : ℕ} → text ≡ boxesText input → m ≤ length before → Put m text before 0 after r → Listed input before after r
+pub whole-text : {input text before after : List ℕ} {m r : ℕ} → text ≡ boxesText input → m ≤ length before
+    → Put m text before 0 after r → Listed input before after r
 whole-text {input} {text} {before} {after} {m} {r} e room p =
     let ends : r ≡ length text = omega (arith, p .ends) in
     let room : 0 + length text ≤ length before = omega (arith, p .few) in

@@ -1,6 +1,6 @@
 -- What `boxes` prints for its input. Definitions only.
 use Prim.Native.Nat.{ℕ, _+_, _*_, _/_, _%_}
-use mathlib.Core.Bool.{not}
+use mathlib.Core.Bool.{cond, not}
 use mathlib.Core.List.{List, [], _∷_, _++_, map}
 use mathlib.Core.Path.{_≡_}
 use lib.Dec.{ltb, eqb}
@@ -8,7 +8,6 @@ use lib.ListN.{length, drop}
 use Rattle.io.specs.Counts.{Counts}
 use Rattle.records.specs.declared.BvhNode.{BvhNode}
 use Rattle.records.specs.declared.BvhTree.{BvhTree}
-use Rattle.split.specs.Lists.{pick}
 use Rattle.bvh.specs.Build.{Entries, treeOf, scaleIn}
 use Rattle.bvh.specs.Numbers.{upFrom}
 use Rattle.bvh.specs.Output.{nodeOf, treeRecord, capacityOf}
@@ -45,8 +44,8 @@ listingOf e =
 -- Rule L11 (01, Program `boxes`. 1: over 8,192 bytes; 13: length not a multiple of 32), the checks in this order.
 unfoldable pub boxesText : List ℕ → List ℕ
 boxesText input =
-    pick (ltb 8192 (length input)) (refusedLine 1)
-    (pick (not (eqb (length input % 32) 0)) (refusedLine 13)
+    cond (ltb 8192 (length input)) (refusedLine 1)
+    (cond (not (eqb (length input % 32) 0)) (refusedLine 13)
     (listingOf (childrenOf input)))
 
 -- The text stands at the start of the buffer, which is else unchanged, and r says how many bytes it has.

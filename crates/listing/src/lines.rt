@@ -77,28 +77,28 @@ fn put_tree_line(out: &mut [u8], at: usize, number: usize, t: BvhTree) -> usize
 }
 
 // The lines of the first `count` node records.
-pub fn put_node_lines(out: &mut [u8], at: usize, nodes: &[u8], count: usize) -> usize
-    requires { ⌜ (at + 67 * count ≤ length (now out)) × (16 * count ≤ length (now nodes)) × (count ≤ 100000) ⌝ }
-    ensures { λ r. ⌜ Put (67 * count) (nodeLines (now (nodes .entry)) count) (now (out .entry)) at (now (out .exit)) r ⌝ }
+pub fn put_node_lines(out: &mut [u8], at: usize, node_bytes: &[u8], count: usize) -> usize
+    requires { ⌜ (at + 67 * count ≤ length (now out)) × (16 * count ≤ length (now «node_bytes»)) × (count ≤ 100000) ⌝ }
+    ensures { λ r. ⌜ Put (67 * count) (nodeLines (now («node_bytes» .entry)) count) (now (out .entry)) at (now (out .exit)) r ⌝ }
 {
     let mut end = at;
     let mut i = 0;
     while i < count {
-        end = put_node_line(out, end, i, records::node_at(nodes, 16 * i));
+        end = put_node_line(out, end, i, records::node_at(node_bytes, 16 * i));
         i += 1;
     }
     end
 }
 
 // The lines of the first `count` tree records.
-pub fn put_tree_lines(out: &mut [u8], at: usize, trees: &[u8], count: usize) -> usize
-    requires { ⌜ (at + 67 * count ≤ length (now out)) × (16 * count ≤ length (now trees)) × (count ≤ 100000) ⌝ }
-    ensures { λ r. ⌜ Put (67 * count) (treeLines (now (trees .entry)) count) (now (out .entry)) at (now (out .exit)) r ⌝ }
+pub fn put_tree_lines(out: &mut [u8], at: usize, tree_bytes: &[u8], count: usize) -> usize
+    requires { ⌜ (at + 67 * count ≤ length (now out)) × (16 * count ≤ length (now «tree_bytes»)) × (count ≤ 100000) ⌝ }
+    ensures { λ r. ⌜ Put (67 * count) (treeLines (now («tree_bytes» .entry)) count) (now (out .entry)) at (now (out .exit)) r ⌝ }
 {
     let mut end = at;
     let mut i = 0;
     while i < count {
-        end = put_tree_line(out, end, i, records::tree_at(trees, 16 * i));
+        end = put_tree_line(out, end, i, records::tree_at(tree_bytes, 16 * i));
         i += 1;
     }
     end

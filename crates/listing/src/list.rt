@@ -15,18 +15,19 @@ ghost use Rattle.listing.specs.Text.{Put};
 // The lines of some node and tree records, after that of count and capacity.
 fn put_records(
     out: &mut [u8],
-    nodes: &[u8],
+    node_bytes: &[u8],
     count: usize,
     capacity: usize,
-    trees: &[u8],
+    tree_bytes: &[u8],
     parts: usize,
 ) -> usize
-    requires { ⌜ (68760 ≤ length (now out)) × (16 * count ≤ length (now nodes)) × (16 * parts ≤ length (now trees)) × (count ≤ 513) × (capacity ≤ 513) × (parts ≤ 513) ⌝ }
-    ensures { λ r. ⌜ Put 68760 (recordsText (now (nodes .entry)) count capacity (now (trees .entry)) parts) (now (out .entry)) 0 (now (out .exit)) r ⌝ }
+    requires { ⌜ (68760 ≤ length (now out)) × (16 * count ≤ length (now «node_bytes»)) × (16 * parts ≤ length (now «tree_bytes»))
+        × (count ≤ 513) × (capacity ≤ 513) × (parts ≤ 513) ⌝ }
+    ensures { λ r. ⌜ Put 68760 (recordsText (now («node_bytes» .entry)) count capacity (now («tree_bytes» .entry)) parts) (now (out .entry)) 0 (now (out .exit)) r ⌝ }
 {
     let first_node = put_counts(out, 0, count, capacity);
-    let first_tree = put_node_lines(out, first_node, nodes, count);
-    put_tree_lines(out, first_tree, trees, parts)
+    let first_tree = put_node_lines(out, first_node, node_bytes, count);
+    put_tree_lines(out, first_tree, tree_bytes, parts)
 }
 
 // The listing of an input of at most 256 whole records.
@@ -35,10 +36,10 @@ fn put_children(out: &mut [u8], input: &[u8]) -> usize
     ensures { λ r. ⌜ Put 68760 (listingOf (childrenOf (now (input .entry)))) (now (out .entry)) 0 (now (out .exit)) r ⌝ }
 {
     let n = input.len() / 32;
-    let mut words = [0u32; 1792];
-    read_children(&mut words, input, n);
-    let mut nodes = [0u8; 8208];
-    let mut trees = [0u8; 8208];
+    let mut entries = [0u32; 1792];
+    read_children(&mut entries, input, n);
+    let mut node_bytes = [0u8; 8208];
+    let mut tree_bytes = [0u8; 8208];
     let mut order = [0u16; 256];
     let mut places = [0u32; 256];
     let mut temp = [0u32; 256];
@@ -49,10 +50,10 @@ fn put_children(out: &mut [u8], input: &[u8]) -> usize
     let built = bvh::core::build_core(
         n,
         1,
-        &mut nodes,
-        &mut trees,
+        &mut node_bytes,
+        &mut tree_bytes,
         &mut order,
-        &mut words,
+        &mut entries,
         &mut places,
         &mut temp,
         &mut stack,
@@ -64,7 +65,14 @@ fn put_children(out: &mut [u8], input: &[u8]) -> usize
     let Build::Built(tree) = built else {
         return 0;
     };
-    put_records(out, &nodes, tree.nodes, tree.capacity, &trees, tree.trees)
+    put_records(
+        out,
+        &node_bytes,
+        tree.nodes,
+        tree.capacity,
+        &tree_bytes,
+        tree.trees,
+    )
 }
 
 // What `boxes` prints for an input: at the start of `out`, which is else unchanged, and how many bytes it has.

@@ -49,23 +49,24 @@ fn child_box(bytes: &[u8], at: usize) -> BoxWords
 }
 
 // Record i as entry i, which is present.
-fn put_child(words: &mut [u32], bytes: &[u8], i: usize)
-    requires { ⌜ (7 * i + 7 ≤ length (now words)) × (32 * i + 32 ≤ length (now bytes)) ⌝ }
-    ensures { λ _. ⌜ now (words .exit) ≡ take (7 * i) (now (words .entry)) ++ (1 ∷ boxWords (childBox (now (bytes .entry)) (32 * i)) ++ drop (7 * i + 7) (now (words .entry))) ⌝ }
+fn put_child(entries: &mut [u32], bytes: &[u8], i: usize)
+    requires { ⌜ (7 * i + 7 ≤ length (now entries)) × (32 * i + 32 ≤ length (now bytes)) ⌝ }
+    ensures { λ _. ⌜ now (entries .exit) ≡ take (7 * i) (now (entries .entry))
+        ++ (1 ∷ boxWords (childBox (now (bytes .entry)) (32 * i)) ++ drop (7 * i + 7) (now (entries .entry))) ⌝ }
 {
     let at = 7 * i;
-    words[at] = 1;
-    split::boxes::put_box(words, at + 1, child_box(bytes, 32 * i));
+    entries[at] = 1;
+    split::boxes::put_box(entries, at + 1, child_box(bytes, 32 * i));
 }
 
 // The first n records as entries.
-pub fn read_children(words: &mut [u32], bytes: &[u8], n: usize)
-    requires { ⌜ (7 * n ≤ length (now words)) × (32 * n ≤ length (now bytes)) ⌝ }
-    ensures { λ _. ⌜ now (words .exit) ≡ over (childWords (now (bytes .entry)) n) (now (words .entry)) ⌝ }
+pub fn read_children(entries: &mut [u32], bytes: &[u8], n: usize)
+    requires { ⌜ (7 * n ≤ length (now entries)) × (32 * n ≤ length (now bytes)) ⌝ }
+    ensures { λ _. ⌜ now (entries .exit) ≡ over (childWords (now (bytes .entry)) n) (now (entries .entry)) ⌝ }
 {
     let mut i = 0;
     while i < n {
-        put_child(words, bytes, i);
+        put_child(entries, bytes, i);
         i += 1;
     }
 }

@@ -3,17 +3,16 @@ use Prim.Native.Nat.{ℕ}
 use lib.Ieee.{Float}
 use Rattle.math.specs.declared.vec3.Vec3.{Vec3}
 use Rattle.math.specs.declared.words3.Words3.{Words3}
-
-pub data Axis : Type 0 where
-  alongX alongY alongZ : Axis
+use Rattle.math.specs.declared.axis.Axis.{Axis}
+use Rattle.math.specs.declared.axis.Axis.the-variants.{X, Y, Z}
 
 -- the coordinate of a point, and the word of a stored one
 abbrev pub coordinate : Axis → Vec3 → Float
-coordinate alongX v = v .x
-coordinate alongY v = v .y
-coordinate alongZ v = v .z
+coordinate X v = v .x
+coordinate Y v = v .y
+coordinate Z v = v .z
 
 abbrev pub wordOn : Axis → Words3 → ℕ
-wordOn alongX w = w .x
-wordOn alongY w = w .y
-wordOn alongZ w = w .z
+wordOn X w = w .x
+wordOn Y w = w .y
+wordOn Z w = w .z

@@ -1,4 +1,12 @@
-// Builds and walks lists, and holds each answer against comparing every box.
+// Lists and queries by a fixed formula: each list is built and walked, and each answer is held against comparing every box.
+mod ask;
+mod draw;
+mod judge;
+mod lists;
+mod queries;
+mod run;
+mod tally;
+
 fn main() {
-    pairing::run::run(libc::STDOUT_FILENO);
+    run::run(libc::STDOUT_FILENO);
 }

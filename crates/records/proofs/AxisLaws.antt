@@ -26,7 +26,9 @@ use Rattle.float32.proofs.OrderLaws.{le-trans, finite-no-nan, finite-between, e
 use Rattle.float32.proofs.Rounding.{round-zero}
 use Rattle.float32.proofs.ScaledCasts.{truncatedOf-scaled, truncatedOf-infinite, node-is-truncated-infinite}
 use Rattle.float32.proofs.SignLaws.{abs-no-nan, abs-bounds, abs-le}
-use Rattle.math.specs.Axes.{Axis, alongX, alongY, alongZ, coordinate, wordOn}
+use Rattle.math.specs.declared.axis.Axis.{Axis}
+use Rattle.math.specs.declared.axis.Axis.the-variants.{X, Y, Z}
+use Rattle.math.specs.Axes.{coordinate, wordOn}
 use Rattle.math.specs.Transform.{half}
 use Rattle.math.specs.Vec3s.{_⊕_, _⊖_, _⊗_, _⊘_, one}
 use Rattle.math.specs.declared.vec3.Vec3.{Vec3}
@@ -191,33 +193,33 @@ value a w = ofBits binary32 (wordOn a w)
 
 pub scale-centre : (a : Axis) (min max : Words3) → coordinate a (scaleOfBox min max .cen) ≡ centre (value a min) (value a max)
 unfolding scaleOfBox
-scale-centre alongX min max = refl
-scale-centre alongY min max = refl
-scale-centre alongZ min max = refl
+scale-centre X min max = refl
+scale-centre Y min max = refl
+scale-centre Z min max = refl
 
 pub scale-quantum : (a : Axis) (min max : Words3) → coordinate a (scaleOfBox min max .quantum) ≡ quantum (value a min) (value a max)
 unfolding scaleOfBox
-scale-quantum alongX min max = refl
-scale-quantum alongY min max = refl
-scale-quantum alongZ min max = refl
+scale-quantum X min max = refl
+scale-quantum Y min max = refl
+scale-quantum Z min max = refl
 
 pub scale-inverse : (a : Axis) (min max : Words3) → coordinate a (scaleOfBox min max .inverse) ≡ inverse (value a min) (value a max)
 unfolding scaleOfBox
-scale-inverse alongX min max = refl
-scale-inverse alongY min max = refl
-scale-inverse alongZ min max = refl
+scale-inverse X min max = refl
+scale-inverse Y min max = refl
+scale-inverse Z min max = refl
 
 pub quantised-on : (a : Axis) (v : Words3) (cen inv : Vec3) → unitOn a (quantiseOf v cen inv) ≡ nodeValue (coordinate a cen) (coordinate a inv) (value a v)
 unfolding quantiseOf
-quantised-on alongX v cen inv = refl
-quantised-on alongY v cen inv = refl
-quantised-on alongZ v cen inv = refl
+quantised-on X v cen inv = refl
+quantised-on Y v cen inv = refl
+quantised-on Z v cen inv = refl
 
 pub query-on : (a : Axis) (v cen inv : Vec3) → unitOn a (quantiseQueryOf v cen inv) ≡ queryValue (coordinate a cen) (coordinate a inv) (coordinate a v)
 unfolding quantiseQueryOf
-query-on alongX v cen inv = refl
-query-on alongY v cen inv = refl
-query-on alongZ v cen inv = refl
+query-on X v cen inv = refl
+query-on Y v cen inv = refl
+query-on Z v cen inv = refl
 
 -- ---- the laws on an axis of the box of all items, with the units that the build makes of it
 module _ (a : Axis) (min max : Words3) where

@@ -8,7 +8,8 @@ use lib.Ieee.Scale.{finite}
 use Rattle.float32.specs.Casts.{limit}
 use Rattle.float32.specs.Extremes.{vmaxOf}
 use Rattle.float32.specs.Signs.{absOf}
-use Rattle.math.specs.Axes.{Axis, alongX, alongY, alongZ}
+use Rattle.math.specs.declared.axis.Axis.{Axis}
+use Rattle.math.specs.declared.axis.Axis.the-variants.{X, Y, Z}
 use Rattle.math.specs.Transform.{half}
 use Rattle.math.specs.Vec3s.{_⊕_, _⊖_, _⊗_, _⊘_, one}
 use Rattle.records.specs.declared.BoundVertex.{BoundVertex}
@@ -36,9 +37,9 @@ inverse lo hi = inverseOf (extent lo hi)
 
 -- the axis of a quantised point
 abbrev pub unitOn : Axis → BoundVertex → ℤ
-unitOn alongX v = v .0
-unitOn alongY v = v .1
-unitOn alongZ v = v .2
+unitOn X v = v .0
+unitOn Y v = v .1
+unitOn Z v = v .2
 
 -- 2 ^ 100 and 2 ^ -100, and +0
 abbrev pub largest : Float

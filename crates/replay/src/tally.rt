@@ -1,5 +1,5 @@
 // Counts of cases and of mismatches, by the operation's number. Place 0 counts the lines that are no case.
-use recorded::outcome::Outcome;
+use crate::outcome::Outcome;
 ghost use Prim.Native.Nat.{_≤_, _<_};
 ghost use lib.ListN.{length};
 
@@ -32,7 +32,7 @@ fn step(line: &mut [u8], at: usize, byte: u8, cases: &mut [u64], misses: &mut [u
     ensures { λ r. ⌜ r ≤ 256 ⌝ }
 {
     if byte == b'\n' {
-        count(recorded::outcome::of(&line[..at]), cases, misses);
+        count(crate::outcome::of(&line[..at]), cases, misses);
         return 0;
     }
     if at < 256 {

@@ -4,21 +4,21 @@ use native.Mathlib.Omega.{arith}
 use mathlib.Core.Path.{_≡_, refl, ap}
 use mathlib.Core.List.{List, [], _∷_}
 use lib.ListN.{length}
+use Rattle.base.specs.Lists.{oneIf, sift}
+use Rattle.base.proofs.ListLaws.{length-kept, length-sift}
 use Rattle.math.specs.declared.vec3.Vec3.{Vec3}
-use Rattle.split.specs.declared.average.Axis.{Axis}
-use Rattle.split.specs.declared.average.Axis.the-variants.{X, Y, Z}
+use Rattle.math.specs.declared.axis.Axis.{Axis}
+use Rattle.math.specs.declared.axis.Axis.the-variants.{X, Y, Z}
 use Rattle.split.specs.declared.boxes.BoxWords.{BoxWords}
 use Rattle.split.specs.declared.groups.Counts.{Counts}
-use Rattle.split.specs.Lists.{oneIf, sift}
 use Rattle.split.specs.Rule.{below, countBelow}
-use Rattle.split.specs.Groups.{countsOf, countMore}
+use Rattle.split.specs.steps.Groups.{countsOf, countMore}
 use Rattle.split.proofs.Places.{Pass}
-use Rattle.split.proofs.Sifting.{length-pick, length-sift}
 
 module _ (at : ℕ → BoxWords) (avg : Vec3) where
   count-more : (a : Axis) (p : ℕ) (ps : List ℕ) → countBelow at avg a (p ∷ ps) ≡ oneIf (below at avg a p) + countBelow at avg a ps
   unfolding countBelow
-  count-more a p ps = length-pick (below at avg a p) p (sift (below at avg a) ps)
+  count-more a p ps = length-kept (below at avg a p) p (sift (below at avg a) ps)
 
   count-none : (a : Axis) → countBelow at avg a [] ≡ 0
   unfolding countBelow

@@ -2,18 +2,19 @@
 use Prim.Native.Nat.{ℕ, _+_, _-_, _/_, _≤_, _<_}
 use native.Mathlib.Omega.{arith}
 use mathlib.Core.Path.{_≡_, refl, ap, _∙_}
-use mathlib.Core.Bool.{Bool, true, false, not, _||_}
-use mathlib.Core.List.{List, [], _∷_, _++_}
-use lib.Dec.{eqb, ltb}
+use mathlib.Core.Bool.{Bool, true, false, not, cond, _||_}
+use mathlib.Core.List.{List, _++_}
+use lib.Dec.{eqb}
 use lib.ListN.{length, take, drop, length-append, length-drop, take-append-drop}
 use lib.Seq.{length-take-le}
 use borrow.Author.Tests.{eqb-false}
+use Rattle.base.specs.Lists.{sift, Inside, Within, occurrences, Permutes}
+use Rattle.base.proofs.ListLaws.{length-both, parted-permutes, permutes-swap}
+use Rattle.base.proofs.SortLaws.{sort-length, sort-every, sort-permutes}
+use Rattle.base.proofs.WithinLaws.{within-sift, within-append, within-take, within-drop}
 use Rattle.split.specs.declared.boxes.BoxWords.{BoxWords}
-use Rattle.split.specs.Lists.{pick, sift, Within, occurrences, Permutes}
-use Rattle.split.specs.Rule.{chosen, groupOne, groupTwo, firstOf, secondOf}
-use Rattle.split.specs.Sorted.{sortBoxes}
-use Rattle.split.proofs.Sifting.{length-both, parted-permutes, permutes-swap, within-sift, within-append, within-left, within-right, within-take, within-drop}
-use Rattle.split.proofs.SortLaws.{sort-length, sort-within, sort-passing}
+use Rattle.split.specs.Rule.{chosen, groupOne, groupTwo, twoLeads, firstOf, secondOf}
+use Rattle.split.specs.Sorted.{atMost, sortBoxes}
 
 -- two groups that the places of a list are split into
 pub record Split (ps one two : List ℕ) : Type 0 where
@@ -50,15 +51,15 @@ module _ (at : ℕ → BoxWords) where
       let one : List ℕ = sift test ps in
       let two : List ℕ = sift (λ p. not (test p)) ps in
       halved ps (sortBoxes at (one ++ two))
-      (sort-length at (one ++ two) ∙ length-append one two ∙ length-both test ps)
-      (λ n w. sort-within at n (one ++ two) (within-append n one two (within-sift n test ps w) (within-sift n (λ p. not (test p)) ps w)))
-      (λ p. sort-passing at (λ q. eqb q p) (one ++ two) ∙ parted-permutes test ps p)
+      (sort-length (atMost at) (one ++ two) ∙ length-append one two ∙ length-both test ps)
+      (λ n w. sort-every (atMost at) (Inside n) (one ++ two) (within-append n one two (within-sift n test ps w) (within-sift n (λ p. not (test p)) ps w)))
+      (λ p. sort-permutes (atMost at) (one ++ two) p ∙ parted-permutes test ps p)
 
   -- by the two tests of `stuck`
   grouped : (test : ℕ → Bool) (ps : List ℕ) (b₁ b₂ : Bool) → eqb (length (sift test ps)) 0 ≡ b₁ → eqb (length (sift test ps)) (length ps) ≡ b₂
       → Split ps
-      (pick (b₁ || b₂) (take (length ps / 2) (sortBoxes at (sift test ps ++ sift (λ p. not (test p)) ps))) (sift test ps))
-      (pick (b₁ || b₂) (drop (length ps / 2) (sortBoxes at (sift test ps ++ sift (λ p. not (test p)) ps))) (sift (λ p. not (test p)) ps))
+      (cond (b₁ || b₂) (take (length ps / 2) (sortBoxes at (sift test ps ++ sift (λ p. not (test p)) ps))) (sift test ps))
+      (cond (b₁ || b₂) (drop (length ps / 2) (sortBoxes at (sift test ps ++ sift (λ p. not (test p)) ps))) (sift (λ p. not (test p)) ps))
   grouped test ps true b₂ e₁ e₂ = sorted test ps
   grouped test ps false true e₁ e₂ = sorted test ps
   grouped test ps false false e₁ e₂ =
@@ -80,7 +81,7 @@ module _ (at : ℕ → BoxWords) where
   unfolding groupOne groupTwo
   groups-split ps = grouped (chosen at ps) ps _ _ refl refl
 
-  ordered : (ps g₁ g₂ : List ℕ) (b : Bool) → Split ps g₁ g₂ → Split ps (pick b g₂ g₁) (pick b g₁ g₂)
+  ordered : (ps g₁ g₂ : List ℕ) (b : Bool) → Split ps g₁ g₂ → Split ps (cond b g₂ g₁) (cond b g₁ g₂)
   ordered ps g₁ g₂ true s =
       record {
         total = omega (arith, s .total);
@@ -95,7 +96,7 @@ module _ (at : ℕ → BoxWords) where
   -- the groups as a node gets them
   pub rule-split : (ps : List ℕ) → Split ps (firstOf at ps) (secondOf at ps)
   unfolding firstOf secondOf
-  rule-split ps = ordered ps (groupOne at ps) (groupTwo at ps) (ltb (length (groupOne at ps)) (length (groupTwo at ps))) (groups-split ps)
+  rule-split ps = ordered ps (groupOne at ps) (groupTwo at ps) (twoLeads at (groupOne at ps) (groupTwo at ps)) (groups-split ps)
 
   pub divide-total : (ps : List ℕ) → length (firstOf at ps) + length (secondOf at ps) ≡ length ps
   divide-total ps = rule-split ps .total
@@ -111,9 +112,6 @@ module _ (at : ℕ → BoxWords) where
 
   pub divide-within-second : (n : ℕ) (ps : List ℕ) → Within n ps → Within n (secondOf at ps)
   divide-within-second n ps = rule-split ps .within-two n
-
-  pub divide-count : (p : ℕ) (ps : List ℕ) → occurrences p (firstOf at ps ++ secondOf at ps) ≡ occurrences p ps
-  divide-count p ps = rule-split ps .same p
 
   pub divide-permutes : (ps : List ℕ) → Permutes (firstOf at ps ++ secondOf at ps) ps
   divide-permutes ps = rule-split ps .same

@@ -1,56 +1,40 @@
--- The fold of boxes on one axis: off NaN its low end is at most, and its high end at least, each item's. It is finite where the items are, its ends are in order where there is an item, a bound on all coordinates bounds it too, and the fold over more places contains the fold over fewer. By induction on the list, over any box to start from, once for both ends.
-use Prim.Native.Nat.{ℕ, _+_, _<_}
+-- The fold of boxes on one axis: off NaN its low end is at most, and its high end at least, each item's. It is finite where the items are,
+-- its ends are in order where there is an item, a bound on all coordinates bounds it too, and the fold over more places contains the fold
+-- over fewer. By induction on the list, over any box to start from, once for both ends.
+use Prim.Native.Nat.{ℕ, _<_}
 use native.Mathlib.Omega.{arith}
-use mathlib.Core.Path.{_≡_, refl, sym, ap, _∙_, subst}
-use mathlib.Core.Logic.{_⊎_, inl, inr}
-use mathlib.Core.Bool.{Bool, true, false, not}
+use mathlib.Core.Path.{_≡_, sym, subst}
+use mathlib.Core.Logic.{inl, inr}
+use mathlib.Core.Bool.{false, not}
 use mathlib.Core.List.{List, [], _∷_}
-use lib.Dec.{T, eqb, eqb→eq}
+use lib.Dec.{T}
 use lib.IntN.{pos}
 use lib.Ieee.{Float, fin, ofBits, neg, le, isNan}
-use lib.Ieee.Fits.{eq→eqb}
 use lib.Ieee.Scale.{finite}
 use lib.ListN.{length}
+use Rattle.base.specs.Lists.{Among}
+use Rattle.base.proofs.ListLaws.{among-head, among-tail, among-cases}
 use Rattle.float32.specs.Extremes.{vminOf, vmaxOf}
-use Rattle.float32.proofs.ExtremeLaws.{vminOf-both, vmaxOf-both, vminOf-le, vmaxOf-ge, vminWord-value, vmaxWord-value}
 use Rattle.float32.specs.Signs.{absOf}
+use Rattle.float32.proofs.ExtremeLaws.{vminOf-both, vmaxOf-both, vminOf-le, vmaxOf-ge, vminWord-value, vmaxWord-value}
 use Rattle.float32.proofs.OrderLaws.{le-refl, le-trans, finite-no-nan, neg-le}
 use Rattle.float32.proofs.SignLaws.{abs-ge-zero, abs-bounds, abs-le}
-use Rattle.math.specs.Axes.{Axis, alongX, alongY, alongZ}
+use Rattle.math.specs.declared.axis.Axis.{Axis}
+use Rattle.math.specs.declared.axis.Axis.the-variants.{X, Y, Z}
 use Rattle.split.specs.declared.boxes.BoxWords.{BoxWords}
 use Rattle.split.specs.Ends.{low, high, Proper, Bounded, Each}
 use Rattle.split.specs.Folding.{startBox, foldStep, foldFrom, foldBox}
-use Rattle.split.specs.Lists.{oneIf, occurrences, Among}
-use Rattle.split.proofs.Sifting.{occurs-more}
-
--- ---- standing in a list
-one-if : (b : Bool) → T b → oneIf b ≡ 1
-one-if true h = refl
-one-if false h = absurd h
-
-pub among-head : (p : ℕ) (ps : List ℕ) → Among p (p ∷ ps)
-among-head p ps = omega (arith, occurs-more p p ps, one-if (eqb p p) (eq→eqb {a = p} refl))
-
-pub among-tail : (p q : ℕ) (ps : List ℕ) → Among p ps → Among p (q ∷ ps)
-among-tail p q ps h = omega (arith, occurs-more p q ps)
-
-pub among-cases : (p q : ℕ) (ps : List ℕ) → Among p (q ∷ ps) → (q ≡ p) ⊎ Among p ps
-among-cases p q ps h = go (eqb q p) refl
-  where
-    go : (b : Bool) → eqb q p ≡ b → (q ≡ p) ⊎ Among p ps
-    go true e = inl (eqb→eq q p (subst T (sym e) tt))
-    go false e = inr (let i = occurs-more p q ps ∙ ap (λ (b : Bool). oneIf b + occurrences p ps) e in omega arith)
 
 -- ---- one step, on an axis
 step-low : (a : Axis) (acc b : BoxWords) → low a (foldStep acc b) ≡ vminOf (low a acc) (low a b)
-step-low alongX acc b = vminWord-value (acc .min .x) (b .min .x)
-step-low alongY acc b = vminWord-value (acc .min .y) (b .min .y)
-step-low alongZ acc b = vminWord-value (acc .min .z) (b .min .z)
+step-low X acc b = vminWord-value (acc .min .x) (b .min .x)
+step-low Y acc b = vminWord-value (acc .min .y) (b .min .y)
+step-low Z acc b = vminWord-value (acc .min .z) (b .min .z)
 
 step-high : (a : Axis) (acc b : BoxWords) → high a (foldStep acc b) ≡ vmaxOf (high a acc) (high a b)
-step-high alongX acc b = vmaxWord-value (acc .max .x) (b .max .x)
-step-high alongY acc b = vmaxWord-value (acc .max .y) (b .max .y)
-step-high alongZ acc b = vmaxWord-value (acc .max .z) (b .max .z)
+step-high X acc b = vmaxWord-value (acc .max .x) (b .max .x)
+step-high Y acc b = vmaxWord-value (acc .max .y) (b .max .y)
+step-high Z acc b = vmaxWord-value (acc .max .z) (b .max .z)
 
 abbrev Number : Float → Type 0
 Number x = T (not (isNan x))
@@ -93,9 +77,11 @@ module _ (at : ℕ → BoxWords) {end : BoxWords → Float} {Beyond : Float → 
   past-start acc (p ∷ ps) n k =
       let acc′ = foldStep acc (at p) in
       let m = k p (among-head p ps) in
-      o .trans (end (foldFrom at acc′ ps)) (end acc′) (end acc) (past-start acc′ ps (o .either Number acc (at p) n m) (λ q l. k q (among-tail q p ps l))) (o .beyond acc (at p) n m .0)
+      let rest = past-start acc′ ps (o .either Number acc (at p) n m) (λ q l. k q (among-tail q p ps l)) in
+      o .trans (end (foldFrom at acc′ ps)) (end acc′) (end acc) rest (o .beyond acc (at p) n m .0)
 
-  past-each : (acc : BoxWords) (ps : List ℕ) → Number (end acc) → ((p : ℕ) → Among p ps → Number (end (at p))) → (p : ℕ) → Among p ps → Beyond (end (foldFrom at acc ps)) (end (at p))
+  past-each : (acc : BoxWords) (ps : List ℕ) → Number (end acc) → ((p : ℕ) → Among p ps → Number (end (at p)))
+      → (p : ℕ) → Among p ps → Beyond (end (foldFrom at acc ps)) (end (at p))
   past-each acc [] n k p m = absurd (omega arith)
   past-each acc (q ∷ ps) n k p m =
       let acc′ = foldStep acc (at q) in
@@ -112,22 +98,22 @@ module _ (at : ℕ → BoxWords) {end : BoxWords → Float} {Beyond : Float → 
 -- ---- the start is finite
 start-low : (a : Axis) → T (finite (low a startBox))
 unfolding ofBits
-start-low alongX = tt
-start-low alongY = tt
-start-low alongZ = tt
+start-low X = tt
+start-low Y = tt
+start-low Z = tt
 
 start-high : (a : Axis) → T (finite (high a startBox))
 unfolding ofBits
-start-high alongX = tt
-start-high alongY = tt
-start-high alongZ = tt
+start-high X = tt
+start-high Y = tt
+start-high Z = tt
 
 -- f32::MIN ≤ 0 ≤ f32::MAX
 start-apart : (a : Axis) → T (le (high a startBox) (neg (fin false 0 (pos 0)))) × T (le (neg (fin false 0 (pos 0))) (low a startBox))
 unfolding ofBits neg le
-start-apart alongX = (tt, tt)
-start-apart alongY = (tt, tt)
-start-apart alongZ = (tt, tt)
+start-apart X = (tt, tt)
+start-apart Y = (tt, tt)
+start-apart Z = (tt, tt)
 
 start-around : (a : Axis) (m : Float) → T (le (fin false 0 (pos 0)) m) → T (le (neg m) (low a startBox)) × T (le (high a startBox) m)
 start-around a m h =
@@ -200,7 +186,8 @@ module _ (at : ℕ → BoxWords) (a : Axis) (ps : List ℕ) (each : Each at (Pro
       let p = s .0 in
       let lo = low a (foldBox at ps) in
       let hi = high a (foldBox at ps) in
-      let z = start-around a m (le-trans (fin false 0 (pos 0)) (absOf (low a (at p))) m (abs-ge-zero (low a (at p)) (low-numbers p (s .1))) (k p (s .1) .low-size)) in
+      let some = abs-ge-zero (low a (at p)) (low-numbers p (s .1)) in
+      let z = start-around a m (le-trans (fin false 0 (pos 0)) (absOf (low a (at p))) m some (k p (s .1) .low-size)) in
       let l = abs-bounds (low a (at p)) m (k p (s .1) .low-size) in
       let h = abs-bounds (high a (at p)) m (k p (s .1) .high-size) in
       record {
@@ -213,7 +200,8 @@ module _ (at : ℕ → BoxWords) (a : Axis) (ps : List ℕ) (each : Each at (Pro
       }
 
   -- the fold over some of the places lies in the fold over all
-  pub fold-contains : (qs : List ℕ) → ((p : ℕ) → Among p qs → Among p ps) → T (le (low a (foldBox at ps)) (low a (foldBox at qs))) × T (le (high a (foldBox at qs)) (high a (foldBox at ps)))
+  pub fold-contains : (qs : List ℕ) → ((p : ℕ) → Among p qs → Among p ps)
+      → T (le (low a (foldBox at ps)) (low a (foldBox at qs))) × T (le (high a (foldBox at qs)) (high a (foldBox at ps)))
   fold-contains qs sub = (
     fold-low-keeps at a qs (λ x. T (le (low a (foldBox at ps)) x)) (fold-low-start at a ps low-numbers) (λ q m. fold-below-each q (sub q m)),
     fold-high-keeps at a qs (λ x. T (le x (high a (foldBox at ps)))) (fold-high-start at a ps high-numbers) (λ q m. fold-above-each q (sub q m)),

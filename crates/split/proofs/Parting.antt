@@ -1,5 +1,5 @@
 -- The loop of `partition`, by the invariant that what is stored so far, followed by what the rest gives, is the whole of each group.
-use Prim.Native.Nat.{ℕ, zero, suc, _+_, _-_, _*_, _≤_, _<_}
+use Prim.Native.Nat.{ℕ, _+_, _-_, _*_, _≤_, _<_}
 use native.Mathlib.Omega.{arith}
 use native.Mathlib.Numerals.{add-one}
 use native.Mathlib.Nat.{add-zero, le-refl}
@@ -9,17 +9,18 @@ use mathlib.Core.List.{List, [], _∷_, _++_, append-assoc, append-nil}
 use lib.ListN.{length, getD, set, take, drop, length-set, drop-of-length-le}
 use lib.Seq.{take-suc-set, take-set-le, drop-set-lt, length-take-le, paste}
 use lib.Ieee.{Float, lt}
+use Rattle.base.specs.Lists.{oneIf, sift}
+use Rattle.base.proofs.StoreLaws.{rest-one}
 use Rattle.math.specs.declared.vec3.Vec3.{Vec3}
-use Rattle.split.specs.declared.average.Axis.{Axis}
-use Rattle.split.specs.declared.average.Axis.the-variants.{X, Y, Z}
+use Rattle.math.specs.declared.axis.Axis.{Axis}
+use Rattle.math.specs.declared.axis.Axis.the-variants.{X, Y, Z}
+use Rattle.math.specs.Axes.{coordinate}
 use Rattle.split.specs.Boxes.{boxAt, centreOf}
-use Rattle.split.specs.Lists.{oneIf, pick, sift}
-use Rattle.split.specs.Rule.{along, above}
-use Rattle.split.specs.Groups.{stepOf, centreAt, passes, Parted}
-use Rattle.split.proofs.Places.{rest-one}
+use Rattle.split.specs.Rule.{above}
+use Rattle.split.specs.steps.Groups.{stepOf, centreAt, passes, Parted}
 
 -- the two words of an axis are those that stand `step` after x's
-centre-along : (ws : List ℕ) (p : ℕ) (a : Axis) → centreAt ws (stepOf a) p ≡ along a (centreOf (boxAt ws p))
+centre-along : (ws : List ℕ) (p : ℕ) (a : Axis) → centreAt ws (stepOf a) p ≡ coordinate a (centreOf (boxAt ws p))
 centre-along ws p X = let z : 7 * p + 1 + 0 ≡ 7 * p + 1 = omega arith in rw z
 centre-along ws p Y = let z : 7 * p + 1 + 1 + 3 ≡ 7 * p + 1 + 3 + 1 = omega arith in rw z
 centre-along ws p Z = let z : 7 * p + 1 + 2 + 3 ≡ 7 * p + 1 + 3 + 2 = omega arith in rw z
@@ -29,10 +30,10 @@ step-small X = omega arith
 step-small Y = omega arith
 step-small Z = omega arith
 
-pub passes-above : (ws : List ℕ) (avg : Vec3) (a : Axis) (step : ℕ) (cut : Float) → step ≡ stepOf a → cut ≡ along a avg
+pub passes-above : (ws : List ℕ) (avg : Vec3) (a : Axis) (step : ℕ) (cut : Float) → step ≡ stepOf a → cut ≡ coordinate a avg
     → passes ws step cut ≡ above (boxAt ws) avg a
 unfolding passes above
-passes-above ws avg a step cut e f = rw (e, f) (fun-ext (λ p. ap (lt (along a avg)) (centre-along ws p a)))
+passes-above ws avg a step cut e f = rw (e, f) (fun-ext (λ p. ap (lt (coordinate a avg)) (centre-along ws p a)))
 
 -- stored at k, and k moved on only where the test holds
 stored : (test : ℕ → Bool) (b : Bool) (l ys : List ℕ) (k x : ℕ) → k < length l → test x ≡ b
@@ -93,7 +94,9 @@ module _ (test : ℕ → Bool) (a₀ t₀ : List ℕ) where
         left = drop-set-lt (i + 1) a k x (omega arith) ∙ n .1;
         front = stored test (test x) a ys k x (omega arith) refl ∙ ap (λ (l : List ℕ). take k a ++ sift test l) (sym (n .0)) ∙ q .front;
         back = rw (moved (test x) k i (q .low))
-            (stored (λ p. not (test p)) (not (test x)) t ys (i - k) x (omega arith) refl ∙ ap (λ (l : List ℕ). take (i - k) t ++ sift (λ p. not (test p)) l) (sym (n .0)) ∙ q .back);
+            (stored (λ p. not (test p)) (not (test x)) t ys (i - k) x (omega arith) refl
+            ∙ ap (λ (l : List ℕ). take (i - k) t ++ sift (λ p. not (test p)) l) (sym (n .0))
+            ∙ q .back);
       }
 
   pub parted : (a t : List ℕ) (k i : ℕ) → Parting test a₀ t₀ a t k i → length a₀ ≤ i → length a₀ ≤ length t₀
@@ -104,5 +107,8 @@ module _ (test : ℕ → Bool) (a₀ t₀ : List ℕ) where
       let over : drop (k + (length a₀ - k)) a ≡ [] = drop-of-length-le a {i = k + (length a₀ - k)} (omega arith) in
       let front : take k a ≡ sift test a₀ = sym (append-nil (take k a)) ∙ ap (λ (l : List ℕ). take k a ++ sift test l) (sym none) ∙ q .front in
       let back : take (length a₀ - k) t ≡ sift (λ p. not (test p)) a₀ =
-      ap (λ (m : ℕ). take (m - k) t) (sym n) ∙ sym (append-nil (take (i - k) t)) ∙ ap (λ (l : List ℕ). take (i - k) t ++ sift (λ p. not (test p)) l) (sym none) ∙ q .back in
+      ap (λ (m : ℕ). take (m - k) t) (sym n)
+      ∙ sym (append-nil (take (i - k) t))
+      ∙ ap (λ (l : List ℕ). take (i - k) t ++ sift (λ p. not (test p)) l) (sym none)
+      ∙ q .back in
       record { list = rw (over, append-nil, front, back); count = sym (length-take-le k a (omega arith)) ∙ ap length front }

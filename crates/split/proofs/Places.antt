@@ -1,17 +1,12 @@
 -- A pass over a list of places, by the invariant that the rest, taken into the state so far, gives the whole result.
-use Prim.Native.Nat.{ℕ, zero, suc, _+_, _*_, _≤_, _<_}
+use Prim.Native.Nat.{ℕ, _+_, _*_, _≤_, _<_}
 use native.Mathlib.Omega.{arith}
-use native.Mathlib.Numerals.{add-one}
 use mathlib.Core.Path.{_≡_, refl, sym, ap, _∙_}
 use mathlib.Core.List.{List, [], _∷_}
 use lib.ListN.{length, getD, drop, drop-of-length-le}
-use lib.Seq.{drop-cons}
-use Rattle.split.specs.Lists.{Within}
-use Rattle.split.proofs.WithinLaws.{within-at}
-
--- the next place and what is left after it
-pub rest-one : (ps : List ℕ) (i : ℕ) → i < length ps → drop i ps ≡ getD ps i 0 ∷ drop (i + 1) ps
-rest-one ps i h = rw add-one (drop-cons ps i 0 h)
+use Rattle.base.specs.Lists.{Within}
+use Rattle.base.proofs.StoreLaws.{rest-one}
+use Rattle.base.proofs.WithinLaws.{within-at}
 
 -- `run s ps` is the result of taking the places into the state s
 pub record Pass {A : Type 0} (run : A → List ℕ → A) (n : ℕ) (ps : List ℕ) (start s : A) (i : ℕ) : Type 0 where

@@ -1,47 +1,52 @@
--- The fold by value is the fold of the words, since a choice between words is that between their floats; and where it has no NaN it gives the words back, since a number has one word. By induction on the list, over any box to start from.
+-- The fold by value is the fold of the words, since a choice between words is that between their floats; and where it has no NaN it
+-- gives the words back, since a number has one word. By induction on the list, over any box to start from.
 use Prim.Native.Nat.{ℕ, _+_, _*_, _<_}
 use native.Mathlib.Omega.{arith}
 use mathlib.Core.Path.{_≡_, refl, sym, ap, _∙_, subst}
 use mathlib.Core.Logic.{⊎-elim}
-use mathlib.Core.Bool.{Bool, true, false, not, _||_}
+use mathlib.Core.Bool.{Bool, false, not, _||_}
 use mathlib.Core.List.{List, [], _∷_}
 use lib.Dec.{T}
 use lib.ListN.{getD}
-use lib.Ieee.{Float, binary32, ofBits, toBits, isNan}
+use lib.Ieee.{binary32, ofBits, toBits, isNan}
 use lib.Ieee.Bits.{toBits-ofBits}
+use Rattle.base.proofs.Truth.{neither}
 use Rattle.float32.specs.Extremes.{vminWord, vmaxWord}
 use Rattle.float32.proofs.ExtremeLaws.{vminWord-value, vmaxWord-value, vminWord-either, vmaxWord-either}
 use Rattle.math.specs.declared.vec3.Vec3.{Vec3}
 use Rattle.math.specs.declared.words3.Words3.{Words3}
 use Rattle.math.specs.Stored.{valuesOf, bitsOf, vminWordsOf, vmaxWordsOf}
-use Rattle.math.specs.Vec3s.{addOf}
+use Rattle.math.specs.Vec3s.{addOf, vmin3Of, vmax3Of}
 use Rattle.split.specs.declared.boxes.BoxWords.{BoxWords}
 use Rattle.split.specs.declared.totals.Totals.{Totals}
-use Rattle.split.specs.Boxes.{boxAt, pointAt}
+use Rattle.split.specs.Boxes.{boxAt}
 use Rattle.split.specs.Folding.{startBox, foldStep, foldFrom, foldBox}
-use Rattle.split.specs.Plain.{cornersOf}
 use Rattle.split.specs.Rule.{origin, sumFrom}
-use Rattle.split.specs.Totals.{totalsOf, totalStep, anyNan}
+use Rattle.split.specs.steps.Totals.{cornersOf, totalsOf, totalStep, anyNan}
 
 -- ---- by value
 abbrev pub totalsFrom : (ℕ → BoxWords) → Totals → List ℕ → Totals
 totalsFrom at t [] = t
 totalsFrom at t (p ∷ ps) = totalsFrom at (totalStep t (cornersOf (at p))) ps
 
-min-values : (a b : Words3) → valuesOf (vminWordsOf a b) ≡ totalStep (totalsOf (record { min = a; max = a }) origin) (cornersOf (record { min = b; max = b })) .low
+min-values : (a b : Words3) → valuesOf (vminWordsOf a b) ≡ vmin3Of (valuesOf a) (valuesOf b)
 min-values a b = λ i. record { x = vminWord-value (a .x) (b .x) i; y = vminWord-value (a .y) (b .y) i; z = vminWord-value (a .z) (b .z) i }
 
-max-values : (a b : Words3) → valuesOf (vmaxWordsOf a b) ≡ totalStep (totalsOf (record { min = a; max = a }) origin) (cornersOf (record { min = b; max = b })) .high
+max-values : (a b : Words3) → valuesOf (vmaxWordsOf a b) ≡ vmax3Of (valuesOf a) (valuesOf b)
 max-values a b = λ i. record { x = vmaxWord-value (a .x) (b .x) i; y = vmaxWord-value (a .y) (b .y) i; z = vmaxWord-value (a .z) (b .z) i }
 
-step-is : (acc b : BoxWords) (s : Vec3) → totalsOf (foldStep acc b) (addOf (addOf s (valuesOf (b .min))) (valuesOf (b .max))) ≡ totalStep (totalsOf acc s) (cornersOf b)
+-- one box more in the sum
+abbrev sumStep : Vec3 → BoxWords → Vec3
+sumStep s b = addOf (addOf s (valuesOf (b .min))) (valuesOf (b .max))
+
+step-is : (acc b : BoxWords) (s : Vec3) → totalsOf (foldStep acc b) (sumStep s b) ≡ totalStep (totalsOf acc s) (cornersOf b)
 step-is acc b s =
-    λ i. record { low = min-values (acc .min) (b .min) i; high = max-values (acc .max) (b .max) i; sum = addOf (addOf s (valuesOf (b .min))) (valuesOf (b .max)) }
+    λ i. record { low = min-values (acc .min) (b .min) i; high = max-values (acc .max) (b .max) i; sum = sumStep s b }
 
 totals-are : (at : ℕ → BoxWords) (acc : BoxWords) (s : Vec3) (ps : List ℕ) → totalsFrom at (totalsOf acc s) ps ≡ totalsOf (foldFrom at acc ps) (sumFrom at s ps)
 totals-are at acc s [] = refl
 totals-are at acc s (p ∷ ps) =
-    ap (λ (t : Totals). totalsFrom at t ps) (sym (step-is acc (at p) s)) ∙ totals-are at (foldStep acc (at p)) (addOf (addOf s (valuesOf (at p .min))) (valuesOf (at p .max))) ps
+    ap (λ (t : Totals). totalsFrom at t ps) (sym (step-is acc (at p) s)) ∙ totals-are at (foldStep acc (at p)) (sumStep s (at p)) ps
 
 pub all-totals : (at : ℕ → BoxWords) (ps : List ℕ) → totalsFrom at (totalsOf startBox origin) ps ≡ totalsOf (foldBox at ps) (sumFrom at origin ps)
 unfolding foldBox
@@ -80,10 +85,6 @@ unfolding foldBox
 fold-words ws h ps = words-from ws h startBox (omega arith, omega arith, omega arith) (omega arith, omega arith, omega arith) ps
 
 -- ---- a number's word
-neither : (a b : Bool) → (a || b) ≡ false → (a ≡ false) × (b ≡ false)
-neither true b e = absurd (subst T e tt)
-neither false b e = (refl, e)
-
 word-back : (n : ℕ) → Word n → isNan (ofBits binary32 n) ≡ false → toBits binary32 (ofBits binary32 n) ≡ n
 word-back n h e = toBits-ofBits binary32 n h (subst (λ (b : Bool). T (not b)) (sym e) tt)
 
@@ -91,8 +92,12 @@ words-back : (w : Words3) (v : Vec3) → Words w → v ≡ valuesOf w → anyNan
 unfolding anyNan
 words-back w v h e n =
     let f = subst (λ (u : Vec3). (isNan (u .x) || (isNan (u .y) || isNan (u .z))) ≡ false) e n in
-    let g = neither (isNan (ofBits binary32 (w .y))) (isNan (ofBits binary32 (w .z))) (neither (isNan (ofBits binary32 (w .x))) (isNan (ofBits binary32 (w .y)) || isNan (ofBits binary32 (w .z))) f .1) in
-    let x = word-back (w .x) (h .0) (neither (isNan (ofBits binary32 (w .x))) (isNan (ofBits binary32 (w .y)) || isNan (ofBits binary32 (w .z))) f .0) in
+    let nx : Bool = isNan (ofBits binary32 (w .x)) in
+    let ny : Bool = isNan (ofBits binary32 (w .y)) in
+    let nz : Bool = isNan (ofBits binary32 (w .z)) in
+    let k = neither nx (ny || nz) f in
+    let g = neither ny nz (k .1) in
+    let x = word-back (w .x) (h .0) (k .0) in
     let y = word-back (w .y) (h .1) (g .0) in
     let z = word-back (w .z) (h .2) (g .1) in
     ap bitsOf e ∙ (λ i. record { x = x i; y = y i; z = z i })

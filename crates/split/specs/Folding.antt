@@ -1,7 +1,6 @@
 -- The fold of boxes. Definitions only.
 use Prim.Native.Nat.{ℕ}
 use mathlib.Core.List.{List, [], _∷_}
-use Rattle.math.specs.declared.words3.Words3.{Words3}
 use Rattle.math.specs.Stored.{vminWordsOf, vmaxWordsOf}
 use Rattle.split.specs.declared.boxes.BoxWords.{BoxWords}
 

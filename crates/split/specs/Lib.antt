@@ -1,9 +1,7 @@
 pub mod Boxes
 pub mod Ends
 pub mod Folding
-pub mod Groups
-pub mod Lists
 pub mod Plain
 pub mod Rule
 pub mod Sorted
-pub mod Totals
+pub mod steps

@@ -4,9 +4,6 @@ use mathlib.Core.Bool.{Bool, true}
 use mathlib.Core.List.{List}
 use mathlib.Core.Path.{_≡_}
 use lib.ListN.{getD}
-use Rattle.math.specs.Stored.{valuesOf}
-use Rattle.split.specs.declared.boxes.BoxWords.{BoxWords}
-use Rattle.split.specs.declared.boxes.Corners.{Corners}
 
 -- The word is no NaN's.
 abbrev pub Number : ℕ → Type 0
@@ -15,7 +12,3 @@ Number w = w % 0x8000_0000 ≤ 0x7f80_0000
 -- Where `plain` says so, no word is a NaN's.
 pub record Plain (plain : Bool) (ws : List ℕ) : Type 0 where
   pub numbers : plain ≡ true → (i : ℕ) → Number (getD ws i 0)
-
--- a box by its floats
-abbrev pub cornersOf : BoxWords → Corners
-cornersOf b = record { low = valuesOf (b .min); high = valuesOf (b .max) }

@@ -1,21 +1,22 @@
 -- The rule by which a node's items are split. Definitions only.
 use Prim.Native.Nat.{ℕ, _+_, _-_, _*_, _/_, _<_}
-use mathlib.Core.Bool.{Bool, true, false, not, cond, _&&_, _||_}
+use mathlib.Core.Bool.{Bool, not, cond, _&&_, _||_}
 use mathlib.Core.List.{List, [], _∷_, _++_}
 use mathlib.Core.Path.{_≡_}
 use lib.Dec.{leb, ltb, eqb}
 use lib.ListN.{length, take, drop}
-use lib.Ieee.{Float, binary32, ofBits, lt}
+use lib.Ieee.{binary32, ofBits, lt}
+use Rattle.base.specs.Lists.{sift}
 use Rattle.float32.specs.Counts.{ofCount}
 use Rattle.math.specs.declared.vec3.Vec3.{Vec3}
+use Rattle.math.specs.declared.axis.Axis.{Axis}
+use Rattle.math.specs.declared.axis.Axis.the-variants.{X, Y, Z}
 use Rattle.math.specs.Stored.{valuesOf}
 use Rattle.math.specs.Vec3s.{_⊘_, addOf, scaleOf}
 use Rattle.math.specs.Transform.{half}
+use Rattle.math.specs.Axes.{coordinate}
 use Rattle.split.specs.declared.boxes.BoxWords.{BoxWords}
-use Rattle.split.specs.declared.average.Axis.{Axis}
-use Rattle.split.specs.declared.average.Axis.the-variants.{X, Y, Z}
 use Rattle.split.specs.Boxes.{centreOf}
-use Rattle.split.specs.Lists.{pick, sift}
 use Rattle.split.specs.Sorted.{sortBoxes}
 
 -- +0 on each axis
@@ -31,17 +32,12 @@ sumFrom at s (p ∷ ps) = sumFrom at (addOf (addOf s (valuesOf (at p .min))) (va
 unfoldable pub averageOf : (ℕ → BoxWords) → List ℕ → Vec3
 averageOf at ps = scaleOf (sumFrom at origin ps) (half ⊘ ofCount (length ps))
 
-abbrev pub along : Axis → Vec3 → Float
-along X v = v .x
-along Y v = v .y
-along Z v = v .z
-
 -- a centre below the average, and one above it; a NaN is neither
 unfoldable pub below : (ℕ → BoxWords) → Vec3 → Axis → ℕ → Bool
-below at avg a p = lt (along a (centreOf (at p))) (along a avg)
+below at avg a p = lt (coordinate a (centreOf (at p))) (coordinate a avg)
 
 unfoldable pub above : (ℕ → BoxWords) → Vec3 → Axis → ℕ → Bool
-above at avg a p = lt (along a avg) (along a (centreOf (at p)))
+above at avg a p = lt (coordinate a avg) (coordinate a (centreOf (at p)))
 
 -- how many centres are below the average
 unfoldable pub countBelow : (ℕ → BoxWords) → Vec3 → Axis → List ℕ → ℕ
@@ -81,20 +77,24 @@ stuck at ps = eqb (length (one at ps)) 0 || eqb (length (one at ps)) (length ps)
 -- Rule T6: where a group is empty, one followed by two is sorted and cut at n / 2 rounded down.
 unfoldable pub groupOne : (ℕ → BoxWords) → List ℕ → List ℕ
 unfolding chosen
-groupOne at ps = pick (stuck at ps) (take (length ps / 2) (sortBoxes at (one at ps ++ two at ps))) (one at ps)
+groupOne at ps = cond (stuck at ps) (take (length ps / 2) (sortBoxes at (one at ps ++ two at ps))) (one at ps)
 
 unfoldable pub groupTwo : (ℕ → BoxWords) → List ℕ → List ℕ
 unfolding chosen
-groupTwo at ps = pick (stuck at ps) (drop (length ps / 2) (sortBoxes at (one at ps ++ two at ps))) (two at ps)
+groupTwo at ps = cond (stuck at ps) (drop (length ps / 2) (sortBoxes at (one at ps ++ two at ps))) (two at ps)
 
--- Rule T7 (01, Tree build; bvh.rs, children): group one is the first child unless group two has more items.
+-- Rule T7 (01, Tree build; bvh.rs, children): of the groups one and two of places with the boxes `at`, two leads where it has more items.
+unfoldable pub twoLeads : (ℕ → BoxWords) → List ℕ → List ℕ → Bool
+twoLeads at one two = ltb (length one) (length two)
+
+-- Rule T7: the group that leads is the first child.
 unfoldable pub firstOf : (ℕ → BoxWords) → List ℕ → List ℕ
 unfolding groupOne groupTwo
-firstOf at ps = pick (ltb (length (groupOne at ps)) (length (groupTwo at ps))) (groupTwo at ps) (groupOne at ps)
+firstOf at ps = cond (twoLeads at (groupOne at ps) (groupTwo at ps)) (groupTwo at ps) (groupOne at ps)
 
 unfoldable pub secondOf : (ℕ → BoxWords) → List ℕ → List ℕ
 unfolding groupOne groupTwo
-secondOf at ps = pick (ltb (length (groupOne at ps)) (length (groupTwo at ps))) (groupOne at ps) (groupTwo at ps)
+secondOf at ps = cond (twoLeads at (groupOne at ps) (groupTwo at ps)) (groupOne at ps) (groupTwo at ps)
 
 -- what a split leaves in place of the places ps: the first group, then the second, and how many the first has
 pub record Divided (at : ℕ → BoxWords) (ps w : List ℕ) (r : ℕ) : Type 0 where

@@ -1,39 +1,23 @@
-// The average of a node's boxes, and the axis that is split.
+// The average of a node's boxes.
 use crate::boxes::BoxWords;
 use crate::boxes::Corners;
 use math::vec3::Vec3;
 ghost use mathlib.Core.Path.{_≡_};
-ghost use Prim.Native.Nat.{_≤_, _<_};
+ghost use Prim.Native.Nat.{_<_};
 ghost use lib.ListN.{length};
 ghost use Rattle.split.specs.Boxes.{boxAt};
-ghost use Rattle.split.specs.Lists.{Within};
+ghost use Rattle.base.specs.Lists.{Within};
 ghost use Rattle.split.specs.Plain.{Plain};
 ghost use Rattle.float32.specs.Counts.{ofCount};
 ghost use Rattle.math.specs.Vec3s.{_⊘_, addOf, scaleOf};
 ghost use Rattle.math.specs.Transform.{half};
 ghost use Rattle.split.specs.Folding.{foldBox};
-ghost use Rattle.split.specs.Rule.{along, averageOf};
-
-pub enum Axis {
-    X,
-    Y,
-    Z,
-}
+ghost use Rattle.split.specs.Rule.{averageOf};
 
 pub fn centre(b: Corners) -> Vec3
     ensures { λ r. ⌜ r ≡ scaleOf (addOf (b .low) (b .high)) half ⌝ }
 {
     b.low.add(b.high).scale(0.5)
-}
-
-pub fn along(a: Axis, v: Vec3) -> f32
-    ensures { λ r. ⌜ r ≡ along a v ⌝ }
-{
-    match a {
-        Axis::X => v.x,
-        Axis::Y => v.y,
-        Axis::Z => v.z,
-    }
 }
 
 // The box around a node's items, and the average of their boxes.
@@ -51,13 +35,14 @@ fn average(sum: Vec3, n: usize) -> Vec3
 }
 
 // The fold and the average of the places' boxes, in their order.
-pub fn measure(boxes: &[u32], places: &[u32], plain: bool) -> Measured
-    requires { ⌜ (Within (length (now boxes)) (now places)) × (length (now places) < 65536) × (Plain plain (now boxes)) ⌝ }
-    ensures { λ r. ⌜ (r .around ≡ foldBox (boxAt (now (boxes .entry))) (now (places .entry))) × (r .average ≡ averageOf (boxAt (now (boxes .entry))) (now (places .entry))) ⌝ }
+pub fn measure(entries: &[u32], places: &[u32], plain: bool) -> Measured
+    requires { ⌜ (Within (length (now entries)) (now places)) × (length (now places) < 65536) × (Plain plain (now entries)) ⌝ }
+    ensures { λ r. ⌜ (r .around ≡ foldBox (boxAt (now (entries .entry))) (now (places .entry)))
+        × (r .average ≡ averageOf (boxAt (now (entries .entry))) (now (places .entry))) ⌝ }
 {
-    let t = crate::totals::total(boxes, places, plain);
+    let t = crate::totals::total(entries, places, plain);
     Measured {
-        around: crate::fold::fold_by_value(boxes, places, t.low, t.high),
+        around: crate::fold::fold_by_value(entries, places, t.low, t.high),
         average: average(t.sum, places.len()),
     }
 }

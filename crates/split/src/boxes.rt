@@ -1,18 +1,18 @@
-// A place in the list of entries, and the box that is kept for it.
+// The box that the list of entries keeps for a place.
+use base::numbers::Place;
 use math::vec3::Vec3;
 use math::words3::Words3;
 ghost use mathlib.Core.Bool.{true};
 ghost use mathlib.Core.Path.{_≡_};
-ghost use mathlib.Core.List.{_++_};
 ghost use Prim.Native.Nat.{_+_, _*_, _≤_};
-ghost use lib.ListN.{length, take, drop};
+ghost use lib.ListN.{length};
+ghost use lib.Seq.{sets};
 ghost use lib.Ieee.{binary32, ofBits};
 ghost use Rattle.math.specs.Stored.{valuesOf};
 ghost use Rattle.split.specs.Boxes.{boxAt, boxWords};
-ghost use Rattle.split.specs.Plain.{Number, Plain, cornersOf};
-
-// A place in the list of entries. A position in the leaf order is another number.
-pub struct Place(pub u32);
+ghost use Rattle.split.specs.Folding.{startBox};
+ghost use Rattle.split.specs.Plain.{Number, Plain};
+ghost use Rattle.split.specs.steps.Totals.{cornersOf};
 
 #[repr(C)]
 pub struct BoxWords {
@@ -20,22 +20,40 @@ pub struct BoxWords {
     pub max: Words3,
 }
 
+// The box that a fold starts from.
+pub fn start_box() -> BoxWords
+    ensures { λ r. ⌜ r ≡ startBox ⌝ }
+{
+    BoxWords {
+        min: Words3 {
+            x: 0x7f7f_ffff,
+            y: 0x7f7f_ffff,
+            z: 0x7f7f_ffff,
+        },
+        max: Words3 {
+            x: 0xff7f_ffff,
+            y: 0xff7f_ffff,
+            z: 0xff7f_ffff,
+        },
+    }
+}
+
 // The box at a place: an entry has seven words, its mark and its box.
-pub fn box_at(boxes: &[u32], place: Place) -> BoxWords
-    requires { ⌜ 7 * place .0 + 7 ≤ length (now boxes) ⌝ }
-    ensures { λ r. ⌜ r ≡ boxAt (now (boxes .entry)) (place .0) ⌝ }
+pub fn box_at(entries: &[u32], place: Place) -> BoxWords
+    requires { ⌜ 7 * place .0 + 7 ≤ length (now entries) ⌝ }
+    ensures { λ r. ⌜ r ≡ boxAt (now (entries .entry)) (place .0) ⌝ }
 {
     let at = 7 * (place.0 as usize) + 1;
     BoxWords {
         min: Words3 {
-            x: boxes[at],
-            y: boxes[at + 1],
-            z: boxes[at + 2],
+            x: entries[at],
+            y: entries[at + 1],
+            z: entries[at + 2],
         },
         max: Words3 {
-            x: boxes[at + 3],
-            y: boxes[at + 4],
-            z: boxes[at + 5],
+            x: entries[at + 3],
+            y: entries[at + 4],
+            z: entries[at + 5],
         },
     }
 }
@@ -71,11 +89,11 @@ pub struct Corners {
 }
 
 // The floats of the box at a place.
-pub fn corners_at(boxes: &[u32], place: Place, plain: bool) -> Corners
-    requires { ⌜ (7 * place .0 + 7 ≤ length (now boxes)) × (Plain plain (now boxes)) ⌝ }
-    ensures { λ r. ⌜ r ≡ cornersOf (boxAt (now (boxes .entry)) (place .0)) ⌝ }
+pub fn corners_at(entries: &[u32], place: Place, plain: bool) -> Corners
+    requires { ⌜ (7 * place .0 + 7 ≤ length (now entries)) × (Plain plain (now entries)) ⌝ }
+    ensures { λ r. ⌜ r ≡ cornersOf (boxAt (now (entries .entry)) (place .0)) ⌝ }
 {
-    let b = box_at(boxes, place);
+    let b = box_at(entries, place);
     Corners {
         low: values(b.min, plain),
         high: values(b.max, plain),
@@ -90,13 +108,13 @@ fn greater(a: u32, b: u32) -> u32
 }
 
 // Whether no word is a NaN's: none is above infinity's but for its sign.
-pub fn all_numbers(words: &[u32]) -> bool
-    ensures { λ r. ⌜ Plain r (now (words .entry)) ⌝ }
+pub fn all_numbers(entries: &[u32]) -> bool
+    ensures { λ r. ⌜ Plain r (now (entries .entry)) ⌝ }
 {
     let mut most = 0;
     let mut i = 0;
-    while i < words.len() {
-        most = greater(most, words[i] % 0x8000_0000);
+    while i < entries.len() {
+        most = greater(most, entries[i] % 0x8000_0000);
         i += 1;
     }
     most <= 0x7f80_0000
@@ -105,7 +123,7 @@ pub fn all_numbers(words: &[u32]) -> bool
 // A box's six words, from `at` on.
 pub fn put_box(out: &mut [u32], at: usize, b: BoxWords)
     requires { ⌜ at + 6 ≤ length (now out) ⌝ }
-    ensures { λ _. ⌜ now (out .exit) ≡ take at (now (out .entry)) ++ (boxWords b ++ drop (at + 6) (now (out .entry))) ⌝ }
+    ensures { λ _. ⌜ now (out .exit) ≡ sets (now (out .entry)) at (boxWords b) ⌝ }
 {
     out[at] = b.min.x;
     out[at + 1] = b.min.y;

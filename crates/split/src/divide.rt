@@ -5,11 +5,11 @@ ghost use mathlib.Core.Path.{_≡_};
 ghost use Prim.Native.Nat.{_/_, _≤_, _<_};
 ghost use lib.ListN.{length};
 ghost use Rattle.split.specs.Boxes.{boxAt};
-ghost use Rattle.split.specs.Lists.{Within};
+ghost use Rattle.base.specs.Lists.{Within};
 ghost use Rattle.split.specs.Plain.{Plain};
 ghost use Rattle.split.specs.Folding.{foldBox};
 ghost use Rattle.split.specs.Rule.{averageOf, Divided};
-ghost use Rattle.split.specs.Groups.{Settled};
+ghost use Rattle.split.specs.steps.Groups.{Settled};
 
 // Where n sorted items are cut.
 fn middle(n: usize) -> usize
@@ -19,13 +19,13 @@ fn middle(n: usize) -> usize
 }
 
 // Sorts the places where a group is empty, to be cut in the middle; where the second group begins.
-fn settle(a: &mut [u32], t: &mut [u32], boxes: &[u32], k: usize) -> usize
-    requires { ⌜ (length (now a) ≤ length (now t)) × (Within (length (now boxes)) (now a)) ⌝ }
-    ensures { λ r. ⌜ Settled (boxAt (now (boxes .entry))) k (now (a .entry)) (now (a .exit)) r ⌝ }
+fn settle(a: &mut [u32], t: &mut [u32], entries: &[u32], k: usize) -> usize
+    requires { ⌜ (length (now a) ≤ length (now t)) × (Within (length (now entries)) (now a)) ⌝ }
+    ensures { λ r. ⌜ Settled (boxAt (now (entries .entry))) k (now (a .entry)) (now (a .exit)) r ⌝ }
 {
     let n = a.len();
     if k == 0 || k == n {
-        crate::merging::sort(a, t, boxes);
+        crate::merging::sort(a, t, entries);
         return middle(n);
     }
     k
@@ -38,26 +38,29 @@ pub struct Cut {
 }
 
 // The first group, then the second, in place of the places of `a`, by their average, with `t` to work in; how many the first has.
-fn divide_by(a: &mut [u32], t: &mut [u32], boxes: &[u32], avg: Vec3, plain: bool) -> usize
-    requires { ⌜ (2 ≤ length (now a)) × (length (now a) < 32768) × (length (now a) ≤ length (now t)) × (Within (length (now boxes)) (now a)) × (avg ≡ averageOf (boxAt (now boxes)) (now a)) × (Plain plain (now boxes)) ⌝ }
-    ensures { λ r. ⌜ Divided (boxAt (now (boxes .entry))) (now (a .entry)) (now (a .exit)) r ⌝ }
+fn divide_by(a: &mut [u32], t: &mut [u32], entries: &[u32], avg: Vec3, plain: bool) -> usize
+    requires { ⌜ (2 ≤ length (now a)) × (length (now a) < 32768) × (length (now a) ≤ length (now t)) × (Within (length (now entries)) (now a))
+        × (avg ≡ averageOf (boxAt (now entries)) (now a)) × (Plain plain (now entries)) ⌝ }
+    ensures { λ r. ⌜ Divided (boxAt (now (entries .entry))) (now (a .entry)) (now (a .exit)) r ⌝ }
 {
-    let counts = crate::groups::count_below(boxes, a, avg, plain);
+    let counts = crate::groups::count_below(entries, a, avg, plain);
     let axis = crate::groups::choose_axis(a.len() as u32, counts);
-    let k = crate::groups::partition(a, t, boxes, avg, axis, plain);
-    let h = settle(a, t, boxes, k);
-    crate::groups::larger_first(a, t, h)
+    let k = crate::groups::partition(a, t, entries, avg, axis, plain);
+    let h = settle(a, t, entries, k);
+    crate::groups::leader_first(a, t, h)
 }
 
 // The first group, then the second, in place of the places of `a`, with `t` to work in; their box, and how many the first has.
-pub fn divide(a: &mut [u32], t: &mut [u32], boxes: &[u32], plain: bool) -> Cut
-    requires { ⌜ (2 ≤ length (now a)) × (length (now a) < 32768) × (length (now a) ≤ length (now t)) × (Within (length (now boxes)) (now a)) × (Plain plain (now boxes)) ⌝ }
-    ensures { λ r. ⌜ (Divided (boxAt (now (boxes .entry))) (now (a .entry)) (now (a .exit)) (r .first)) × (r .around ≡ foldBox (boxAt (now (boxes .entry))) (now (a .entry))) ⌝ }
+pub fn divide(a: &mut [u32], t: &mut [u32], entries: &[u32], plain: bool) -> Cut
+    requires { ⌜ (2 ≤ length (now a)) × (length (now a) < 32768) × (length (now a) ≤ length (now t))
+        × (Within (length (now entries)) (now a)) × (Plain plain (now entries)) ⌝ }
+    ensures { λ r. ⌜ (Divided (boxAt (now (entries .entry))) (now (a .entry)) (now (a .exit)) (r .first))
+        × (r .around ≡ foldBox (boxAt (now (entries .entry))) (now (a .entry))) ⌝ }
 {
-    let m = crate::average::measure(boxes, a, plain);
+    let m = crate::average::measure(entries, a, plain);
     let around = m.around;
     Cut {
         around: around,
-        first: divide_by(a, t, boxes, m.average, plain),
+        first: divide_by(a, t, entries, m.average, plain),
     }
 }

@@ -1,18 +1,19 @@
-// The two groups of a node's items: the counts that choose the axis, the partition, and the larger group first.
-use crate::average::Axis;
-use crate::boxes::Place;
+// The two groups of a node's items: the counts that choose the axis, the partition, and the leading group first.
+use base::numbers::Place;
+use math::axis::Axis;
 use math::vec3::Vec3;
 ghost use mathlib.Core.Path.{_≡_};
 ghost use mathlib.Core.List.{_++_};
-ghost use Prim.Native.Nat.{_+_, _*_, _≤_, _<_};
+ghost use Prim.Native.Nat.{ℕ, _+_, _*_, _≤_, _<_};
 ghost use lib.ListN.{length, take, drop};
 ghost use lib.Seq.{paste};
 ghost use lib.Ieee.{lt};
+ghost use Rattle.split.specs.declared.boxes.BoxWords.{BoxWords};
 ghost use Rattle.split.specs.Boxes.{boxAt};
-ghost use Rattle.split.specs.Lists.{oneIf, Within};
+ghost use Rattle.base.specs.Lists.{oneIf, Within};
 ghost use Rattle.split.specs.Plain.{Plain};
-ghost use Rattle.split.specs.Rule.{above, offset};
-ghost use Rattle.split.specs.Groups.{countsOf, axisBy, stepOf, passes, Parted, LargerFirst};
+ghost use Rattle.split.specs.Rule.{above, offset, twoLeads};
+ghost use Rattle.split.specs.steps.Groups.{countsOf, axisBy, stepOf, passes, Parted, LeaderFirst};
 
 // How many centres are below the average, on each axis.
 pub struct Counts {
@@ -29,14 +30,14 @@ fn one_if_below(a: f32, b: f32) -> u32
 }
 
 // The counts on the three axes, in one pass.
-pub fn count_below(boxes: &[u32], places: &[u32], avg: Vec3, plain: bool) -> Counts
-    requires { ⌜ (Within (length (now boxes)) (now places)) × (length (now places) < 65536) × (Plain plain (now boxes)) ⌝ }
-    ensures { λ r. ⌜ r ≡ countsOf (boxAt (now (boxes .entry))) avg (now (places .entry)) ⌝ }
+pub fn count_below(entries: &[u32], places: &[u32], avg: Vec3, plain: bool) -> Counts
+    requires { ⌜ (Within (length (now entries)) (now places)) × (length (now places) < 65536) × (Plain plain (now entries)) ⌝ }
+    ensures { λ r. ⌜ r ≡ countsOf (boxAt (now (entries .entry))) avg (now (places .entry)) ⌝ }
 {
     let mut counts = Counts { x: 0, y: 0, z: 0 };
     let mut i = 0;
     while i < places.len() {
-        let c = crate::average::centre(crate::boxes::corners_at(boxes, Place(places[i]), plain));
+        let c = crate::average::centre(crate::boxes::corners_at(entries, Place(places[i]), plain));
         counts = Counts {
             x: counts.x + one_if_below(c.x, avg.x),
             y: counts.y + one_if_below(c.y, avg.y),
@@ -84,13 +85,13 @@ fn step_of(a: Axis) -> usize
 }
 
 // 1 where the place's centre is above the cut, else 0, on the axis that comes `step` words after x. Only that axis is read.
-fn one_if_above(boxes: &[u32], place: Place, step: usize, cut: f32, plain: bool) -> usize
-    requires { ⌜ (7 * place .0 + 7 ≤ length (now boxes)) × (step < 3) × (Plain plain (now boxes)) ⌝ }
-    ensures { λ r. ⌜ r ≡ oneIf (passes (now (boxes .entry)) step cut (place .0)) ⌝ }
+fn one_if_above(entries: &[u32], place: Place, step: usize, cut: f32, plain: bool) -> usize
+    requires { ⌜ (7 * place .0 + 7 ≤ length (now entries)) × (step < 3) × (Plain plain (now entries)) ⌝ }
+    ensures { λ r. ⌜ r ≡ oneIf (passes (now (entries .entry)) step cut (place .0)) ⌝ }
 {
     let at = 7 * (place.0 as usize) + 1 + step;
-    let low = crate::boxes::value(boxes[at], plain);
-    let high = crate::boxes::value(boxes[at + 3], plain);
+    let low = crate::boxes::value(entries[at], plain);
+    let high = crate::boxes::value(entries[at + 3], plain);
     if (low + high) * 0.5 > cut { 1 } else { 0 }
 }
 
@@ -111,24 +112,24 @@ pub fn paste(dst: &mut [u32], at: usize, src: &[u32], n: usize)
 pub fn partition(
     a: &mut [u32],
     t: &mut [u32],
-    boxes: &[u32],
+    entries: &[u32],
     avg: Vec3,
     axis: Axis,
     plain: bool,
 ) -> usize
-    requires { ⌜ (length (now a) ≤ length (now t)) × (Within (length (now boxes)) (now a)) × (Plain plain (now boxes)) ⌝ }
-    ensures { λ r. ⌜ Parted (above (boxAt (now (boxes .entry))) avg axis) (now (a .entry)) (now (a .exit)) r ⌝ }
+    requires { ⌜ (length (now a) ≤ length (now t)) × (Within (length (now entries)) (now a)) × (Plain plain (now entries)) ⌝ }
+    ensures { λ r. ⌜ Parted (above (boxAt (now (entries .entry))) avg axis) (now (a .entry)) (now (a .exit)) r ⌝ }
 {
     let n = a.len();
     let step = step_of(axis);
-    let cut = crate::average::along(axis, avg);
+    let cut = math::axis::coordinate(axis, avg);
     let mut k = 0;
     let mut i = 0;
     while i < n {
         let p = a[i];
         a[k] = p;
         t[i - k] = p;
-        k += one_if_above(boxes, Place(p), step, cut, plain);
+        k += one_if_above(entries, Place(p), step, cut, plain);
         i += 1;
     }
     paste(a, k, t, n - k);
@@ -147,13 +148,21 @@ fn rotate(a: &mut [u32], t: &mut [u32], h: usize)
     paste(a, 0, &t[h..n], m);
 }
 
-// Of the first h places and the others, the larger part first; how many those are.
-pub fn larger_first(a: &mut [u32], t: &mut [u32], h: usize) -> usize
+// Whether group two, the places from h on, leads group one, the first h: by their sizes, whatever their boxes.
+fn two_leads(a: &[u32], h: usize) -> bool
+    requires { ⌜ h ≤ length (now a) ⌝ }
+    ensures { λ r. ⌜ ((at : ℕ → BoxWords) → r ≡ twoLeads at (take h (now (a .entry))) (drop h (now (a .entry)))) ⌝ }
+{
+    h < a.len() - h
+}
+
+// Of the first h places and the others, the group that leads first; how many it has.
+pub fn leader_first(a: &mut [u32], t: &mut [u32], h: usize) -> usize
     requires { ⌜ (length (now a) ≤ length (now t)) × (h ≤ length (now a)) ⌝ }
-    ensures { λ r. ⌜ LargerFirst h (now (a .entry)) (now (a .exit)) r ⌝ }
+    ensures { λ r. ⌜ ((at : ℕ → BoxWords) → LeaderFirst at h (now (a .entry)) (now (a .exit)) r) ⌝ }
 {
     let m = a.len() - h;
-    if h < m {
+    if two_leads(a, h) {
         rotate(a, t, h);
         return m;
     }

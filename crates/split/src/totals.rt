@@ -1,16 +1,16 @@
 // The fold of a node's boxes and their sum, in one pass over the boxes. The fold is by value: that takes no branch and no copy
 // of a word, and tells each word but a NaN's.
 use crate::boxes::Corners;
-use crate::boxes::Place;
+use base::numbers::Place;
 use math::vec3::Vec3;
 ghost use mathlib.Core.Path.{_≡_};
 ghost use lib.ListN.{length};
 ghost use Rattle.split.specs.Boxes.{boxAt};
 ghost use Rattle.split.specs.Folding.{startBox, foldBox};
-ghost use Rattle.split.specs.Lists.{Within};
+ghost use Rattle.base.specs.Lists.{Within};
 ghost use Rattle.split.specs.Plain.{Plain};
 ghost use Rattle.split.specs.Rule.{origin, sumFrom};
-ghost use Rattle.split.specs.Totals.{totalsOf, totalStep};
+ghost use Rattle.split.specs.steps.Totals.{totalsOf, totalStep};
 
 // The least min and the greatest max, and the sum of min and max. The sum stands between the two, since side by side they are
 // compiled into one vector of four, which takes longer than two of two.
@@ -23,7 +23,7 @@ pub struct Totals {
 fn no_totals() -> Totals
     ensures { λ r. ⌜ r ≡ totalsOf startBox origin ⌝ }
 {
-    let b = crate::fold::start_box();
+    let b = crate::boxes::start_box();
     Totals {
         low: math::words3::values(b.min),
         high: math::words3::values(b.max),
@@ -46,14 +46,18 @@ fn total_step(t: Totals, b: Corners) -> Totals
 }
 
 // The totals of the places' boxes, in their order.
-pub fn total(boxes: &[u32], places: &[u32], plain: bool) -> Totals
-    requires { ⌜ (Within (length (now boxes)) (now places)) × (Plain plain (now boxes)) ⌝ }
-    ensures { λ r. ⌜ r ≡ totalsOf (foldBox (boxAt (now (boxes .entry))) (now (places .entry))) (sumFrom (boxAt (now (boxes .entry))) origin (now (places .entry))) ⌝ }
+pub fn total(entries: &[u32], places: &[u32], plain: bool) -> Totals
+    requires { ⌜ (Within (length (now entries)) (now places)) × (Plain plain (now entries)) ⌝ }
+    ensures { λ r. ⌜ r ≡ totalsOf (foldBox (boxAt (now (entries .entry))) (now (places .entry)))
+        (sumFrom (boxAt (now (entries .entry))) origin (now (places .entry))) ⌝ }
 {
     let mut t = no_totals();
     let mut i = 0;
     while i < places.len() {
-        t = total_step(t, crate::boxes::corners_at(boxes, Place(places[i]), plain));
+        t = total_step(
+            t,
+            crate::boxes::corners_at(entries, Place(places[i]), plain),
+        );
         i += 1;
     }
     t

@@ -8,7 +8,9 @@ use lib.Dec.{T}
 use lib.Ieee.{le}
 use lib.ListN.{length}
 use lib.Signed.{leZ}
-use Rattle.math.specs.Axes.{Axis, alongX, alongY, alongZ, coordinate}
+use Rattle.math.specs.declared.axis.Axis.{Axis}
+use Rattle.math.specs.declared.axis.Axis.the-variants.{X, Y, Z}
+use Rattle.math.specs.Axes.{coordinate}
 use Rattle.math.specs.declared.aabb.Aabb.{Aabb}
 use Rattle.records.specs.Axis.{unitOn, Measured}
 use Rattle.records.specs.declared.BoundVertex.{BoundVertex}
@@ -41,7 +43,7 @@ unfolding meets
 meets-by-axis q min max h =
     let on : (a : Axis) → overlap leZ (unitOn a (q .min)) (unitOn a (q .max)) (unitOn a min) (unitOn a max) ≡ true =
     λ a. overlaps leZ (unitOn a (q .min)) (unitOn a (q .max)) (unitOn a min) (unitOn a max) (h a .0) (h a .1) in
-    ap₂ _&&_ (on alongX) (ap₂ _&&_ (on alongY) (on alongZ))
+    ap₂ _&&_ (on X) (ap₂ _&&_ (on Y) (on Z))
 
 -- an item that meets the query does so on each axis
 abbrev onAxis : BoxWords → Aabb → Axis → Bool
@@ -49,9 +51,9 @@ onAxis b query a = overlap le (low a b) (high a b) (coordinate a (query .min)) (
 
 meets-on : (b : BoxWords) (query : Aabb) → meetsBox (boxValues b) query ≡ true → (a : Axis) → onAxis b query a ≡ true
 unfolding meetsBox
-meets-on b query e alongX = two-hold (onAxis b query alongX) (onAxis b query alongY && onAxis b query alongZ) e .0
-meets-on b query e alongY = two-hold (onAxis b query alongY) (onAxis b query alongZ) (two-hold (onAxis b query alongX) (onAxis b query alongY && onAxis b query alongZ) e .1) .0
-meets-on b query e alongZ = two-hold (onAxis b query alongY) (onAxis b query alongZ) (two-hold (onAxis b query alongX) (onAxis b query alongY && onAxis b query alongZ) e .1) .1
+meets-on b query e X = two-hold (onAxis b query X) (onAxis b query Y && onAxis b query Z) e .0
+meets-on b query e Y = two-hold (onAxis b query Y) (onAxis b query Z) (two-hold (onAxis b query X) (onAxis b query Y && onAxis b query Z) e .1) .0
+meets-on b query e Z = two-hold (onAxis b query Y) (onAxis b query Z) (two-hold (onAxis b query X) (onAxis b query Y && onAxis b query Z) e .1) .1
 
 holds : (b : Bool) → b ≡ true → T b
 holds b e = subst T (sym e) tt

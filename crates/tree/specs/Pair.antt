@@ -7,7 +7,7 @@ use mathlib.Core.Path.{_≡_}
 use lib.Dec.{T, eqb}
 use lib.Ieee.{Float, le, eq}
 use lib.ListN.{length}
-use Rattle.math.specs.Axes.{Axis}
+use Rattle.math.specs.declared.axis.Axis.{Axis}
 use Rattle.math.specs.Stored.{valuesOf}
 use Rattle.math.specs.declared.aabb.Aabb.{Aabb}
 use Rattle.records.specs.Axis.{extent, largest, smallest, nought}

@@ -10,11 +10,12 @@ use borrow.Author.Tests.{ltb-false}
 use Rattle.math.specs.declared.aabb.Aabb.{Aabb}
 use Rattle.math.specs.declared.vec3.Vec3.{Vec3}
 use Rattle.walk.specs.Boxes.{queryOf}
-use Rattle.walk.specs.Step.{Lent, lentOf, started, Steppable, Stepped}
-use Rattle.walk.specs.Walks.{walkFrom, statusNumber, numberOf, countsOf, ended, tooMany, tooShort, walkOf, Outcome, Promise}
+use Rattle.walk.specs.Step.{Lent, lentOf, started}
+use Rattle.walk.specs.Walks.{walkFrom, statusNumber, numberOf, countsOf, unread, ended, tooMany, tooShort, walkOf, Outcome, Promise}
+use Rattle.walk.specs.steps.Contracts.{Steppable, Ran}
 use Rattle.walk.specs.declared.boxes.Query.{Query}
 use Rattle.walk.specs.declared.core.Walk.{Walk}
-use Rattle.walk.specs.declared.core.Walk.the-variants.{TooMany, BufferTooShort}
+use Rattle.walk.specs.declared.core.WalkRefusal.the-variants.{TooMany, BufferTooShort}
 use Rattle.walk.specs.declared.state.Sizes.{Sizes}
 use Rattle.walk.specs.declared.state.WalkState.{WalkState}
 use Rattle.walk.proofs.Handing.{sets-over}
@@ -36,23 +37,31 @@ few z e =
       items = ltb-false 65535 (z .items) (either-no-second (ltb 65535 (z .trees)) (ltb 65535 (z .items)) r);
     }
 
-pub steppable : (z : Sizes) (nodes trees out : List ℕ) → tooMany z ≡ false → tooShort z (length nodes) (length trees) (length out) ≡ false → Steppable z nodes trees out started
-steppable z nodes trees out e s =
+pub record Ready (z : Sizes) (nodes trees out : List ℕ) : Type 0 where
+  pub fits : Steppable z nodes trees started
+  pub places : z .items ≤ length out
+
+pub ready : (z : Sizes) (nodes trees out : List ℕ) → tooMany z ≡ false → tooShort z (length nodes) (length trees) (length out) ≡ false
+    → Ready z nodes trees out
+ready z nodes trees out e s =
     let f = few z e in
     let n : _ = ltb (length nodes) (16 * z .nodes) in
     let t : _ = ltb (length trees) (16 * z .trees) in
     let o : _ = ltb (length out) (z .items) in
     let r = either-no-second n (t || o) s in
     record {
-      few-nodes = f .nodes;
-      few-trees = f .trees;
-      few-items = f .items;
-      node-bytes = ltb-false (length nodes) (16 * z .nodes) (either-no-first n (t || o) s);
-      tree-bytes = ltb-false (length trees) (16 * z .trees) (either-no-first t o r);
+      fits =
+          record {
+            few-nodes = f .nodes;
+            few-trees = f .trees;
+            few-items = f .items;
+            node-bytes = ltb-false (length nodes) (16 * z .nodes) (either-no-first n (t || o) s);
+            tree-bytes = ltb-false (length trees) (16 * z .trees) (either-no-first t o r);
+            last-in = omega arith;
+            handed-in = omega arith;
+            few-reads = lit< tt;
+          };
       places = ltb-false (length out) (z .items) (either-no-second t o r);
-      last-in = omega arith;
-      handed-in = omega arith;
-      few-reads = lit< tt;
     }
 
 -- ---- the answers
@@ -63,14 +72,15 @@ module _ (box : Aabb) (cen inverse : Vec3) (z : Sizes) (nodes trees out : List �
   abbrev lent : Lent
   lent = lentOf (queryOf box cen inverse) z nodes trees
 
-  pub many : tooMany z ≡ true → Promise outcome out out TooMany
+  pub many : (r : Walk) → tooMany z ≡ true → numberOf r ≡ unread TooMany .number → countsOf r ≡ unread TooMany .counts → Promise outcome out out r
   unfolding walkOf
-  many e = rw e (record { number-is = refl; counts-are = refl; output-is = refl })
+  many r e n c = rw e (record { number-is = n; counts-are = c; output-is = refl })
 
   module _ (e : tooMany z ≡ false) where
-    pub short : tooShort z (length nodes) (length trees) (length out) ≡ true → Promise outcome out out BufferTooShort
+    pub short : (r : Walk) → tooShort z (length nodes) (length trees) (length out) ≡ true
+        → numberOf r ≡ unread BufferTooShort .number → countsOf r ≡ unread BufferTooShort .counts → Promise outcome out out r
     unfolding walkOf
-    short s = rw (e, s) (record { number-is = refl; counts-are = refl; output-is = refl })
+    short r s n c = rw (e, s) (record { number-is = n; counts-are = c; output-is = refl })
 
     module _ (s : tooShort z (length nodes) (length trees) (length out) ≡ false) where
       outcome-is : outcome ≡ ended (walkFrom lent started)
@@ -79,13 +89,14 @@ module _ (box : Aabb) (cen inverse : Vec3) (z : Sizes) (nodes trees out : List �
 
       fits-out : length (walkFrom lent started .given) ≤ length out
       fits-out =
-          let p = steppable z nodes trees out e s in
-          omega (arith, walk-handed lent started, walk-within lent started (p .handed-in), p .places)
+          let p = ready z nodes trees out e s in
+          omega (arith, walk-handed lent started, walk-within lent started (p .fits .handed-in), p .places)
 
-      pub answered : (q : Query) (u : WalkState) (out′ : List ℕ) (r : Walk) → q ≡ queryOf box cen inverse → Stepped (walkFrom (lentOf q z nodes trees) started) 0 out out′ u
+      pub answered : (q : Query) (u : WalkState) (out′ : List ℕ) (r : Walk) → q ≡ queryOf box cen inverse
+          → Ran (walkFrom (lentOf q z nodes trees) started) out out′ u
           → numberOf r ≡ statusNumber (u .status) → countsOf r ≡ record { reads = u .reads; handed = u .handed } → Promise outcome out out′ r
       answered q u out′ r k p a b =
-          let w = subst (λ (q : Query). Stepped (walkFrom (lentOf q z nodes trees) started) 0 out out′ u) k p in
+          let w = subst (λ (q : Query). Ran (walkFrom (lentOf q z nodes trees) started) out out′ u) k p in
           rw outcome-is
           (record {
             number-is = a ∙ ap (λ (u : WalkState). statusNumber (u .status)) (w .state-is);

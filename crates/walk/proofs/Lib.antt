@@ -4,7 +4,6 @@ pub mod Examples
 mod Given
 pub mod Handing
 pub mod OutcomeLaws
-pub mod QueryLaws
 mod Running
 mod Shorts
 pub mod StepLaws

@@ -11,7 +11,8 @@ use Rattle.walk.specs.Boxes.{meets}
 use Rattle.walk.specs.Refusals.{whole, badRange, badNode}
 use Rattle.walk.specs.Step.{Lent, quiet, refused, entering, passing, atTree, strideOf, onward, handing, atNode, more, going, stepOf}
 use Rattle.walk.specs.declared.boxes.Query.{Query}
-use Rattle.walk.specs.declared.state.Status.the-variants.{Going, TreeRange, NodeRecord}
+use Rattle.walk.specs.declared.core.WalkRefusal.the-variants.{TreeRange, NodeRecord}
+use Rattle.walk.specs.declared.state.Status.the-variants.{Going}
 use Rattle.walk.specs.declared.state.WalkState.{WalkState}
 use Rattle.walk.proofs.Truth.{both-first, both-second, either-second}
 

@@ -14,9 +14,10 @@ use Rattle.records.specs.declared.BvhNode.{BvhNode}
 use Rattle.records.specs.declared.BvhTree.{BvhTree}
 use Rattle.walk.specs.Boxes.{meets}
 use Rattle.walk.specs.Refusals.{whole, badRange, badNode}
-use Rattle.walk.specs.Step.{Lent, Turn, quiet, going, refused, entering, passing, atTree, strideOf, onward, handedOf, handing, atNode, more, stepOf, pickStatus}
+use Rattle.walk.specs.Step.{Lent, Turn, quiet, going, refused, entering, passing, atTree, strideOf, onward, handedOf, handing, atNode, more, stepOf}
 use Rattle.walk.specs.Walks.{joined, readOn, rangeNodes, allowance, left, walkFrom}
-use Rattle.walk.specs.declared.state.Status.the-variants.{Going, TreeRange, NodeRecord, TooManyHandedOut}
+use Rattle.walk.specs.declared.core.WalkRefusal.the-variants.{TreeRange, NodeRecord, TooManyHandedOut}
+use Rattle.walk.specs.declared.state.Status.the-variants.{Going, Stopped}
 use Rattle.walk.specs.declared.state.WalkState.{WalkState}
 use Rattle.walk.proofs.Truth.{either-no-first, either-no-second}
 use Rattle.walk.proofs.Handing.{length-up}
@@ -105,7 +106,7 @@ allowance-next l k n h =
     let e : n - k ≡ suc (n - (k + 1)) = omega arith in
     ap (allowance l k) e
 
-stopped-or-on : (b : Bool) (x : ℕ) → cond (going (pickStatus b TooManyHandedOut Going)) x 0 ≤ x
+stopped-or-on : (b : Bool) (x : ℕ) → cond (going (cond b (Stopped TooManyHandedOut) Going)) x 0 ≤ x
 stopped-or-on true x = omega arith
 stopped-or-on false x = omega arith
 

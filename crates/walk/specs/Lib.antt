@@ -1,4 +1,5 @@
 pub mod Boxes
 pub mod Refusals
 pub mod Step
+pub mod steps
 pub mod Walks

@@ -1,20 +1,19 @@
 -- One reading of a record: what state it leads to, and which positions it hands out. Definitions only.
-use Prim.Native.Nat.{ℕ, zero, suc, _+_, _-_, _*_, _≤_, _<_, min, max}
+use Prim.Native.Nat.{ℕ, zero, suc, _+_, _-_, _*_, min, max}
 use mathlib.Core.Bool.{Bool, true, false, cond, _&&_, _||_}
 use mathlib.Core.List.{List, [], _∷_}
-use mathlib.Core.Path.{_≡_}
 use lib.Dec.{ltb, eqb}
-use lib.ListN.{length}
-use lib.Seq.{sets}
 use Rattle.records.specs.Records.{nodeAt, treeAt}
 use Rattle.records.specs.declared.BvhNode.{BvhNode}
 use Rattle.records.specs.declared.BvhTree.{BvhTree}
 use Rattle.walk.specs.Boxes.{meets}
 use Rattle.walk.specs.Refusals.{whole, badRange, badNode}
 use Rattle.walk.specs.declared.boxes.Query.{Query}
+use Rattle.walk.specs.declared.core.WalkRefusal.{WalkRefusal}
+use Rattle.walk.specs.declared.core.WalkRefusal.the-variants.{TreeRange, NodeRecord, TooManyHandedOut}
 use Rattle.walk.specs.declared.state.Sizes.{Sizes}
 use Rattle.walk.specs.declared.state.Status.{Status}
-use Rattle.walk.specs.declared.state.Status.the-variants.{Going, TreeRange, NodeRecord, TooManyHandedOut}
+use Rattle.walk.specs.declared.state.Status.the-variants.{Going, Stopped}
 use Rattle.walk.specs.declared.state.WalkState.{WalkState}
 
 -- What a walk goes over: the quantised query, the counts, and the bytes of the records.
@@ -32,23 +31,9 @@ pub record Turn : Type 0 where
   pub state : WalkState
   pub given : List ℕ
 
-abbrev pub pickState : Bool → WalkState → WalkState → WalkState
-pickState true a b = a
-pickState false a b = b
-
-abbrev pub pickTurn : Bool → Turn → Turn → Turn
-pickTurn true a b = a
-pickTurn false a b = b
-
-abbrev pub pickStatus : Bool → Status → Status → Status
-pickStatus true a b = a
-pickStatus false a b = b
-
 abbrev pub going : Status → Bool
 going Going = true
-going TreeRange = false
-going NodeRecord = false
-going TooManyHandedOut = false
+going (Stopped r) = false
 
 -- Before the first tree record: no range, nothing read, nothing handed out.
 abbrev pub started : WalkState
@@ -64,9 +49,9 @@ abbrev pub quiet : WalkState → Turn
 quiet s = record { state = s; given = [] }
 
 -- 01: the refused record is one of those read
-abbrev pub refused : Status → WalkState → WalkState
+abbrev pub refused : WalkRefusal → WalkState → WalkState
 refused r s =
-    record { tree = s .tree; at = s .at; last = s .last; reads = s .reads + 1; handed = s .handed; status = r }
+    record { tree = s .tree; at = s .at; last = s .last; reads = s .reads + 1; handed = s .handed; status = Stopped r }
 
 -- 01: if the tree meets, at = first
 abbrev pub entering : BvhTree → WalkState → WalkState
@@ -88,8 +73,8 @@ passing s =
 -- Rule W3 (01, Walk: take trees in order, reading each as one record), of the tree record t, with refusal 9 (rule W4).
 unfoldable pub atTree : Query → ℕ → BvhTree → WalkState → WalkState
 atTree q nodes t s =
-    pickState (badRange nodes t) (refused TreeRange s)
-    (pickState (meets q (t .min) (t .max)) (entering t s) (passing s))
+    cond (badRange nodes t) (refused TreeRange s)
+    (cond (meets q (t .min) (t .max)) (entering t s) (passing s))
 
 -- Rule W5 (01: next is at+1, but max(id,1) further on for a count-0 node that misses).
 abbrev pub strideOf : BvhNode → ℕ
@@ -103,6 +88,10 @@ onward by s =
 abbrev pub handedOf : ℕ → BvhNode → WalkState → ℕ
 handedOf items n s = min (whole (n .«item_count»)) (items - s .handed)
 
+-- 11 at the first that would pass the item count: what is behind a leaf of `count` positions, of which `room` are left
+abbrev pub leafStatus : ℕ → ℕ → Status
+leafStatus room count = cond (ltb room count) (Stopped TooManyHandedOut) Going
+
 -- Rule W7 (01: a meeting leaf hands out its positions one by one, 11 at the first that would pass the item count). A count-0 node has none.
 unfoldable pub handing : ℕ → BvhNode → WalkState → Turn
 handing items n s =
@@ -115,7 +104,7 @@ handing items n s =
             last = s .last;
             reads = s .reads + 1;
             handed = s .handed + m;
-            status = pickStatus (ltb (items - s .handed) (whole (n .«item_count»))) TooManyHandedOut Going;
+            status = leafStatus (items - s .handed) (whole (n .«item_count»));
           };
       given = upFrom (whole (n .«item_id»)) m;
     }
@@ -123,8 +112,8 @@ handing items n s =
 -- Rule W5 (01: while at < last read that node), of the node record n, with refusal 10 (rule W6).
 unfoldable pub atNode : Query → ℕ → BvhNode → WalkState → Turn
 atNode q items n s =
-    pickTurn (badNode (s .at) (s .last) items n) (quiet (refused NodeRecord s))
-    (pickTurn (meets q (n .min) (n .max)) (handing items n s) (quiet (onward (strideOf n) s)))
+    cond (badNode (s .at) (s .last) items n) (quiet (refused NodeRecord s))
+    (cond (meets q (n .min) (n .max)) (handing items n s) (quiet (onward (strideOf n) s)))
 
 -- Whether a record is left to read.
 abbrev pub more : ℕ → WalkState → Bool
@@ -133,23 +122,6 @@ more trees s = going (s .status) && (ltb (s .at) (s .last) || ltb (s .tree) tree
 -- Rules W3 and W5: one record is read, a node of the range where one is left, else the next tree.
 unfoldable pub stepOf : Lent → WalkState → Turn
 stepOf l s =
-    pickTurn (ltb (s .at) (s .last))
+    cond (ltb (s .at) (s .last))
     (atNode (l .query) (l .sizes .items) (nodeAt (l .nodes) (16 * s .at)) s)
     (quiet (atTree (l .query) (l .sizes .nodes) (treeAt (l .trees) (16 * s .tree)) s))
-
--- What a step asks: counts within 01's limits, buffers that hold them, a state within the counts.
-pub record Steppable (z : Sizes) (nodes trees out : List ℕ) (s : WalkState) : Type 0 where
-  pub few-nodes : z .nodes ≤ 65535
-  pub few-trees : z .trees ≤ 65535
-  pub few-items : z .items ≤ 65535
-  pub node-bytes : 16 * z .nodes ≤ length nodes
-  pub tree-bytes : 16 * z .trees ≤ length trees
-  pub places : z .items ≤ length out
-  pub last-in : s .last ≤ z .nodes
-  pub handed-in : s .handed ≤ z .items
-  pub few-reads : s .reads < 4294967296
-
--- What it leaves: the turn's state, and its positions stored behind those handed out before.
-pub record Stepped (t : Turn) (handed : ℕ) (out out′ : List ℕ) (r : WalkState) : Type 0 where
-  pub state-is : r ≡ t .state
-  pub output-is : out′ ≡ sets out handed (t .given)

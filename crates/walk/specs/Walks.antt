@@ -13,10 +13,12 @@ use Rattle.walk.specs.Refusals.{whole, badRange}
 use Rattle.walk.specs.Step.{Lent, lentOf, Turn, quiet, going, started, more, stepOf}
 use Rattle.walk.specs.declared.core.Counts.{Counts}
 use Rattle.walk.specs.declared.core.Walk.{Walk}
-use Rattle.walk.specs.declared.core.Walk.the-variants as W
+use Rattle.walk.specs.declared.core.Walk.the-variants.{Walked, Refused}
+use Rattle.walk.specs.declared.core.WalkRefusal.{WalkRefusal}
+use Rattle.walk.specs.declared.core.WalkRefusal.the-variants.{TooMany, BufferTooShort, TreeRange, NodeRecord, TooManyHandedOut}
 use Rattle.walk.specs.declared.state.Sizes.{Sizes}
 use Rattle.walk.specs.declared.state.Status.{Status}
-use Rattle.walk.specs.declared.state.Status.the-variants.{Going, TreeRange, NodeRecord, TooManyHandedOut}
+use Rattle.walk.specs.declared.state.Status.the-variants.{Going, Stopped}
 use Rattle.walk.specs.declared.state.WalkState.{WalkState}
 
 -- one turn, and the next
@@ -51,30 +53,28 @@ left l s = cond (going (s .status)) (s .last - s .at + allowance l (s .tree) (l 
 unfoldable pub walkFrom : Lent → WalkState → Turn
 walkFrom l s = readOn (left l s) l s
 
--- 01's number of each status, 0 for none
+-- 01's number of each refusal.
+abbrev pub refusalNumber : WalkRefusal → ℕ
+refusalNumber TooMany = 1
+refusalNumber BufferTooShort = 2
+refusalNumber TreeRange = 9
+refusalNumber NodeRecord = 10
+refusalNumber TooManyHandedOut = 11
+
+-- the number that a state ends with, 0 where nothing was refused
 abbrev pub statusNumber : Status → ℕ
 statusNumber Going = 0
-statusNumber TreeRange = 9
-statusNumber NodeRecord = 10
-statusNumber TooManyHandedOut = 11
+statusNumber (Stopped r) = refusalNumber r
 
 -- 01's number of each answer, 0 where it is not refused
 abbrev pub numberOf : Walk → ℕ
-numberOf (W.Walked c) = 0
-numberOf W.TooMany = 1
-numberOf W.BufferTooShort = 2
-numberOf (W.TreeRange c) = 9
-numberOf (W.NodeRecord c) = 10
-numberOf (W.TooManyHandedOut c) = 11
+numberOf (Walked c) = 0
+numberOf (Refused r c) = refusalNumber r
 
--- the counts that an answer carries; before reading there are none
+-- the counts that an answer carries; before reading they are 0
 abbrev pub countsOf : Walk → Counts
-countsOf (W.Walked c) = c
-countsOf W.TooMany = record { reads = 0; handed = 0 }
-countsOf W.BufferTooShort = record { reads = 0; handed = 0 }
-countsOf (W.TreeRange c) = c
-countsOf (W.NodeRecord c) = c
-countsOf (W.TooManyHandedOut c) = c
+countsOf (Walked c) = c
+countsOf (Refused r c) = c
 
 -- What a walk comes to: 01's number, the counts, and the positions handed out.
 pub record Outcome : Type 0 where
@@ -82,13 +82,9 @@ pub record Outcome : Type 0 where
   pub counts : Counts
   pub given : List ℕ
 
-abbrev pub pickOutcome : Bool → Outcome → Outcome → Outcome
-pickOutcome true a b = a
-pickOutcome false a b = b
-
 -- a refusal before reading
-abbrev pub unread : ℕ → Outcome
-unread n = record { number = n; counts = record { reads = 0; handed = 0 }; given = [] }
+abbrev pub unread : WalkRefusal → Outcome
+unread r = record { number = refusalNumber r; counts = record { reads = 0; handed = 0 }; given = [] }
 
 -- the end of the reading
 abbrev pub ended : Turn → Outcome
@@ -110,8 +106,8 @@ tooShort z nodes trees out = ltb nodes (16 * z .nodes) || (ltb trees (16 * z .tr
 -- Rule W9 (01, What each operation turns down, Walk): 1, then 2, then as records are read. `room` is the output's length.
 unfoldable pub walkOf : Aabb → Vec3 → Vec3 → Sizes → List ℕ → List ℕ → ℕ → Outcome
 walkOf box cen inverse z nodes trees room =
-    pickOutcome (tooMany z) (unread 1)
-    (pickOutcome (tooShort z (length nodes) (length trees) room) (unread 2)
+    cond (tooMany z) (unread TooMany)
+    (cond (tooShort z (length nodes) (length trees) room) (unread BufferTooShort)
     (ended (walkFrom (lentOf (queryOf box cen inverse) z nodes trees) started)))
 
 -- Rule W9 (01: the output keeps what was handed out before, the rest is unchanged): what an answer r and the output at exit promise.

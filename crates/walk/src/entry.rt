@@ -13,11 +13,11 @@ pub fn walk_bvh(
     cen: Vec3,
     inverse: Vec3,
     sizes: Sizes,
-    nodes: &[u8],
-    trees: &[u8],
+    node_bytes: &[u8],
+    tree_bytes: &[u8],
     out: &mut [u16],
 ) -> Walk
-    ensures { λ r. ⌜ Promise (walkOf query cen inverse sizes (now (nodes .entry)) (now (trees .entry)) (length (now (out .entry)))) (now (out .entry)) (now (out .exit)) r ⌝ }
+    ensures { λ r. ⌜ Promise (walkOf query cen inverse sizes (now («node_bytes» .entry)) (now («tree_bytes» .entry)) (length (now (out .entry)))) (now (out .entry)) (now (out .exit)) r ⌝ }
 {
-    NodeReader::new(nodes).walk(query, cen, inverse, sizes, trees, out)
+    NodeReader::new(node_bytes).walk(query, cen, inverse, sizes, tree_bytes, out)
 }

@@ -1,4 +1,4 @@
-// The node records as the bytes that were lent: each function takes the struct apart and calls one on the slice and the number.
+// The node records as the bytes that were lent: the struct is taken apart, and a function on the slice and the number is called.
 use crate::core::Walk;
 use crate::state::Sizes;
 use math::aabb::Aabb;
@@ -11,29 +11,22 @@ ghost use Rattle.records.specs.Records.{nodeAt};
 ghost use Rattle.walk.specs.Walks.{walkOf, Promise};
 
 pub struct NodeReader<'a> {
-    pub nodes: &'a [u8],
+    pub node_bytes: &'a [u8],
 }
 
 // The node record of the number given.
-pub fn node_numbered(nodes: &[u8], number: usize) -> BvhNode
-    requires { ⌜ 16 * number + 16 ≤ length (now nodes) ⌝ }
-    ensures { λ r. ⌜ r ≡ nodeAt (now (nodes .entry)) (16 * number) ⌝ }
+pub fn node_numbered(node_bytes: &[u8], number: usize) -> BvhNode
+    requires { ⌜ 16 * number + 16 ≤ length (now «node_bytes») ⌝ }
+    ensures { λ r. ⌜ r ≡ nodeAt (now («node_bytes» .entry)) (16 * number) ⌝ }
 {
-    records::node_at(nodes, 16 * number)
+    records::node_at(node_bytes, 16 * number)
 }
 
 impl<'a> NodeReader<'a> {
-    pub fn new(nodes: &'a [u8]) -> NodeReader<'a>
-        ensures { λ r. ⌜ r .nodes ≡ nodes .entry ⌝ }
+    pub fn new(node_bytes: &'a [u8]) -> NodeReader<'a>
+        ensures { λ r. ⌜ r .«node_bytes» ≡ «node_bytes» .entry ⌝ }
     {
-        NodeReader { nodes }
-    }
-
-    pub fn node(self, number: usize) -> BvhNode
-        requires { ⌜ 16 * number + 16 ≤ length (now (self .nodes)) ⌝ }
-        ensures { λ n. ⌜ n ≡ nodeAt (now (self .entry .nodes)) (16 * number) ⌝ }
-    {
-        node_numbered(self.nodes, number)
+        NodeReader { node_bytes }
     }
 
     // The walk over these nodes.
@@ -43,11 +36,11 @@ impl<'a> NodeReader<'a> {
         cen: Vec3,
         inverse: Vec3,
         sizes: Sizes,
-        trees: &[u8],
+        tree_bytes: &[u8],
         out: &mut [u16],
     ) -> Walk
-        ensures { λ r. ⌜ Promise (walkOf query cen inverse sizes (now (self .entry .nodes)) (now (trees .entry)) (length (now (out .entry)))) (now (out .entry)) (now (out .exit)) r ⌝ }
+        ensures { λ r. ⌜ Promise (walkOf query cen inverse sizes (now (self .entry .«node_bytes»)) (now («tree_bytes» .entry)) (length (now (out .entry)))) (now (out .entry)) (now (out .exit)) r ⌝ }
     {
-        crate::core::walk_core(query, cen, inverse, sizes, self.nodes, trees, out)
+        crate::core::walk_core(query, cen, inverse, sizes, self.node_bytes, tree_bytes, out)
     }
 }

@@ -1,14 +1,16 @@
-// A walk's state goes in by value and comes back one record further, with its read count.
+// A walk's state goes in by value and comes back one record further, with its read count and the run of positions that it hands out.
+// A step stores nothing.
 use crate::boxes::Query;
+use crate::core::WalkRefusal;
+use base::numbers::Position;
 use records::BvhNode;
 ghost use mathlib.Core.Path.{_≡_};
-ghost use mathlib.Core.Bool.{true, false};
-ghost use Prim.Native.Nat.{_+_, _*_, _≤_, _<_};
-ghost use lib.Dec.{ltb};
+ghost use mathlib.Core.Bool.{true};
+ghost use Prim.Native.Nat.{_+_, _*_, _≤_, _<_, min};
 ghost use lib.ListN.{length};
-ghost use lib.Seq.{sets};
 ghost use Rattle.records.specs.Records.{nodeAt, treeAt};
-ghost use Rattle.walk.specs.Step.{lentOf, upFrom, refused, atTree, strideOf, handing, started, atNode, more, stepOf, Steppable, Stepped};
+ghost use Rattle.walk.specs.Step.{lentOf, quiet, refused, atTree, strideOf, leafStatus, handing, started, atNode, more, stepOf};
+ghost use Rattle.walk.specs.steps.Contracts.{Steppable, Stepped};
 
 // How many nodes, trees and items there are.
 pub struct Sizes {
@@ -20,9 +22,7 @@ pub struct Sizes {
 // Whether the walk goes on, or what it was refused for.
 pub enum Status {
     Going,
-    TreeRange,
-    NodeRecord,
-    TooManyHandedOut,
+    Stopped(WalkRefusal),
 }
 
 // The next tree to read, the next node and one past the last of the range, and the counts so far.
@@ -35,15 +35,38 @@ pub struct WalkState {
     pub status: Status,
 }
 
-// The n positions from id on, stored from place `from` on.
-fn hand_out(out: &mut [u16], from: usize, id: usize, n: usize)
-    requires { ⌜ (from + n ≤ length (now out)) × (id + n ≤ 65536) ⌝ }
-    ensures { λ _. ⌜ now (out .exit) ≡ sets (now (out .entry)) from (upFrom id n) ⌝ }
+// One record further: the state, and the run of `count` positions from `first` on that is handed out.
+pub struct Step {
+    pub state: WalkState,
+    pub first: Position,
+    pub count: usize,
+}
+
+// A step that hands out nothing.
+fn quiet(state: WalkState) -> Step
+    ensures { λ r. ⌜ Stepped (quiet state) r ⌝ }
 {
-    let mut i = 0;
-    while i < n {
-        out[from + i] = (id + i) as u16;
-        i += 1;
+    Step {
+        state,
+        first: Position(0),
+        count: 0,
+    }
+}
+
+fn lesser(a: usize, b: usize) -> usize
+    ensures { λ r. ⌜ r ≡ min a b ⌝ }
+{
+    if b < a { b } else { a }
+}
+
+// Refusal 11, where a node has more positions than there is room for.
+fn leaf_status(room: usize, count: usize) -> Status
+    ensures { λ r. ⌜ r ≡ leafStatus room count ⌝ }
+{
+    if room < count {
+        Status::Stopped(WalkRefusal::TooManyHandedOut)
+    } else {
+        Status::Going
     }
 }
 
@@ -80,16 +103,14 @@ impl WalkState {
         let status = self.status;
         match status {
             Status::Going => self.at < self.last || self.tree < trees,
-            Status::TreeRange => false,
-            Status::NodeRecord => false,
-            Status::TooManyHandedOut => false,
+            Status::Stopped(_) => false,
         }
     }
 
     // The walk stops at the record just read, which counts.
-    fn refused(self, status: Status) -> WalkState
+    fn refused(self, why: WalkRefusal) -> WalkState
         requires { ⌜ self .reads < 4294967296 ⌝ }
-        ensures { λ r. ⌜ r ≡ refused status self ⌝ }
+        ensures { λ r. ⌜ r ≡ refused why self ⌝ }
     {
         let read = self.reads + 1;
         WalkState {
@@ -98,18 +119,18 @@ impl WalkState {
             last: self.last,
             reads: read,
             handed: self.handed,
-            status,
+            status: Status::Stopped(why),
         }
     }
 
     // The next tree record is read.
-    fn at_tree(self, query: Query, nodes: usize, trees: &[u8]) -> WalkState
-        requires { ⌜ (16 * self .tree + 16 ≤ length (now trees)) × (self .tree < 65536) × (self .reads < 4294967296) ⌝ }
-        ensures { λ r. ⌜ r ≡ atTree query nodes (treeAt (now (trees .entry)) (16 * self .tree)) self ⌝ }
+    fn at_tree(self, query: Query, nodes: usize, tree_bytes: &[u8]) -> WalkState
+        requires { ⌜ (16 * self .tree + 16 ≤ length (now «tree_bytes»)) × (self .tree < 65536) × (self .reads < 4294967296) ⌝ }
+        ensures { λ r. ⌜ r ≡ atTree query nodes (treeAt (now («tree_bytes» .entry)) (16 * self .tree)) self ⌝ }
     {
-        let t = records::tree_at(trees, 16 * self.tree);
+        let t = records::tree_at(tree_bytes, 16 * self.tree);
         if crate::refusals::range_refused(t, nodes) {
-            return self.refused(Status::TreeRange);
+            return self.refused(WalkRefusal::TreeRange);
         }
         if crate::boxes::meets(query, t.min, t.max) {
             let first = crate::refusals::number(t.node_index1);
@@ -135,74 +156,62 @@ impl WalkState {
     }
 
     // A node that meets hands out its positions, as many as the item count leaves.
-    fn hand_over(self, n: BvhNode, items: usize, out: &mut [u16]) -> WalkState
-        requires { ⌜ (self .handed ≤ items) × (items ≤ length (now out)) × (self .at < 65536) × (self .reads < 4294967296) ⌝ }
-        ensures { λ r. ⌜ Stepped (handing items n self) (self .handed) (now (out .entry)) (now (out .exit)) r ⌝ }
+    fn hand_over(self, n: BvhNode, items: usize) -> Step
+        requires { ⌜ (self .handed ≤ items) × (items ≤ 65535) × (self .at < 65536) × (self .reads < 4294967296) ⌝ }
+        ensures { λ r. ⌜ Stepped (handing items n self) r ⌝ }
     {
         let id = crate::refusals::number(n.item_id);
         let count = crate::refusals::number(n.item_count);
         let room = items - self.handed;
-        if room < count {
-            hand_out(out, self.handed, id, room);
-            return WalkState {
+        let m = lesser(count, room);
+        let status = leaf_status(room, count);
+        Step {
+            state: WalkState {
                 tree: self.tree,
                 at: self.at + 1,
                 last: self.last,
                 reads: self.reads + 1,
-                handed: self.handed + room,
-                status: Status::TooManyHandedOut,
-            };
-        }
-        hand_out(out, self.handed, id, count);
-        WalkState {
-            tree: self.tree,
-            at: self.at + 1,
-            last: self.last,
-            reads: self.reads + 1,
-            handed: self.handed + count,
-            status: Status::Going,
+                handed: self.handed + m,
+                status,
+            },
+            first: Position(id as u32),
+            count: m,
         }
     }
 
     // The next node record of the range is read.
-    fn at_node(self, query: Query, items: usize, nodes: &[u8], out: &mut [u16]) -> WalkState
-        requires { ⌜ (16 * self .at + 16 ≤ length (now nodes)) × (self .handed ≤ items) × (items ≤ length (now out)) × (self .at < 65535) × (self .reads < 4294967296) ⌝ }
-        ensures { λ r. ⌜ Stepped (atNode query items (nodeAt (now (nodes .entry)) (16 * self .at)) self) (self .handed) (now (out .entry)) (now (out .exit)) r ⌝ }
+    fn at_node(self, query: Query, items: usize, node_bytes: &[u8]) -> Step
+        requires { ⌜ (16 * self .at + 16 ≤ length (now «node_bytes»)) × (self .at < 65535) × (self .reads < 4294967296) ⌝ }
+        requires { ⌜ (self .handed ≤ items) × (items ≤ 65535) ⌝ }
+        ensures { λ r. ⌜ Stepped (atNode query items (nodeAt (now («node_bytes» .entry)) (16 * self .at)) self) r ⌝ }
     {
-        let n = records::node_at(nodes, 16 * self.at);
+        let n = crate::reader::node_numbered(node_bytes, self.at);
         if crate::refusals::node_refused(n, self.at, self.last, items) {
-            return self.refused(Status::NodeRecord);
+            return quiet(self.refused(WalkRefusal::NodeRecord));
         }
         if crate::boxes::meets(query, n.min, n.max) {
-            return self.hand_over(n, items, out);
+            return self.hand_over(n, items);
         }
-        WalkState {
+        quiet(WalkState {
             tree: self.tree,
             at: self.at + stride(n),
             last: self.last,
             reads: self.reads + 1,
             handed: self.handed,
             status: Status::Going,
-        }
+        })
     }
 
     // One record is read.
-    pub fn step(
-        self,
-        query: Query,
-        sizes: Sizes,
-        nodes: &[u8],
-        trees: &[u8],
-        out: &mut [u16],
-    ) -> WalkState
-        requires { ⌜ Steppable sizes (now nodes) (now trees) (now out) self ⌝ }
+    pub fn step(self, query: Query, sizes: Sizes, node_bytes: &[u8], tree_bytes: &[u8]) -> Step
+        requires { ⌜ Steppable sizes (now «node_bytes») (now «tree_bytes») self ⌝ }
         requires { ⌜ more (sizes .trees) self ≡ true ⌝ }
-        ensures { λ r. ⌜ Stepped (stepOf (lentOf query sizes (now (nodes .entry)) (now (trees .entry))) self) (self .handed) (now (out .entry)) (now (out .exit)) r ⌝ }
+        ensures { λ r. ⌜ Stepped (stepOf (lentOf query sizes (now («node_bytes» .entry)) (now («tree_bytes» .entry))) self) r ⌝ }
     {
         if self.at < self.last {
-            self.at_node(query, sizes.items, nodes, out)
+            self.at_node(query, sizes.items, node_bytes)
         } else {
-            self.at_tree(query, sizes.nodes, trees)
+            quiet(self.at_tree(query, sizes.nodes, tree_bytes))
         }
     }
 }

@@ -35,14 +35,13 @@ static void put_entry(uint32_t *words, const float box[6]) {
     memcpy(words + 1, box, 6 * sizeof *box);
 }
 
-/* The work buffer is one; its parts lie one behind the other. */
+/* The work buffer is one; its parts lie one behind the other, the entries first. */
 static bounds_build_answer build(uint32_t threshold, uint8_t *nodes, uint8_t *trees, uint16_t *order, uint32_t *work,
-                                 size_t boxes_len) {
+                                 size_t rows_len) {
     enum { N = ENTRIES };
-    uint32_t *places = work + 7 * N, *temp = places + N, *stack = temp + N, *first = stack + N;
-    uint32_t *count = first + ROWS, *boxes = count + ROWS;
-    return bounds_build_bvh(N, threshold, nodes, 16 * ROWS, trees, 16 * ROWS, order, N, work, 7 * N, places, N,
-                            temp, N, stack, N, first, ROWS, count, ROWS, boxes, boxes_len);
+    uint32_t *places = work + 7 * N, *temp = places + N, *stack = temp + N, *rows = stack + N;
+    return bounds_build_bvh(N, threshold, work, 7 * N, nodes, 16 * ROWS, trees, 16 * ROWS, order, N, places, N, temp, N,
+                            stack, N, rows, rows_len);
 }
 
 int main(void) {
@@ -55,11 +54,11 @@ int main(void) {
     put_entry(work, left);
     put_entry(work + 7, right);
 
-    number("threshold 0: refused", build(0, nodes, trees, order, work, 6 * ROWS).refusal, 3);
-    number("work buffer short: refused", build(1, nodes, trees, order, work, 6 * ROWS - 1).refusal, 2);
+    number("threshold 0: refused", build(0, nodes, trees, order, work, 8 * ROWS).refusal, 3);
+    number("work buffer short: refused", build(1, nodes, trees, order, work, 8 * ROWS - 1).refusal, 2);
     number("no byte of it written", nodes[12], 0);
 
-    bounds_build_answer built = build(1, nodes, trees, order, work, 6 * ROWS);
+    bounds_build_answer built = build(1, nodes, trees, order, work, 8 * ROWS);
     number("refusal", built.refusal, 0);
     number("nodes", (int64_t)built.nodes, 3);
     number("capacity", (int64_t)built.capacity, 5);

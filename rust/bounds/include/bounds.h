@@ -99,28 +99,27 @@ typedef struct {
     uint32_t trees_count;
 } bounds_bvh;
 
-/* Words of the work buffer for so many entries: 26 each, and 8. */
+/* Words of entries, places, temp, stack and rows together for so many entries: 26 each, and 8. */
 uint64_t bounds_work_len(uint32_t entries);
 
 /* Builds the tree of the present ones among n entries, a leaf of which holds at most `threshold`. Refusals 1 (over
- * 32,767 entries), 3 (outside 1 to 32,767), 2, 4 (over 32,767 nodes), looked for in this order. Written are:
- *   nodes   16 bytes a node; 16 * (2n + 1) are needed
- *   trees   16 bytes a range of nodes; 16 * (2n + 1) are needed
- *   order   the places of the items; n are needed
- * and what lies behind stays as it was. The work buffer is cut into seven parts, of which the first holds the entries:
- *   words   7n: for each entry a mark (0 for absent), then min and max in words
- *   places  n
- *   temp    n
- *   stack   n
- *   first   2n + 1
- *   count   2n + 1
- *   boxes   6 * (2n + 1) */
-bounds_build_answer bounds_build_bvh(size_t entries, uint32_t threshold,
-                                     uint8_t *nodes, size_t nodes_len, uint8_t *trees, size_t trees_len,
-                                     uint16_t *order, size_t order_len, uint32_t *words, size_t words_len,
+ * 32,767 entries), 3 (outside 1 to 32,767), 2, 4 (over 32,767 nodes), looked for in this order. Read are:
+ *   entries     for each a mark (0 for absent), then min and max in words; 7n are needed
+ * Written are:
+ *   node_bytes  16 bytes a node; 16 * (2n + 1) are needed
+ *   tree_bytes  16 bytes a range of nodes; 16 * (2n + 1) are needed
+ *   order       the places of the items; n are needed
+ * and what lies behind stays as it was. What these hold does not matter, nor what they hold afterwards:
+ *   places      n are needed
+ *   temp        n
+ *   stack       n
+ *   rows        8 * (2n + 1) */
+bounds_build_answer bounds_build_bvh(size_t entry_count, uint32_t threshold,
+                                     const uint32_t *entries, size_t entries_len,
+                                     uint8_t *node_bytes, size_t node_bytes_len,
+                                     uint8_t *tree_bytes, size_t tree_bytes_len, uint16_t *order, size_t order_len,
                                      uint32_t *places, size_t places_len, uint32_t *temp, size_t temp_len,
-                                     uint32_t *stack, size_t stack_len, uint32_t *first, size_t first_len,
-                                     uint32_t *count, size_t count_len, uint32_t *boxes, size_t boxes_len);
+                                     uint32_t *stack, size_t stack_len, uint32_t *rows, size_t rows_len);
 
 /* Writes the 128 bytes of a tree's header. Refusals 1 (over 65,535 trees), 2 (under 128 bytes), in this order. */
 uint32_t bounds_tree_header(uint8_t *out, size_t out_len, bounds_bvh bvh);
@@ -139,8 +138,8 @@ typedef struct {
 
 /* Hands out the positions of the items in leaves whose boxes meet the query. Any bytes will do. */
 bounds_walk_answer bounds_walk(bounds_aabb query, bounds_vec3 cen, bounds_vec3 inverse,
-                               const uint8_t *nodes, size_t nodes_len, size_t node_count,
-                               const uint8_t *trees, size_t trees_len, size_t tree_count, size_t item_count,
+                               const uint8_t *node_bytes, size_t node_bytes_len, size_t node_count,
+                               const uint8_t *tree_bytes, size_t tree_bytes_len, size_t tree_count, size_t item_count,
                                uint16_t *out, size_t out_len);
 
 #ifdef __cplusplus

@@ -141,19 +141,19 @@ pub fn work_len(entries: usize) -> usize {
 pub fn build_bvh(
     items: &[Option<BvhItem>],
     threshold: u32,
-    nodes: &mut [u8],
-    trees: &mut [u8],
+    node_bytes: &mut [u8],
+    tree_bytes: &mut [u8],
     order: &mut [u16],
     work: &mut [u32],
 ) -> Result<BuiltTree, Refusal> {
-    let parts = cut(work, items.len());
+    let [entries, work @ ..] = cut(work, items.len());
     if items.len() <= ENTRIES {
         // A part that is too short is refused before it is read.
-        for (words, item) in parts[0].chunks_exact_mut(7).zip(items) {
+        for (words, item) in entries.chunks_exact_mut(7).zip(items) {
             words.copy_from_slice(&item.map_or([0; 7], entry));
         }
     }
-    let answer = ffi::build_bvh(items.len(), threshold, nodes, trees, order, parts);
+    let answer = ffi::build_bvh(items.len(), threshold, entries, node_bytes, tree_bytes, order, work);
     match Refusal::from_number(answer.refusal) {
         Some(refusal) => Err(refusal),
         None => Ok(BuiltTree {
@@ -202,12 +202,12 @@ pub fn tree_header(out: &mut [u8], bvh: &Bvh) -> Result<(), Refusal> {
     }
 }
 
-/// The work buffer in the library's seven parts: words, places, temp, stack, first, count, boxes. Each gets its length
-/// or what is left, and the last all that is left, so that the library finds a part too short where the whole is.
-fn cut(work: &mut [u32], entries: usize) -> [&mut [u32]; 7] {
+/// The work buffer in five parts: the entries, and what the library works in: places, temp, stack, rows. Each gets its
+/// length or what is left, and the last all that is left: the library then finds a part too short where the whole is.
+fn cut(work: &mut [u32], entries: usize) -> [&mut [u32]; 5] {
     let n = entries.min(ENTRIES);
     let mut rest = work;
-    [7 * n, n, n, n, 2 * n + 1, 2 * n + 1, usize::MAX].map(|len| {
+    [7 * n, n, n, n, usize::MAX].map(|len| {
         let whole = std::mem::take(&mut rest);
         let part;
         (part, rest) = whole.split_at_mut(len.min(whole.len()));

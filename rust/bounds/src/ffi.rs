@@ -120,39 +120,35 @@ unsafe extern "C" {
 
     // Memory is reached, and only through each pointer and the length behind it: called below, with slices.
     fn bounds_build_bvh(
-        entries: usize,
+        entry_count: usize,
         threshold: u32,
-        nodes: *mut u8,
-        nodes_len: usize,
-        trees: *mut u8,
-        trees_len: usize,
+        entries: *const u32,
+        entries_len: usize,
+        node_bytes: *mut u8,
+        node_bytes_len: usize,
+        tree_bytes: *mut u8,
+        tree_bytes_len: usize,
         order: *mut u16,
         order_len: usize,
-        words: *mut u32,
-        words_len: usize,
         places: *mut u32,
         places_len: usize,
         temp: *mut u32,
         temp_len: usize,
         stack: *mut u32,
         stack_len: usize,
-        first: *mut u32,
-        first_len: usize,
-        count: *mut u32,
-        count_len: usize,
-        boxes: *mut u32,
-        boxes_len: usize,
+        rows: *mut u32,
+        rows_len: usize,
     ) -> BuildAnswer;
     fn bounds_tree_header(out: *mut u8, out_len: usize, bvh: Bvh) -> u32;
     fn bounds_walk(
         query: Aabb,
         cen: Vec3,
         inverse: Vec3,
-        nodes: *const u8,
-        nodes_len: usize,
+        node_bytes: *const u8,
+        node_bytes_len: usize,
         node_count: usize,
-        trees: *const u8,
-        trees_len: usize,
+        tree_bytes: *const u8,
+        tree_bytes_len: usize,
         tree_count: usize,
         item_count: usize,
         out: *mut u16,
@@ -160,42 +156,39 @@ unsafe extern "C" {
     ) -> WalkAnswer;
 }
 
-/// `bounds_build_bvh`; the work buffer is lent in its seven parts.
+/// `bounds_build_bvh`; what it works in is lent in four parts: places, temp, stack and rows.
 pub fn build_bvh(
-    entries: usize,
+    entry_count: usize,
     threshold: u32,
-    nodes: &mut [u8],
-    trees: &mut [u8],
+    entries: &[u32],
+    node_bytes: &mut [u8],
+    tree_bytes: &mut [u8],
     order: &mut [u16],
-    [words, places, temp, stack, first, count, boxes]: [&mut [u32]; 7],
+    [places, temp, stack, rows]: [&mut [u32]; 4],
 ) -> BuildAnswer {
-    // SAFETY: each pointer comes from a slice and goes with that slice's length, all its cells are initialised, and no
-    // two slices overlap, being exclusive borrows. Entries and threshold may be any number: the library reads entries
-    // only where it found the slices long enough for them.
+    // SAFETY: each pointer comes from a slice and goes with that slice's length, and all its cells are initialised. The
+    // entries are only read; the others, being exclusive borrows, overlap neither them nor one another. Count and
+    // threshold may be any number: the library reads entries only where it found the slices long enough for them.
     unsafe {
         bounds_build_bvh(
-            entries,
+            entry_count,
             threshold,
-            nodes.as_mut_ptr(),
-            nodes.len(),
-            trees.as_mut_ptr(),
-            trees.len(),
+            entries.as_ptr(),
+            entries.len(),
+            node_bytes.as_mut_ptr(),
+            node_bytes.len(),
+            tree_bytes.as_mut_ptr(),
+            tree_bytes.len(),
             order.as_mut_ptr(),
             order.len(),
-            words.as_mut_ptr(),
-            words.len(),
             places.as_mut_ptr(),
             places.len(),
             temp.as_mut_ptr(),
             temp.len(),
             stack.as_mut_ptr(),
             stack.len(),
-            first.as_mut_ptr(),
-            first.len(),
-            count.as_mut_ptr(),
-            count.len(),
-            boxes.as_mut_ptr(),
-            boxes.len(),
+            rows.as_mut_ptr(),
+            rows.len(),
         )
     }
 }
@@ -208,7 +201,7 @@ pub fn tree_header(out: &mut [u8], bvh: Bvh) -> u32 {
 
 /// `bounds_walk`.
 pub fn walk(query: Aabb, cen: Vec3, inverse: Vec3, records: &Records, out: &mut [u16]) -> WalkAnswer {
-    let &Records { nodes, nodes_count, trees, trees_count, items_count } = records;
+    let &Records { node_bytes, nodes_count, tree_bytes, trees_count, items_count } = records;
     // SAFETY: each pointer comes from a slice and goes with that slice's length; the output, an exclusive borrow,
     // overlaps neither of the others, which are only read. Counts and floats may be any: the library reads records only
     // where it found the slices long enough for them.
@@ -217,11 +210,11 @@ pub fn walk(query: Aabb, cen: Vec3, inverse: Vec3, records: &Records, out: &mut 
             query,
             cen,
             inverse,
-            nodes.as_ptr(),
-            nodes.len(),
+            node_bytes.as_ptr(),
+            node_bytes.len(),
             nodes_count,
-            trees.as_ptr(),
-            trees.len(),
+            tree_bytes.as_ptr(),
+            tree_bytes.len(),
             trees_count,
             items_count,
             out.as_mut_ptr(),
@@ -248,11 +241,11 @@ mod tests {
     use super::*;
 
     const ENTRIES: usize = 3;
-    const PARTS: [usize; 7] =
-        [7 * ENTRIES, ENTRIES, ENTRIES, ENTRIES, 2 * ENTRIES + 1, 2 * ENTRIES + 1, 6 * (2 * ENTRIES + 1)];
+    /// Entries, places, temp, stack, rows.
+    const PARTS: [usize; 5] = [7 * ENTRIES, ENTRIES, ENTRIES, ENTRIES, 8 * (2 * ENTRIES + 1)];
 
     /// Boxes 2i to 2i + 1 on each axis; any mark but 0 says present.
-    fn words() -> Vec<u32> {
+    fn entries() -> Vec<u32> {
         let entry = |i: usize| {
             let (low, high) = ((2.0 * i as f32).to_bits(), (2.0 * i as f32 + 1.0).to_bits());
             [[1, 0x8000_0000, u32::MAX][i], low, low, low, high, high, high]
@@ -260,13 +253,13 @@ mod tests {
         (0..ENTRIES).flat_map(entry).collect()
     }
 
-    fn build(parts: [usize; 7]) -> (BuildAnswer, Vec<u8>) {
-        let mut lent = parts.map(|len| vec![0; len]);
-        let filled = words();
-        let len = lent[0].len().min(filled.len());
-        lent[0][..len].copy_from_slice(&filled[..len]);
+    fn build([entries_len, work @ ..]: [usize; 5]) -> (BuildAnswer, Vec<u8>) {
+        let mut entries = entries();
+        entries.resize(entries_len, 0);
+        let mut work = work.map(|len| vec![0; len]);
+        let work = work.each_mut().map(|part| &mut part[..]);
         let (mut nodes, mut trees, mut order) = (vec![7; 112], vec![7; 112], vec![7; ENTRIES]);
-        let built = build_bvh(ENTRIES, 1, &mut nodes, &mut trees, &mut order, lent.each_mut().map(|v| &mut v[..]));
+        let built = build_bvh(ENTRIES, 1, &entries, &mut nodes, &mut trees, &mut order, work);
         (built, nodes)
     }
 

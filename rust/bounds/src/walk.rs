@@ -7,7 +7,7 @@
 //! // A range of one leaf, with the items at positions 0 and 1, in a box from 0 to 10 on each axis.
 //! let record = |a: i16, b: i16| [0, 0, 0, 10, 10, 10, a, b].map(i16::to_le_bytes).concat();
 //! let (nodes, trees) = (record(0, 2), record(0, 1));
-//! let records = Records { nodes: &nodes, nodes_count: 1, trees: &trees, trees_count: 1, items_count: 2 };
+//! let records = Records { node_bytes: &nodes, nodes_count: 1, tree_bytes: &trees, trees_count: 1, items_count: 2 };
 //! let (center, inverse) = (Vec3::ZERO, Vec3::new(1.0, 1.0, 1.0));
 //! let mut out = [0; 2];
 //! let query = (Vec3::new(9.0, 9.0, 9.0), Vec3::new(20.0, 20.0, 20.0));
@@ -24,11 +24,11 @@ use std::fmt;
 #[derive(Clone, Copy, Debug)]
 pub struct Records<'a> {
     /// Node records, 16 bytes each, in preorder.
-    pub nodes: &'a [u8],
+    pub node_bytes: &'a [u8],
     /// Nodes, without the padding.
     pub nodes_count: usize,
     /// Tree records, 16 bytes each.
-    pub trees: &'a [u8],
+    pub tree_bytes: &'a [u8],
     /// Trees.
     pub trees_count: usize,
     /// Positions that leaves may name: the entries of the list at threshold 1, else the present items.

@@ -35,9 +35,9 @@ impl Reached {
 pub fn proved(walk: &Walk, out: &mut [u16]) -> Walked {
     let vec3 = |p: [f32; 3]| Vec3::new(p[0], p[1], p[2]);
     let records = proved::Records {
-        nodes: walk.nodes,
+        node_bytes: walk.nodes,
         nodes_count: walk.node_count,
-        trees: walk.trees,
+        tree_bytes: walk.trees,
         trees_count: walk.tree_count,
         items_count: walk.item_count,
     };

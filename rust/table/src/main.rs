@@ -1,15 +1,15 @@
 //! What the proved programs must print: worked out with Rust's own operators and casts, `boxes` and `pairs` by the
 //! reference.
 //!
-//!     table                    the table of hard cases       (crates/hardcases/stdout)
-//!     table --replay           some cases of each operation  (crates/replay/stdin)
-//!     table --count < CASES    those cases counted, with no mismatch  (crates/replay/stdout)
-//!     table --boxes FOLDER     inputs of `boxes`, as files there      (crates/boxes_cases/data, stdout)
-//!     table --pairs            lists built and walked                 (crates/pairs/stdout)
+//!     table < CASES            the table of hard cases, and the recorded cases counted  (crates/replay/stdin, stdout)
+//!     table --boxes FOLDER     inputs of `boxes`, as files there                        (crates/boxes_cases/data, stdout)
+//!     table --pairs            lists built and walked                                   (crates/pairs/stdout)
+//!
+//! The recorded cases are those of `compare --write-vectors`.
 mod boxes;
 mod cases;
+mod count;
 mod pairs;
-mod replay;
 mod source;
 mod table;
 
@@ -23,9 +23,10 @@ fn fail(why: &str) -> ! {
 fn main() -> io::Result<()> {
     let mut out = io::BufWriter::new(io::stdout().lock());
     match std::env::args().nth(1).as_deref() {
-        None => table::print(&mut out)?,
-        Some("--replay") => replay::print(&mut out)?,
-        Some("--count") => replay::count(io::stdin().lock(), &mut out)?,
+        None => {
+            table::print(&mut out)?;
+            count::print(io::stdin().lock(), &mut out)?;
+        }
         Some("--boxes") => match (std::env::args().nth(2), oracle::missing()) {
             (Some(folder), None) => boxes::print(&mut out, folder.as_ref())?,
             (None, _) => fail("--boxes needs a folder for the inputs"),
@@ -35,7 +36,7 @@ fn main() -> io::Result<()> {
             None => pairs::print(&mut out)?,
             Some(missing) => fail(missing),
         },
-        Some(other) => fail(&format!("unknown word {other}; give none, --replay, --count, --boxes or --pairs")),
+        Some(other) => fail(&format!("unknown word {other}; give none, --boxes or --pairs")),
     }
     out.flush()
 }

@@ -1,5 +1,5 @@
 //! What the program `pairs` prints, by the reference's records and the plain Rust walk over them. Lists and queries come
-//! from the formula of crates/pairing (draw, lists, queries).
+//! from the formula of crates/pairs (draw, lists, queries).
 use oracle::tree::{self, Built};
 use oracle::walk::{Walk, Walked};
 use oracle::{Aabb, Vec3};

@@ -6,18 +6,18 @@ use std::hint::black_box;
 use std::io::{self, Write};
 
 /// The float of a word. The compiler is not shown it, so that each step is taken by the machine.
-pub fn value(word: u32) -> f32 { f32::from_bits(black_box(word)) }
+fn value(word: u32) -> f32 { f32::from_bits(black_box(word)) }
 
 /// The word of a float that was computed: every NaN that arithmetic made is written as one.
-pub fn made(x: f32) -> u32 {
+fn made(x: f32) -> u32 {
     if x.is_nan() { 0x7fc00000 } else { x.to_bits() }
 }
 
-pub fn point(w: &[u32]) -> Vec3 { Vec3(value(w[0]), value(w[1]), value(w[2])) }
+fn point(w: &[u32]) -> Vec3 { Vec3(value(w[0]), value(w[1]), value(w[2])) }
 
-pub fn matrix(w: &[u32]) -> Mat4 { Mat4(std::array::from_fn(|i| value(w[i]))) }
+fn matrix(w: &[u32]) -> Mat4 { Mat4(std::array::from_fn(|i| value(w[i]))) }
 
-pub fn made3(v: Vec3) -> [u32; 3] { [made(v.0), made(v.1), made(v.2)] }
+fn made3(v: Vec3) -> [u32; 3] { [made(v.0), made(v.1), made(v.2)] }
 
 /// Each axis of two words by themselves.
 fn words3(a: [u32; 3], b: [u32; 3], f: fn(u32, u32) -> u32) -> [u32; 3] { [f(a[0], b[0]), f(a[1], b[1]), f(a[2], b[2])] }

@@ -14,7 +14,9 @@ ordering-number-requires : tie.Need-ordering-number-requires
 ordering-number-requires c κs = search needs
 
 returns : tie.Need-returns
-returns c = ordering-read (cmpOf (c .before .before .args .a) (c .before .before .args .b)) (c .ordering-number .ensures ∙ ap orderingNumber (c .before .cmp-f32 .ensures))
+returns c =
+    let a = c .before .before .args in
+    ordering-read (cmpOf (a .a) (a .b)) (c .ordering-number .ensures ∙ ap orderingNumber (c .before .cmp-f32 .ensures))
 
 pub bounds-cmp-f32-spec : {M : Type 1} → statement M
 bounds-cmp-f32-spec = tie.close (tie.spec cmp-f32-requires ordering-number-requires returns)

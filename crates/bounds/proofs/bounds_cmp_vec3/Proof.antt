@@ -14,7 +14,9 @@ ordering-number-requires : tie.Need-ordering-number-requires
 ordering-number-requires c κs = search needs
 
 returns : tie.Need-returns
-returns c = ordering-read (cmpVec3Of (c .before .before .args .a) (c .before .before .args .b)) (c .ordering-number .ensures ∙ ap orderingNumber (c .before .cmp-vec3 .ensures))
+returns c =
+    let a = c .before .before .args in
+    ordering-read (cmpVec3Of (a .a) (a .b)) (c .ordering-number .ensures ∙ ap orderingNumber (c .before .cmp-vec3 .ensures))
 
 pub bounds-cmp-vec3-spec : {M : Type 1} → statement M
 bounds-cmp-vec3-spec = tie.close (tie.spec cmp-vec3-requires ordering-number-requires returns)

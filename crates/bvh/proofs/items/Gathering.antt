@@ -6,8 +6,9 @@ use mathlib.Core.Path.{_≡_, refl, sym, ap, _∙_}
 use mathlib.Core.Bool.{Bool, true, false}
 use mathlib.Core.List.{List, [], _∷_, _++_, append-nil}
 use lib.ListN.{length, getD, take, set, length-set}
-use Rattle.split.specs.Lists.{oneIf}
-use Rattle.bvh.specs.Decode.{isMarked, marked, Gathered}
+use Rattle.base.specs.Lists.{oneIf}
+use Rattle.bvh.specs.Items.{isMarked, marked}
+use Rattle.bvh.specs.steps.Decode.{Gathered}
 use Rattle.bvh.proofs.MarkedLaws.{kept-if, marked-next}
 
 pub record Gathering (n : ℕ) (ws before places : List ℕ) (k p : ℕ) : Type 0 where

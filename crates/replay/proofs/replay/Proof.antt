@@ -5,55 +5,41 @@ use mathlib.Core.Path.{_≡_}
 use lib.ListN.{length}
 use Rattle.replay.proofs.replay.Statement.{statement}
 use Rattle.replay.proofs.replay.Tie as tie
-use Rattle.replay.proofs.replay.Reads as reads
-use Rattle.replay.proofs.replay.Lts as lts
-use Rattle.replay.proofs.after.Reads as after-reads
-use Rattle.replay.proofs.tally.finish.Reads as finish-reads
-use Rattle.replay.proofs.turn.Reads as turn-reads
 
 abbrev Inv-loop : tie.InvT-loop
-Inv-loop cases₀ misses₀ line₀ at₀ turns₀ cases misses line at turns = (at ≤ 256) × (length line ≡ 256) × (22 ≤ length cases) × (22 ≤ length misses) × (length cases ≡ length cases₀) × (length misses ≡ length misses₀)
+Inv-loop cases₀ misses₀ line₀ at₀ turns₀ cases misses line at turns =
+    (at ≤ 256) × (length line ≡ 256) × (22 ≤ length cases) × (22 ≤ length misses) × (length cases ≡ length cases₀) × (length misses ≡ length misses₀)
 
 abbrev μ-loop : tie.MeasureT-loop
 μ-loop cases₀ misses₀ line₀ at₀ turns₀ cases misses line at turns = turns
 
--- src/main.rt:43:5
 loop-holds : tie.Need-loop-holds Inv-loop μ-loop
 loop-holds c = search needs
 
--- src/main.rt:44:22
 slice-aggregate-turn : tie.Need-slice-aggregate-turn Inv-loop μ-loop
 slice-aggregate-turn c = search needs
 
--- src/main.rt:44:13
 turn-requires : tie.Need-turn-requires Inv-loop μ-loop
 turn-requires c κs = search needs
 
--- src/main.rt:46:9
 after-requires : tie.Need-after-requires Inv-loop μ-loop
 after-requires c κs = search needs
 
--- src/main.rt:43:5
 loop-less : tie.Need-loop-less Inv-loop μ-loop
 loop-less c = search needs
 
--- src/main.rt:43:5
 loop-again : tie.Need-loop-again Inv-loop μ-loop
 loop-again c = search needs
 
--- src/main.rt:48:5
 finish-requires : tie.Need-finish-requires Inv-loop μ-loop
 finish-requires c κs = search needs
 
--- src/main.rt:37:1
 same-length : tie.Need-same-length Inv-loop μ-loop
 same-length c = search needs
 
--- src/main.rt:37:1
 same-length-2 : tie.Need-same-length-2 Inv-loop μ-loop
 same-length-2 c = search needs
 
--- src/main.rt:37:1
 returns : tie.Need-returns Inv-loop μ-loop
 returns c = search needs
 

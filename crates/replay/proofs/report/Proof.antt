@@ -1,13 +1,7 @@
 -- `report` is safe and ends: i counts the operations up to 21.
 use Rattle.replay.proofs.report.Statement.{statement}
 use Rattle.replay.proofs.report.Tie as tie
-use Rattle.replay.proofs.report.Reads as reads
-use Rattle.replay.proofs.report.Lts as lts
-use Rattle.replay.proofs.print_operation.Reads as print-operation-reads
-use Rattle.replay.proofs.print_total.Reads as print-total-reads
-use Rattle.replay.proofs.tally.total.Reads as total-reads
 use Prim.Native.Nat.{_-_, _≤_}
-use native.Mathlib.Omega.{arith}
 use borrow.Author.Needs.{needs}
 
 abbrev Inv-loop : tie.InvT-loop
@@ -16,59 +10,45 @@ Inv-loop cases misses i₀ i = i ≤ 22
 abbrev μ-loop : tie.MeasureT-loop
 μ-loop cases misses i₀ i = 22 - i
 
--- src/main.rt:70:5
 loop-holds : tie.Need-loop-holds Inv-loop μ-loop
 loop-holds c = search needs
 
--- src/main.rt:71:28
 mul-print-operation : tie.Need-mul-print-operation Inv-loop μ-loop
 mul-print-operation c = search needs
 
--- src/main.rt:71:28
 shared-slice-read-print-operation : tie.Need-shared-slice-read-print-operation Inv-loop μ-loop
 shared-slice-read-print-operation c = search needs
 
--- src/main.rt:71:38
 mul-print-operation-2 : tie.Need-mul-print-operation-2 Inv-loop μ-loop
 mul-print-operation-2 c = search needs
 
--- src/main.rt:71:38
 shared-slice-read-print-operation-2 : tie.Need-shared-slice-read-print-operation-2 Inv-loop μ-loop
 shared-slice-read-print-operation-2 c = search needs
 
--- src/main.rt:71:9
 print-operation-requires : tie.Need-print-operation-requires Inv-loop μ-loop
 print-operation-requires c κs = search needs
 
--- src/main.rt:72:9
 add-i : tie.Need-add-i Inv-loop μ-loop
 add-i c = search needs
 
--- src/main.rt:70:5
 loop-less : tie.Need-loop-less Inv-loop μ-loop
 loop-less c = search needs
 
--- src/main.rt:70:5
 loop-again : tie.Need-loop-again Inv-loop μ-loop
 loop-again c = search needs
 
--- src/main.rt:74:17
 total-requires : tie.Need-total-requires Inv-loop μ-loop
 total-requires c κs = search needs
 
--- src/main.rt:74:38
 total-requires-2 : tie.Need-total-requires-2 Inv-loop μ-loop
 total-requires-2 c κs = search needs
 
--- src/main.rt:74:60
 shared-slice-read-print-total : tie.Need-shared-slice-read-print-total Inv-loop μ-loop
 shared-slice-read-print-total c = search needs
 
--- src/main.rt:74:5
 print-total-requires : tie.Need-print-total-requires Inv-loop μ-loop
 print-total-requires c κs = search needs
 
--- src/main.rt:66:1
 returns : tie.Need-returns Inv-loop μ-loop
 returns c = search needs
 

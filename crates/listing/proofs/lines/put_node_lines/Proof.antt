@@ -21,7 +21,9 @@ abbrev lineOf : List ℕ → ℕ → List ℕ
 lineOf bytes i = nodeLine i (nodeAt bytes (16 * i))
 
 loop-holds : tie.Need-loop-holds Inv-loop μ-loop
-loop-holds c = no-line (lineOf (c .before .before .args .nodes .now)) (c .before .before .args .out .now) (c .before .before .args .at) (c .before .before .args .count)
+loop-holds c =
+    let a = c .before .before .args in
+    no-line (lineOf (a .node-bytes .now)) (a .out .now) (a .at) (a .count)
 
 mul-node-at : tie.Need-mul-node-at Inv-loop μ-loop
 mul-node-at c = omega arith
@@ -30,7 +32,10 @@ node-at-requires : tie.Need-node-at-requires Inv-loop μ-loop
 node-at-requires c κs = omega arith
 
 put-node-line-requires : tie.Need-put-node-line-requires Inv-loop μ-loop
-put-node-line-requires c κs = (line-room (lineOf (c .before .before .before .before .before .before .args .nodes .now)) (c .before .before .before .loop .inv) (omega arith) (omega arith), omega arith)
+put-node-line-requires c κs =
+    let turn = c .before .before .before in
+    let records = turn .before .before .before .args .node-bytes .now in
+    (line-room (lineOf records) (turn .loop .inv) (omega arith) (omega arith), omega arith)
 
 add-i : tie.Need-add-i Inv-loop μ-loop
 add-i c = omega arith
@@ -42,7 +47,7 @@ loop-again : tie.Need-loop-again Inv-loop μ-loop
 loop-again c =
     let a = c .before .before .before .before .before .before .before .before .before .args in
     let l = c .before .before .before .before .before .before .loop in
-    let line = lineOf (a .nodes .now) in
+    let line = lineOf (a .node-bytes .now) in
     let e = c .before .before .before .node-at .ensures in
     line-next line (l .inv) (omega arith) (put-as (ap (nodeLine (l .i)) e) (omega arith) (c .before .before .put-node-line .ensures))
 
@@ -51,7 +56,7 @@ same-length c = c .before .loop .inv .same
 
 returns : tie.Need-returns Inv-loop μ-loop
 unfolding nodeLines
-returns c = all-lines (lineOf (c .before .before .before .before .args .nodes .now)) (c .before .loop .inv) (omega arith)
+returns c = all-lines (lineOf (c .before .before .before .before .args .node-bytes .now)) (c .before .loop .inv) (omega arith)
 
 pub put-node-lines-spec : {M : Type 1} → statement M
 put-node-lines-spec =

@@ -21,7 +21,9 @@ abbrev lineOf : List ℕ → ℕ → List ℕ
 lineOf bytes i = treeLine i (treeAt bytes (16 * i))
 
 loop-holds : tie.Need-loop-holds Inv-loop μ-loop
-loop-holds c = no-line (lineOf (c .before .before .args .trees .now)) (c .before .before .args .out .now) (c .before .before .args .at) (c .before .before .args .count)
+loop-holds c =
+    let a = c .before .before .args in
+    no-line (lineOf (a .tree-bytes .now)) (a .out .now) (a .at) (a .count)
 
 mul-tree-at : tie.Need-mul-tree-at Inv-loop μ-loop
 mul-tree-at c = omega arith
@@ -30,7 +32,10 @@ tree-at-requires : tie.Need-tree-at-requires Inv-loop μ-loop
 tree-at-requires c κs = omega arith
 
 put-tree-line-requires : tie.Need-put-tree-line-requires Inv-loop μ-loop
-put-tree-line-requires c κs = (line-room (lineOf (c .before .before .before .before .before .before .args .trees .now)) (c .before .before .before .loop .inv) (omega arith) (omega arith), omega arith)
+put-tree-line-requires c κs =
+    let turn = c .before .before .before in
+    let records = turn .before .before .before .args .tree-bytes .now in
+    (line-room (lineOf records) (turn .loop .inv) (omega arith) (omega arith), omega arith)
 
 add-i : tie.Need-add-i Inv-loop μ-loop
 add-i c = omega arith
@@ -42,7 +47,7 @@ loop-again : tie.Need-loop-again Inv-loop μ-loop
 loop-again c =
     let a = c .before .before .before .before .before .before .before .before .before .args in
     let l = c .before .before .before .before .before .before .loop in
-    let line = lineOf (a .trees .now) in
+    let line = lineOf (a .tree-bytes .now) in
     let e = c .before .before .before .tree-at .ensures in
     line-next line (l .inv) (omega arith) (put-as (ap (treeLine (l .i)) e) (omega arith) (c .before .before .put-tree-line .ensures))
 
@@ -51,7 +56,7 @@ same-length c = c .before .loop .inv .same
 
 returns : tie.Need-returns Inv-loop μ-loop
 unfolding treeLines
-returns c = all-lines (lineOf (c .before .before .before .before .args .trees .now)) (c .before .loop .inv) (omega arith)
+returns c = all-lines (lineOf (c .before .before .before .before .args .tree-bytes .now)) (c .before .loop .inv) (omega arith)
 
 pub put-tree-lines-spec : {M : Type 1} → statement M
 put-tree-lines-spec =

@@ -15,13 +15,19 @@ put-refusal-requires-2 : tie.Need-put-refusal-requires-2
 put-refusal-requires-2 c κs = search needs
 
 returns-2 : tie.Need-returns-2
-returns-2 c = whole-text (ragged (c .before .before .before .before .before .args .input .now) (omega arith) (c .before .before .if2 .taken)) (omega arith) (c .put-refusal2 .ensures)
+returns-2 c =
+    let tested = c .before .before in
+    let text = ragged (tested .before .before .before .args .input .now) (omega arith) (tested .if2 .taken) in
+    whole-text text (omega arith) (c .put-refusal2 .ensures)
 
 put-children-requires : tie.Need-put-children-requires
 put-children-requires c κs = search needs
 
 returns-3 : tie.Need-returns-3
-returns-3 c = whole-text (served (c .before .before .before .before .before .args .input .now) (omega arith) (c .before .before .if2 .left)) (omega arith) (c .put-children .ensures)
+returns-3 c =
+    let tested = c .before .before in
+    let text = served (tested .before .before .before .args .input .now) (omega arith) (tested .if2 .left) in
+    whole-text text (omega arith) (c .put-children .ensures)
 
 pub list-boxes-spec : {M : Type 1} → statement M
 list-boxes-spec =

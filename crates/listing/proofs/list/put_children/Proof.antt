@@ -16,7 +16,9 @@ start : tie.After-build-core → tie.Start
 start c = c .before .before .before .before .before .before .before .before .before .before .before .before .before .before .before .before
 
 -- What the build leaves, of which each later need knows.
-left : (c : tie.After-build-core) → Made (childrenOf (start c .args .input .now)) (c .build-core .result) (replicate 8208 0) (replicate 8208 0) (c .build-core .last .1 .1 .0) (c .build-core .last .1 .1 .1 .0)
+left : (c : tie.After-build-core)
+    → Made (childrenOf (start c .args .input .now)) (c .build-core .result) (replicate 8208 0) (replicate 8208 0)
+    (c .build-core .last .1 .1 .0) (c .build-core .last .1 .1 .1 .0)
 unfolding start
 left c =
     let input = start c .args .input .now in

@@ -15,11 +15,11 @@ use native.Mathlib.Omega.{arith}
 mul-at : tie.Need-mul-at
 mul-at c = search needs
 
-mul-words : tie.Need-mul-words
-mul-words c = search needs
+mul-entries : tie.Need-mul-entries
+mul-entries c = search needs
 
-slice-write-words : tie.Need-slice-write-words
-slice-write-words c = search needs
+slice-write-entries : tie.Need-slice-write-entries
+slice-write-entries c = search needs
 
 add-put-box : tie.Need-add-put-box
 add-put-box c = search needs
@@ -39,19 +39,20 @@ same-length c = c .before .before .put-box .kept .0 ∙ simp length-set
 returns : tie.Need-returns
 returns c =
     let a = c .before .before .before .before .before .before .before .args in
-    let words = a .words .now in
+    let entries = a .entries .now in
     let at = 7 * a .i in
     c .before .before .put-box .ensures
-    ∙ ap (λ (b : BoxWords). take (at + 1) (set words at 1) ++ (boxWords b ++ drop (at + 1 + 6) (set words at 1))) (c .before .before .before .child-box .ensures)
-    ∙ mark-then-box words (boxWords (childBox (a .bytes .now) (32 * a .i))) at 1 (omega arith)
+    ∙ ap (λ (b : BoxWords). take (at + 1) (set entries at 1) ++ (boxWords b ++ drop (at + 1 + 6) (set entries at 1)))
+    (c .before .before .before .child-box .ensures)
+    ∙ mark-then-box entries (boxWords (childBox (a .bytes .now) (32 * a .i))) at 1 (omega arith)
 
 pub put-child-spec : {M : Type 1} → statement M
 put-child-spec =
     tie.close
     (tie.spec
     mul-at
-    mul-words
-    slice-write-words
+    mul-entries
+    slice-write-entries
     add-put-box
     mul-child-box
     child-box-requires

@@ -6,13 +6,13 @@ use Rattle.listing.proofs.Children.{Children, no-child, child-next, all
 use native.Mathlib.Omega.{arith}
 
 abbrev Inv-loop : tie.InvT-loop
-Inv-loop words₀ bytes n i₀ words i = Children bytes words₀ words i n
+Inv-loop entries₀ bytes n i₀ entries i = Children bytes entries₀ entries i n
 
 abbrev μ-loop : tie.MeasureT-loop
-μ-loop words₀ bytes n i₀ words i = n - i
+μ-loop entries₀ bytes n i₀ entries i = n - i
 
 loop-holds : tie.Need-loop-holds Inv-loop μ-loop
-loop-holds c = no-child (c .before .before .args .bytes .now) (c .before .before .args .words .now) (c .before .before .args .n)
+loop-holds c = no-child (c .before .before .args .bytes .now) (c .before .before .args .entries .now) (c .before .before .args .n)
 
 put-child-requires : tie.Need-put-child-requires Inv-loop μ-loop
 put-child-requires c κs = (omega arith, omega arith)
@@ -27,7 +27,8 @@ loop-again : tie.Need-loop-again Inv-loop μ-loop
 loop-again c =
     let a = c .before .before .before .before .before .before .before .before .args in
     let l = c .before .before .before .before .before .loop in
-    child-next (a .bytes .now) (a .words .now) (l .words) _ (l .i) (a .n) (l .inv) (omega arith) (c .before .before .put-child .kept .0) (c .before .before .put-child .ensures)
+    let put = c .before .before .put-child in
+    child-next (a .bytes .now) (a .entries .now) (l .entries) _ (l .i) (a .n) (l .inv) (omega arith) (put .kept .0) (put .ensures)
 
 same-length : tie.Need-same-length Inv-loop μ-loop
 same-length c = c .before .loop .inv .same
@@ -36,7 +37,7 @@ returns : tie.Need-returns Inv-loop μ-loop
 returns c =
     let a = c .before .before .before .before .args in
     let l = c .before .loop in
-    all-children (a .bytes .now) (a .words .now) (l .words) (l .i) (a .n) (l .inv) (omega arith)
+    all-children (a .bytes .now) (a .entries .now) (l .entries) (l .i) (a .n) (l .inv) (omega arith)
 
 pub read-children-spec : {M : Type 1} → statement M
 read-children-spec =

@@ -21,7 +21,10 @@ same-length c = search needs
 
 returns : tie.Need-returns
 unfolding field
-returns c = put-as (ap (λ (z : ℤ). 32 ∷ signed z) (toZ-ofZ (c .before .before .before .before .before .before .before .before .before .fits .v))) (omega arith) (put-then (c .before .before .before .before .before .before .put-byte .ensures) (c .before .before .put-signed .ensures))
+returns c =
+    let space = c .before .before .before .before .before .before in
+    let value-is = toZ-ofZ (space .before .before .before .fits .v) in
+    put-as (ap (λ (z : ℤ). 32 ∷ signed z) value-is) (omega arith) (put-then (space .put-byte .ensures) (c .before .before .put-signed .ensures))
 
 pub put-field-spec : {M : Type 1} → statement M
 put-field-spec = tie.close (tie.spec put-byte-requires put-signed-requires same-length returns)

@@ -55,7 +55,8 @@ returns-2 c =
     let minus = digits .before .before .before .before in
     let low = minus .before .before .before in
     let s = low .before .before in
-    put-as (below-zero (s .args .v) _ (s .fits .v) (bits-are low) (omega arith)) (omega arith) (put-then (minus .put-byte .ensures) (digits .put-decimal2 .ensures))
+    put-as (below-zero (s .args .v) _ (s .fits .v) (bits-are low) (omega arith)) (omega arith)
+    (put-then (minus .put-byte .ensures) (digits .put-decimal2 .ensures))
 
 pub put-signed-spec : {M : Type 1} → statement M
 put-signed-spec =

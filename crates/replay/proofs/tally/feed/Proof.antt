@@ -5,53 +5,42 @@ use mathlib.Core.Path.{_≡_}
 use lib.ListN.{length as Len}
 use Rattle.replay.proofs.tally.feed.Statement.{statement}
 use Rattle.replay.proofs.tally.feed.Tie as tie
-use Rattle.replay.proofs.tally.feed.Reads as reads
-use Rattle.replay.proofs.tally.feed.Lts as lts
-use Rattle.replay.proofs.tally.step.Reads as step-reads
 
 abbrev Inv-loop : tie.InvT-loop
-Inv-loop text line₀ at cases₀ misses₀ length₀ i₀ line cases misses length i = (i ≤ Len text) × (length ≤ 256) × (256 ≤ Len line) × (22 ≤ Len cases) × (22 ≤ Len misses) × (Len line ≡ Len line₀) × (Len cases ≡ Len cases₀) × (Len misses ≡ Len misses₀)
+Inv-loop text line₀ at cases₀ misses₀ length₀ i₀ line cases misses length i =
+    (i ≤ Len text) × (length ≤ 256) × (256 ≤ Len line) × (22 ≤ Len cases) × (22 ≤ Len misses)
+    × (Len line ≡ Len line₀) × (Len cases ≡ Len cases₀) × (Len misses ≡ Len misses₀)
 
 abbrev μ-loop : tie.MeasureT-loop
 μ-loop text line₀ at cases₀ misses₀ length₀ i₀ line cases misses length i = Len text - i
 
--- src/tally.rt:52:5
 loop-holds : tie.Need-loop-holds Inv-loop μ-loop
 loop-holds c = search needs
 
--- src/tally.rt:53:37
 shared-slice-read-step : tie.Need-shared-slice-read-step Inv-loop μ-loop
 shared-slice-read-step c = search needs
 
--- src/tally.rt:53:9
 step-requires : tie.Need-step-requires Inv-loop μ-loop
 step-requires c κs = search needs
 
--- src/tally.rt:54:9
 add-i : tie.Need-add-i Inv-loop μ-loop
 add-i c = search needs
 
--- src/tally.rt:52:5
 loop-less : tie.Need-loop-less Inv-loop μ-loop
 loop-less c = search needs
 
--- src/tally.rt:52:5
 loop-again : tie.Need-loop-again Inv-loop μ-loop
 loop-again c = search needs
 
--- src/tally.rt:46:1
 same-length : tie.Need-same-length Inv-loop μ-loop
 same-length c = search needs
 
--- src/tally.rt:46:1
 same-length-2 : tie.Need-same-length-2 Inv-loop μ-loop
 same-length-2 c = search needs
 
--- src/tally.rt:46:1
 same-length-3 : tie.Need-same-length-3 Inv-loop μ-loop
 same-length-3 c = search needs
 
--- src/tally.rt:46:1
 returns : tie.Need-returns Inv-loop μ-loop
 returns c = search needs
 

@@ -2,7 +2,7 @@
 use borrow.Author.Needs.{needs}
 use Rattle.split.proofs.average.centre.Statement.{statement}
 use Rattle.split.proofs.average.centre.Tie as tie
-use mathlib.Core.Path.{_≡_, ap, _∙_}
+use mathlib.Core.Path.{ap, _∙_}
 use Rattle.math.specs.declared.vec3.Vec3.{Vec3}
 use Rattle.math.specs.Vec3s.{scaleOf}
 use Rattle.math.specs.Transform.{half}

@@ -1,9 +1,9 @@
 -- `boxes::all_numbers` meets its contract. The loop's invariant: no word that is passed exceeds `most`, but for its sign.
 use borrow.Author.Needs.{needs}
+use native.Mathlib.Omega.{arith}
 use Rattle.split.proofs.boxes.all_numbers.Statement.{statement}
 use Rattle.split.proofs.boxes.all_numbers.Tie as tie
 use Prim.Native.Nat.{ℕ, _+_, _-_, _%_, _≤_, _<_}
-use native.Mathlib.Omega.{arith}
 use native.Mathlib.Decide.{decLt}
 use mathlib.Core.List.{List}
 use mathlib.Core.Path.{_≡_, sym, subst}
@@ -32,10 +32,10 @@ all-passed ws most i p h a j = go (decLt j (length ws))
     go (no k) = subst Number (sym (List·getD-eq-default ws 0 (omega arith))) (omega arith)
 
 abbrev Inv-loop : tie.InvT-loop
-Inv-loop words most₀ i₀ most i = Passed words most i
+Inv-loop entries most₀ i₀ most i = Passed entries most i
 
 abbrev μ-loop : tie.MeasureT-loop
-μ-loop words most₀ i₀ most i = length words - i
+μ-loop entries most₀ i₀ most i = length entries - i
 
 loop-holds : tie.Need-loop-holds Inv-loop μ-loop
 loop-holds c = record { upto = omega arith; least = λ j h. omega arith }
@@ -58,13 +58,17 @@ loop-less c = omega arith
 loop-again : tie.Need-loop-again Inv-loop μ-loop
 loop-again c =
     let l = c .before .before .before .loop in
-    one-more (c .before .before .before .before .before .args .words .now) (l .most) (c .greater .result) (l .i) (l .inv) (c .before .before .loop-test .taken) (c .greater .ensures .0) (c .greater .ensures .1)
+    let g = c .before .before .before .before .before .args in
+    one-more (g .entries .now) (l .most) (c .greater .result) (l .i) (l .inv) (c .before .before .loop-test .taken)
+    (c .greater .ensures .0) (c .greater .ensures .1)
 
 returns : tie.Need-returns Inv-loop μ-loop
 returns c =
     let l = c .before .loop in
+    let g = c .before .before .before .args in
     record {
-      numbers = λ e. all-passed (c .before .before .before .args .words .now) (l .most) (l .i) (l .inv) (c .loop-test .left) (leb→le (l .most) 0x7f80_0000 (subst T (sym e) tt));
+      numbers =
+          λ e. all-passed (g .entries .now) (l .most) (l .i) (l .inv) (c .loop-test .left) (leb→le (l .most) 0x7f80_0000 (subst T (sym e) tt));
     }
 
 pub all-numbers-spec : {M : Type 1} → statement M

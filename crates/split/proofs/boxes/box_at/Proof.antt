@@ -1,94 +1,73 @@
 -- `boxes::box_at` meets its contract: six reads in a row, the max three words after the min.
-use Prim.Native.Nat.{_+_, _*_}
-use mathlib.Core.Path.{_≡_}
 use native.Mathlib.Omega.{arith}
 use borrow.Author.Needs.{needs}
 use Rattle.split.proofs.boxes.box_at.Statement.{statement}
 use Rattle.split.proofs.boxes.box_at.Tie as tie
 use Rattle.split.proofs.boxes.box_at.Reads as reads
 use Rattle.split.proofs.boxes.box_at.Lts as lts
+use Prim.Native.Nat.{_+_, _*_}
+use mathlib.Core.Path.{_≡_}
 
--- src/boxes.rt:23:19
 cast-at : tie.Need-cast-at
 cast-at c = search needs
 
--- src/boxes.rt:23:14
 mul-at : tie.Need-mul-at
 mul-at c = search needs
 
--- src/boxes.rt:23:14
 add-at : tie.Need-add-at
 add-at c = search needs
 
--- src/boxes.rt:26:16
 mul-t4 : tie.Need-mul-t4
 mul-t4 c = search needs
 
--- src/boxes.rt:26:16
 shared-slice-read-t7 : tie.Need-shared-slice-read-t7
 shared-slice-read-t7 c = search needs
 
--- src/boxes.rt:27:22
 add-t5 : tie.Need-add-t5
 add-t5 c = search needs
 
--- src/boxes.rt:27:16
 mul-t8 : tie.Need-mul-t8
 mul-t8 c = search needs
 
--- src/boxes.rt:27:16
 shared-slice-read-t10 : tie.Need-shared-slice-read-t10
 shared-slice-read-t10 c = search needs
 
--- src/boxes.rt:28:22
 add-t11 : tie.Need-add-t11
 add-t11 c = search needs
 
--- src/boxes.rt:28:16
 mul-t12 : tie.Need-mul-t12
 mul-t12 c = search needs
 
--- src/boxes.rt:28:16
 shared-slice-read-t14 : tie.Need-shared-slice-read-t14
 shared-slice-read-t14 c = search needs
 
--- src/boxes.rt:31:22
 add-t16 : tie.Need-add-t16
 add-t16 c = search needs
 
--- src/boxes.rt:31:16
 mul-t17 : tie.Need-mul-t17
 mul-t17 c = search needs
 
--- src/boxes.rt:31:16
 shared-slice-read-t19 : tie.Need-shared-slice-read-t19
 shared-slice-read-t19 c = search needs
 
--- src/boxes.rt:32:22
 add-t20 : tie.Need-add-t20
 add-t20 c = search needs
 
--- src/boxes.rt:32:16
 mul-t21 : tie.Need-mul-t21
 mul-t21 c = search needs
 
--- src/boxes.rt:32:16
 shared-slice-read-t23 : tie.Need-shared-slice-read-t23
 shared-slice-read-t23 c = search needs
 
--- src/boxes.rt:33:22
 add-t24 : tie.Need-add-t24
 add-t24 c = search needs
 
--- src/boxes.rt:33:16
 mul-t25 : tie.Need-mul-t25
 mul-t25 c = search needs
 
--- src/boxes.rt:33:16
 shared-slice-read-t27 : tie.Need-shared-slice-read-t27
 shared-slice-read-t27 c = search needs
 
--- src/boxes.rt:19:1
 returns : tie.Need-returns
 returns c =
     let p = c .before .before .before .before .before .before .before .args .place .0 in

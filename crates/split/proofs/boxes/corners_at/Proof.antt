@@ -3,7 +3,7 @@ use borrow.Author.Needs.{needs}
 use Rattle.split.proofs.boxes.corners_at.Statement.{statement}
 use Rattle.split.proofs.boxes.corners_at.Tie as tie
 use Prim.Native.Nat.{_+_, _*_}
-use mathlib.Core.Path.{_≡_, sym, subst, ap, _∙_}
+use mathlib.Core.Path.{sym, subst, ap, _∙_}
 use Rattle.math.specs.declared.words3.Words3.{Words3}
 use Rattle.math.specs.Stored.{valuesOf}
 use Rattle.split.specs.declared.boxes.BoxWords.{BoxWords}
@@ -19,13 +19,15 @@ values-requires : tie.Need-values-requires
 values-requires c κs =
     let g = c .before .before in
     let at = 7 * g .args .place .0 + 1 in
-    λ e. subst (λ (b : BoxWords). Numbers (b .min)) (sym (c .box-at .ensures)) (g .pre .1 .numbers e at, g .pre .1 .numbers e (at + 1), g .pre .1 .numbers e (at + 2))
+    let word = g .pre .1 .numbers in
+    λ e. subst (λ (b : BoxWords). Numbers (b .min)) (sym (c .box-at .ensures)) (word e at, word e (at + 1), word e (at + 2))
 
 values-requires-2 : tie.Need-values-requires-2
 values-requires-2 c κs =
     let g = c .before .before .before in
     let at = 7 * g .args .place .0 + 1 + 3 in
-    λ e. subst (λ (b : BoxWords). Numbers (b .max)) (sym (c .before .box-at .ensures)) (g .pre .1 .numbers e at, g .pre .1 .numbers e (at + 1), g .pre .1 .numbers e (at + 2))
+    let word = g .pre .1 .numbers in
+    λ e. subst (λ (b : BoxWords). Numbers (b .max)) (sym (c .before .box-at .ensures)) (word e at, word e (at + 1), word e (at + 2))
 
 returns : tie.Need-returns
 returns c =

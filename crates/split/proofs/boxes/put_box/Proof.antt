@@ -1,22 +1,19 @@
 -- `boxes::put_box` meets its contract: six stores in a row are one run of stores.
 use borrow.Author.Needs.{needs}
+use native.Mathlib.Omega.{arith}
 use Rattle.split.proofs.boxes.put_box.Statement.{statement}
 use Rattle.split.proofs.boxes.put_box.Tie as tie
-use Prim.Native.Nat.{ℕ, _+_, _≤_}
-use mathlib.Core.Path.{_≡_, _∙_}
-use mathlib.Core.List.{List, [], _∷_, _++_, append-assoc}
-use lib.ListN.{length, set, take, drop, length-set}
-use lib.Seq.{sets-eq}
+use Prim.Native.Nat.{ℕ, _+_}
+use mathlib.Core.Path.{_≡_}
+use mathlib.Core.List.{List, [], _∷_}
+use lib.ListN.{set, length-set}
+use lib.Seq.{sets}
 use native.Mathlib.Numerals.{towards-suc}
-use Rattle.split.specs.Boxes.{boxWords}
-use native.Mathlib.Omega.{arith}
 
-six-stores : (l : List ℕ) (at a b c d e f : ℕ) → at + 6 ≤ length l
+six-stores : (l : List ℕ) (at a b c d e f : ℕ)
     → set (set (set (set (set (set l at a) (at + 1) b) (at + 2) c) (at + 3) d) (at + 4) e) (at + 5) f
-    ≡ take at l ++ ((a ∷ b ∷ c ∷ d ∷ e ∷ f ∷ []) ++ drop (at + 6) l)
-six-stores l at a b c d e f h =
-    let vs : List ℕ = a ∷ b ∷ c ∷ d ∷ e ∷ f ∷ [] in
-    simp towards-suc (simp towards-suc at (sets-eq vs l at h ∙ append-assoc (take at l) vs (drop (at + 6) l)))
+    ≡ sets l at (a ∷ b ∷ c ∷ d ∷ e ∷ f ∷ [])
+six-stores l at a b c d e f = simp towards-suc
 
 mul-out : tie.Need-mul-out
 mul-out c = search needs
@@ -75,7 +72,7 @@ same-length c = simp length-set
 returns : tie.Need-returns
 returns c =
     let b = c .args .b in
-    six-stores (c .args .out .now) (c .args .at) (b .min .x) (b .min .y) (b .min .z) (b .max .x) (b .max .y) (b .max .z) (c .pre)
+    six-stores (c .args .out .now) (c .args .at) (b .min .x) (b .min .y) (b .min .z) (b .max .x) (b .max .y) (b .max .z)
 
 pub put-box-spec : {M : Type 1} → statement M
 put-box-spec =

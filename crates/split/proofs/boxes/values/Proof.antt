@@ -1,7 +1,6 @@
 -- `boxes::values` meets its contract: what the three calls ensure.
 use Rattle.split.proofs.boxes.values.Statement.{statement}
 use Rattle.split.proofs.boxes.values.Tie as tie
-use mathlib.Core.Path.{_≡_}
 
 value-requires : tie.Need-value-requires
 value-requires c κs = λ e. c .pre e .0

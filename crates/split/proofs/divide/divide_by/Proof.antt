@@ -1,20 +1,20 @@
 -- `divide::divide_by` meets its contract: each step by what its call ensures, and the steps by the rule's laws.
 use borrow.Author.Needs.{needs}
+use native.Mathlib.Omega.{arith}
 use Rattle.split.proofs.divide.divide_by.Statement.{statement}
 use Rattle.split.proofs.divide.divide_by.Tie as tie
 use Prim.Native.Nat.{ℕ}
-use mathlib.Core.Path.{_≡_, subst, ap}
+use mathlib.Core.Path.{subst, ap}
 use mathlib.Core.Bool.{Bool}
 use mathlib.Core.List.{List}
-use Rattle.split.specs.declared.average.Axis.the-variants.{X, Y, Z}
+use Rattle.math.specs.declared.axis.Axis.the-variants.{X, Y, Z}
 use Rattle.split.specs.declared.boxes.BoxWords.{BoxWords}
 use Rattle.split.specs.declared.groups.Counts.{Counts}
 use Rattle.split.specs.Boxes.{boxAt}
 use Rattle.split.specs.Rule.{chosen, groupOne, groupTwo}
-use Rattle.split.specs.Groups.{Parted}
+use Rattle.split.specs.steps.Groups.{Parted}
 use Rattle.split.proofs.Counting.{count-le}
 use Rattle.split.proofs.Steps.{Met, chosen-by, parted-met, met-divided, met-inside, parted-within}
-use native.Mathlib.Omega.{arith}
 
 -- the function's entry, from after the partition; and the partition, from after it is settled
 abbrev entry : tie.After-partition → tie.Start
@@ -25,27 +25,31 @@ partition c = c .before .before .before .before .before .before .before
 
 -- the boxes and the places at entry
 abbrev boxes-of : tie.Start → ℕ → BoxWords
-boxes-of g = boxAt (g .args .boxes .now)
+boxes-of g = boxAt (g .args .entries .now)
 
 abbrev places-of : tie.Start → List ℕ
 places-of g = g .args .a .now
 
 -- the partition is by the rule's own test
-parts : (c : tie.After-partition) → Parted (chosen (boxes-of (entry c)) (places-of (entry c))) (places-of (entry c)) (c .partition .last .0) (c .partition .result)
+parts : (c : tie.After-partition)
+    → Parted (chosen (boxes-of (entry c)) (places-of (entry c))) (places-of (entry c)) (c .partition .last .0) (c .partition .result)
 parts c =
-    let axis = c .before .before .before in
-    let counts = c .before .before .before .before in
+    let axis = c .before .before .before .choose-axis in
+    let counts = c .before .before .before .before .count-below in
     let g = entry c in
-    subst (λ (test : ℕ → Bool). Parted test (places-of (entry c)) (c .partition .last .0) (c .partition .result))
-    (chosen-by (boxes-of (entry c)) (places-of (entry c)) (g .args .avg) (counts .count-below .result) (axis .choose-axis .result) (g .pre .4) (counts .count-below .ensures) (axis .choose-axis .ensures))
-    (c .partition .ensures)
+    let test = chosen-by (boxes-of g) (places-of g) (g .args .avg) (counts .result) (axis .result) (g .pre .4) (counts .ensures) (axis .ensures) in
+    subst (λ (t : ℕ → Bool). Parted t (places-of (entry c)) (c .partition .last .0) (c .partition .result)) test (c .partition .ensures)
 
 -- where the two groups meet
-meets : (c : tie.After-settle)
-    → Met (groupOne (boxes-of (entry (partition c))) (places-of (entry (partition c)))) (groupTwo (boxes-of (entry (partition c))) (places-of (entry (partition c)))) (c .settle .last .0) (c .settle .result)
+abbrev Meets : tie.Start → List ℕ → ℕ → Type 0
+Meets g v h = Met (groupOne (boxes-of g) (places-of g)) (groupTwo (boxes-of g) (places-of g)) v h
+
+meets : (c : tie.After-settle) → Meets (entry (partition c)) (c .settle .last .0) (c .settle .result)
 meets c =
     let p = partition c .partition in
-    parted-met (boxes-of (entry (partition c))) (places-of (entry (partition c))) (p .last .0) (c .settle .last .0) (p .result) (c .settle .result) (parts (partition c)) (c .settle .ensures)
+    let g = entry (partition c) in
+    let s = c .settle in
+    parted-met (boxes-of g) (places-of g) (p .last .0) (s .last .0) (p .result) (s .result) (parts (partition c)) (s .ensures)
 
 count-below-requires : tie.Need-count-below-requires
 count-below-requires c κs = search needs
@@ -75,11 +79,12 @@ settle-requires c κs =
       parted-within _ _ (places-of g) (p .partition .last .0) (p .partition .result) (p .partition .ensures) (g .pre .3),
     )
 
-larger-first-requires : tie.Need-larger-first-requires
-larger-first-requires c κs =
+leader-first-requires : tie.Need-leader-first-requires
+leader-first-requires c κs =
     let s = c .before .before .before .before .before .before in
     let p = partition s in
-    (omega (arith, s .settle .kept .0, s .settle .kept .1 .0, p .partition .kept .0, p .partition .kept .1 .0, entry p .pre .2), met-inside (meets s))
+    let kept = s .settle .kept in
+    (omega (arith, kept .0, kept .1 .0, p .partition .kept .0, p .partition .kept .1 .0, entry p .pre .2), met-inside (meets s))
 
 same-length : tie.Need-same-length
 same-length c = search needs
@@ -89,10 +94,11 @@ same-length-2 c = search needs
 
 returns : tie.Need-returns
 returns c =
-    let f = c .before .before .before .before .larger-first in
-    let s = c .before .before .before .before .before .before .before .before .before .before .before in
-    let g = entry (partition s) in
-    met-divided (boxes-of g) (places-of g) (s .settle .last .0) (f .last .0) (s .settle .result) (f .result) (g .pre .0) (meets s) (f .ensures)
+    let f = c .before .before .before .before .leader-first in
+    let at = c .before .before .before .before .before .before .before .before .before .before .before in
+    let g = entry (partition at) in
+    let s = at .settle in
+    met-divided (boxes-of g) (places-of g) (s .last .0) (f .last .0) (s .result) (f .result) (g .pre .0) (meets at) (f .ensures (boxes-of g))
 
 pub divide-by-spec : {M : Type 1} → statement M
 divide-by-spec =
@@ -103,7 +109,7 @@ divide-by-spec =
     choose-axis-requires
     partition-requires
     settle-requires
-    larger-first-requires
+    leader-first-requires
     same-length
     same-length-2
     returns)

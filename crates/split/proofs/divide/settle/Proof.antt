@@ -1,13 +1,13 @@
 -- `divide::settle` meets its contract: sorted where one of the two tests holds, else as it was.
 use borrow.Author.Needs.{needs}
+use borrow.Author.Tests.{eq-eqb, ne-eqb}
 use Rattle.split.proofs.divide.settle.Statement.{statement}
 use Rattle.split.proofs.divide.settle.Tie as tie
-use mathlib.Core.Path.{_≡_, _∙_}
+use mathlib.Core.Path.{_≡_}
 use mathlib.Core.Bool.{true, or-true}
 use mathlib.Core.Logic.{⊎-elim}
 use lib.ListN.{length}
-use borrow.Author.Tests.{eq-eqb, ne-eqb}
-use Rattle.split.specs.Groups.{oneSided}
+use Rattle.split.specs.steps.Groups.{oneSided}
 
 either-test : (c : tie.Joined1) → oneSided (c .before .before .before .before .args .k) (length (c .before .before .before .before .args .a .now)) ≡ true
 either-test c = ⊎-elim (λ w. rw (eq-eqb _ _ (w .taken))) (λ w. rw (w .1 .taken, or-true)) (c .if1 .came)

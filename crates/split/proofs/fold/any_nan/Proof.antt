@@ -2,10 +2,10 @@
 use Rattle.split.proofs.fold.any_nan.Statement.{statement}
 use Rattle.split.proofs.fold.any_nan.Tie as tie
 use mathlib.Core.Path.{_≡_, sym, _∙_}
-use mathlib.Core.Bool.{Bool, true, false, or-true}
+use mathlib.Core.Bool.{Bool, true, false}
 use lib.Ieee.{Float, isNan, ne}
 use Rattle.float32.proofs.Patterns.{ne-self}
-use Rattle.split.specs.Totals.{anyNan}
+use Rattle.split.specs.steps.Totals.{anyNan}
 
 is : (x : Float) (b : Bool) → ne x x ≡ b → isNan x ≡ b
 is x b e = sym (ne-self x) ∙ e

@@ -2,7 +2,7 @@
 use borrow.Author.Needs.{needs}
 use Rattle.split.proofs.fold.either_nan.Statement.{statement}
 use Rattle.split.proofs.fold.either_nan.Tie as tie
-use mathlib.Core.Path.{_≡_, sym, _∙_}
+use mathlib.Core.Path.{sym, _∙_}
 
 any-nan-requires : tie.Need-any-nan-requires
 any-nan-requires c κs = search needs

@@ -1,9 +1,9 @@
 -- `fold::fold_by_value` meets its contract: by the fold of the words where there is a NaN, else by the law that a number has one word.
 use borrow.Author.Needs.{needs}
+use native.Mathlib.Omega.{arith}
 use Rattle.split.proofs.fold.fold_by_value.Statement.{statement}
 use Rattle.split.proofs.fold.fold_by_value.Tie as tie
-use mathlib.Core.Path.{_≡_, sym, _∙_}
-use native.Mathlib.Omega.{arith}
+use mathlib.Core.Path.{sym, _∙_}
 use Rattle.split.proofs.TotalLaws.{by-value}
 
 either-nan-requires : tie.Need-either-nan-requires
@@ -26,7 +26,8 @@ returns-2 c =
     let g = c .before .before .before .before .before .before in
     let a = g .args in
     let e = sym (c .before .before .before .either-nan .ensures) ∙ c .before .before .if1 .left in
-    let w = by-value (a .boxes .now) (λ i. omega (arith, c .before .before .before .before .before .shared-slice-known .given i)) (a .places .now) (a .low) (a .high) (g .pre .1) (g .pre .2) e in
+    let words = c .before .before .before .before .before .shared-slice-known .given in
+    let w = by-value (a .entries .now) (λ i. omega (arith, words i)) (a .places .now) (a .low) (a .high) (g .pre .1) (g .pre .2) e in
     let low = c .before .bits .ensures ∙ w .0 in
     let high = c .bits2 .ensures ∙ w .1 in
     λ i. record { min = low i; max = high i }

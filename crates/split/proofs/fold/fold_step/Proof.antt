@@ -2,7 +2,6 @@
 use borrow.Author.Needs.{needs}
 use Rattle.split.proofs.fold.fold_step.Statement.{statement}
 use Rattle.split.proofs.fold.fold_step.Tie as tie
-use mathlib.Core.Path.{_≡_}
 
 vmin-words-requires : tie.Need-vmin-words-requires
 vmin-words-requires c κs = search needs

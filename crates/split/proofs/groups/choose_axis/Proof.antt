@@ -1,22 +1,25 @@
 -- `groups::choose_axis` meets its contract: each answer is the one that the definition picks by the same tests.
 use borrow.Author.Needs.{needs}
+use borrow.Author.Tests.{le-leb, lt-leb}
 use Rattle.split.proofs.groups.choose_axis.Statement.{statement}
 use Rattle.split.proofs.groups.choose_axis.Tie as tie
-use Prim.Native.Nat.{ℕ, _≤_, _<_}
-use mathlib.Core.Path.{_≡_, _∙_}
+use mathlib.Core.Path.{_≡_}
 use mathlib.Core.Logic.{⊎-elim}
 use mathlib.Core.Bool.{false, _&&_, and-false}
 use lib.Dec.{leb}
-use borrow.Author.Tests.{le-leb, lt-leb}
-use Rattle.split.specs.declared.average.Axis.the-variants.{X, Y, Z}
 use Rattle.split.specs.Rule.{nearestAxis}
-use Rattle.split.specs.Groups.{axisBy}
+use Rattle.split.specs.steps.Groups.{axisBy}
 
 -- the definition's answer, by the offsets that the calls gave
-by-offsets : (c : tie.After-offset3) → nearestAxis (c .before .before .offset .result) (c .before .offset2 .result) (c .offset3 .result) ≡ axisBy (c .before .before .before .args .n) (c .before .before .before .args .c)
+by-offsets : (c : tie.After-offset3)
+    → nearestAxis (c .before .before .offset .result) (c .before .offset2 .result) (c .offset3 .result)
+    ≡ axisBy (c .before .before .before .args .n) (c .before .before .before .args .c)
 by-offsets c = λ i. nearestAxis (c .before .before .offset .ensures i) (c .before .offset2 .ensures i) (c .offset3 .ensures i)
 
-not-x : (c : tie.Joined1) → (leb (c .before .before .before .offset .result) (c .before .before .offset2 .result) && leb (c .before .before .before .offset .result) (c .before .offset3 .result)) ≡ false
+not-x : (c : tie.Joined1)
+    → (leb (c .before .before .before .offset .result) (c .before .before .offset2 .result)
+    && leb (c .before .before .before .offset .result) (c .before .offset3 .result))
+    ≡ false
 not-x c = ⊎-elim (λ w. rw (w .1 .left, and-false)) (λ w. rw (lt-leb _ _ (w .left))) (c .if1 .came)
 
 offset-requires : tie.Need-offset-requires

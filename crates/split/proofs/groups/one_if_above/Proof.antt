@@ -5,14 +5,20 @@ use Rattle.split.proofs.groups.one_if_above.Tie as tie
 use Prim.Native.Nat.{_+_, _*_}
 use mathlib.Core.Path.{_≡_, sym, ap, _∙_}
 use lib.Ieee.{lt}
+use Rattle.base.specs.Lists.{oneIf}
 use Rattle.math.specs.Vec3s.{_⊕_, _⊗_}
 use Rattle.math.specs.Transform.{half}
-use Rattle.split.specs.Lists.{oneIf}
-use Rattle.split.specs.Groups.{passes}
+use Rattle.split.specs.steps.Groups.{passes}
 
-test-is : (c : tie.After-value2) → lt (c .before .before .before .before .before .before .args .cut) ((c .before .before .value .result ⊕ c .value2 .result) ⊗ half) ≡ passes (c .before .before .before .before .before .before .args .boxes .now) (c .before .before .before .before .before .before .args .step) (c .before .before .before .before .before .before .args .cut) (c .before .before .before .before .before .before .args .place .0)
+-- the function's entry, from after the two words are read
+abbrev entry : tie.After-value2 → tie.Start
+entry c = c .before .before .before .before .before .before
+
+test-is : (c : tie.After-value2)
+    → lt (entry c .args .cut) ((c .before .before .value .result ⊕ c .value2 .result) ⊗ half)
+    ≡ passes (entry c .args .entries .now) (entry c .args .step) (entry c .args .cut) (entry c .args .place .0)
 unfolding passes
-test-is c = ap (lt (c .before .before .before .before .before .before .args .cut)) (λ i. (c .before .before .value .ensures i ⊕ c .value2 .ensures i) ⊗ half)
+test-is c = ap (lt (entry c .args .cut)) (λ i. (c .before .before .value .ensures i ⊕ c .value2 .ensures i) ⊗ half)
 
 cast-at : tie.Need-cast-at
 cast-at c = search needs

@@ -1,7 +1,6 @@
 -- `groups::one_if_below` meets its contract: each arm by its test.
 use Rattle.split.proofs.groups.one_if_below.Statement.{statement}
 use Rattle.split.proofs.groups.one_if_below.Tie as tie
-use Rattle.split.specs.Lists.{oneIf}
 
 returns : tie.Need-returns
 returns c = rw (c .if1 .taken)

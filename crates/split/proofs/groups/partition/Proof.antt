@@ -1,43 +1,28 @@
 -- `groups::partition` meets its contract. The loop's invariant: what is stored so far, followed by what the rest gives, is the whole of each group.
--- `groups::partition` meets its contract. The loop's invariant: what is stored so far, followed by what the rest gives, is the whole of each group.
-use Rattle.split.proofs.groups.partition.Statement.{statement}
-use Rattle.split.proofs.groups.partition.Tie as tie
-use Prim.Native.Nat.{ℕ, _+_, _-_, _*_, _≤_, _<_}
-use mathlib.Core.Path.{_≡_, subst, ap, _∙_}
-use mathlib.Core.Bool.{Bool}
-use lib.ListN.{length, getD}
-use Rattle.split.specs.Boxes.{boxAt}
-use Rattle.split.specs.Lists.{oneIf}
-use Rattle.split.specs.Rule.{above}
-use Rattle.split.specs.Groups.{stepOf, passes, Parted}
-use Rattle.split.proofs.WithinLaws.{within-at}
-use Rattle.split.proofs.Sifting.{one-or-none}
-use Rattle.split.proofs.Parting.{Parting, begin, next-same, turn, parted, passes-above}
 use native.Mathlib.Omega.{arith}
 use borrow.Author.Needs.{needs}
-use Prim.Native.Nat.{ℕ, _+_, _-_, _*_, _≤_, _<_}
-use mathlib.Core.Path.{_≡_, subst, ap, _∙_}
-use mathlib.Core.Bool.{Bool}
-use lib.ListN.{length, getD}
-use Rattle.split.specs.Boxes.{boxAt}
-use Rattle.split.specs.Lists.{oneIf}
+use Rattle.split.proofs.groups.partition.Statement.{statement}
+use Rattle.split.proofs.groups.partition.Tie as tie
+use Prim.Native.Nat.{_-_}
+use mathlib.Core.Path.{_∙_}
+use lib.ListN.{getD}
+use Rattle.base.proofs.WithinLaws.{within-at}
+use Rattle.base.proofs.ListLaws.{one-or-none}
 use Rattle.split.specs.Rule.{above}
-use Rattle.split.specs.Groups.{stepOf, passes, Parted}
-use Rattle.split.proofs.WithinLaws.{within-at}
-use Rattle.split.proofs.Sifting.{one-or-none}
+use Rattle.split.specs.steps.Groups.{passes}
 use Rattle.split.proofs.Parting.{Parting, begin, next-same, turn, parted, passes-above, step-small}
 
 abbrev Inv-loop : tie.InvT-loop
-Inv-loop a₀ t₀ boxes plain n step cut k₀ i₀ a t k i = Parting (passes boxes step cut) a₀ t₀ a t k i
+Inv-loop a₀ t₀ entries plain n step cut k₀ i₀ a t k i = Parting (passes entries step cut) a₀ t₀ a t k i
 
 abbrev μ-loop : tie.MeasureT-loop
-μ-loop a₀ t₀ boxes plain n step cut k₀ i₀ a t k i = n - i
+μ-loop a₀ t₀ entries plain n step cut k₀ i₀ a t k i = n - i
 
 step-of-requires : tie.Need-step-of-requires Inv-loop μ-loop
 step-of-requires c κs = search needs
 
-along-requires : tie.Need-along-requires Inv-loop μ-loop
-along-requires c κs = search needs
+coordinate-requires : tie.Need-coordinate-requires Inv-loop μ-loop
+coordinate-requires c κs = search needs
 
 loop-holds : tie.Need-loop-holds Inv-loop μ-loop
 loop-holds c = begin _ (c .before .before .before .before .before .args .a .now) (c .before .before .before .before .before .args .t .now)
@@ -68,12 +53,19 @@ one-if-above-requires c κs =
     let l = c .before .before .loop in
     let g = c .before .before .before .before .before .before .before .before in
     let e = next-same _ (g .args .a .now) (g .args .t .now) (l .a) (l .t) (l .k) (l .i) (l .inv) (omega arith) in
-    (rw e (within-at _ (g .args .a .now) (l .i) (g .pre .1) (omega arith)), omega (arith, c .before .before .before .before .step-of .ensures, step-small (g .args .axis)), g .pre .2)
+    let step = c .before .before .before .before .step-of in (
+      rw e (within-at _ (g .args .a .now) (l .i) (g .pre .1) (omega arith)),
+      omega (arith, step .ensures, step-small (g .args .axis)),
+      g .pre .2,
+    )
 
 add-k : tie.Need-add-k Inv-loop μ-loop
 add-k c =
     let l = c .before .before .before .loop in
-    omega (arith, c .one-if-above .ensures, one-or-none (passes (c .before .before .before .before .before .before .before .before .before .args .boxes .now) (c .before .before .before .before .before .step-of .result) (c .before .before .before .before .along .result) (getD (l .a) (l .i) 0)))
+    let g = c .before .before .before .before .before .before .before .before .before .args in
+    let step = c .before .before .before .before .before .step-of .result in
+    let cut = c .before .before .before .before .coordinate .result in
+    omega (arith, c .one-if-above .ensures, one-or-none (passes (g .entries .now) step cut (getD (l .a) (l .i) 0)))
 
 add-i : tie.Need-add-i Inv-loop μ-loop
 add-i c = omega arith
@@ -85,7 +77,8 @@ loop-again : tie.Need-loop-again Inv-loop μ-loop
 loop-again c =
     let l = c .before .before .before .loop in
     let g = c .before .before .before .before .before .before .before .before .before in
-    turn _ (g .args .a .now) (g .args .t .now) (l .a) (l .t) (l .k) (l .i) (c .one-if-above .result) (l .inv) (omega arith) (g .pre .0) (c .one-if-above .ensures)
+    let above = c .one-if-above in
+    turn _ (g .args .a .now) (g .args .t .now) (l .a) (l .t) (l .k) (l .i) (above .result) (l .inv) (omega arith) (g .pre .0) (above .ensures)
 
 sub-paste : tie.Need-sub-paste Inv-loop μ-loop
 sub-paste c = omega arith
@@ -101,11 +94,15 @@ same-length-2 c = c .before .before .before .before .before .before .loop .inv .
 
 returns : tie.Need-returns Inv-loop μ-loop
 returns c =
-    let l = c .before .before .before .before .before .before .loop in
-    let g = c .before .before .before .before .before .before .before .before .before .before .before .before in
+    let after = c .before .before .before .before .before .before in
+    let l = after .loop in
+    let cut = after .before .coordinate in
+    let step = after .before .before .step-of in
+    let g = after .before .before .before .before .before .before in
     let ps = g .args .a .now in
-    let e = passes-above (g .args .boxes .now) (g .args .avg) (g .args .axis) (c .before .before .before .before .before .before .before .before .step-of .result) (c .before .before .before .before .before .before .before .along .result) (c .before .before .before .before .before .before .before .before .step-of .ensures) (c .before .before .before .before .before .before .before .along .ensures) in
-    rw (← e, c .before .before .paste .ensures) (parted _ ps (g .args .t .now) (l .a) (l .t) (l .k) (l .i) (l .inv) (omega arith) (g .pre .0))
+    let e = passes-above (g .args .entries .now) (g .args .avg) (g .args .axis) (step .result) (cut .result) (step .ensures) (cut .ensures) in
+    rw (← e, c .before .before .paste .ensures)
+    (parted _ ps (g .args .t .now) (l .a) (l .t) (l .k) (l .i) (l .inv) (omega arith) (g .pre .0))
 
 pub partition-spec : {M : Type 1} → statement M
 partition-spec =
@@ -114,7 +111,7 @@ partition-spec =
     Inv-loop
     μ-loop
     step-of-requires
-    along-requires
+    coordinate-requires
     loop-holds
     mul-p
     slice-read-p

@@ -1,12 +1,12 @@
 -- `groups::paste` meets its contract. The loop's invariant: the first j places are copied.
+use native.Mathlib.Omega.{arith}
 use Rattle.split.proofs.groups.paste.Statement.{statement}
 use Rattle.split.proofs.groups.paste.Tie as tie
-use Prim.Native.Nat.{_+_, _-_, _≤_}
+use Prim.Native.Nat.{_-_, _≤_}
 use native.Mathlib.Numerals.{add-one}
 use mathlib.Core.Path.{_≡_, refl}
 use lib.ListN.{length, length-set}
 use lib.Seq.{paste, paste-zero, paste-suc}
-use native.Mathlib.Omega.{arith}
 
 abbrev Inv-loop : tie.InvT-loop
 Inv-loop dst₀ at src n j₀ dst j = (j ≤ n) × (dst ≡ paste dst₀ at src j) × (length dst ≡ length dst₀)

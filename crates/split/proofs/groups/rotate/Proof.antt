@@ -36,9 +36,12 @@ same-length-2 c = search needs
 
 returns : tie.Need-returns
 returns c =
-    let g = c .before .before .before .before .before .before .before .before .before .before .before .before .before .before .before .before .before .before in
-    rotated (g .args .a .now) (g .args .t .now) (c .before .before .before .before .before .before .before .before .before .before .before .before .before .paste .last .0) (c .before .before .before .before .before .before .before .before .paste2 .last .0) (c .before .before .paste3 .last .0) (g .args .h) (g .pre .1)
-    (c .before .before .before .before .before .before .before .before .before .before .before .before .before .paste .ensures) (c .before .before .before .before .before .before .before .before .paste2 .ensures) (c .before .before .paste3 .ensures)
+    let third = c .before .before in
+    let second = third .before .before .before .before .before .before in
+    let first = second .before .before .before .before .before in
+    let g = first .before .before .before .before .before in
+    rotated (g .args .a .now) (g .args .t .now) (first .paste .last .0) (second .paste2 .last .0) (third .paste3 .last .0) (g .args .h) (g .pre .1)
+    (first .paste .ensures) (second .paste2 .ensures) (third .paste3 .ensures)
 
 pub rotate-spec : {M : Type 1} → statement M
 rotate-spec =

@@ -2,7 +2,7 @@
 use borrow.Author.Needs.{needs}
 use Rattle.split.proofs.totals.no_totals.Statement.{statement}
 use Rattle.split.proofs.totals.no_totals.Tie as tie
-use mathlib.Core.Path.{_≡_, ap, _∙_}
+use mathlib.Core.Path.{ap, _∙_}
 use Rattle.math.specs.Stored.{valuesOf}
 use Rattle.split.specs.declared.boxes.BoxWords.{BoxWords}
 use Rattle.split.specs.Rule.{origin}

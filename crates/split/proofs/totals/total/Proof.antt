@@ -1,24 +1,24 @@
 -- `totals::total` meets its contract. The loop's invariant: the rest taken into the totals so far gives those of all.
+use native.Mathlib.Omega.{arith}
+use borrow.Author.Needs.{needs}
 use Rattle.split.proofs.totals.total.Statement.{statement}
 use Rattle.split.proofs.totals.total.Tie as tie
 use Prim.Native.Nat.{_+_, _-_}
-use mathlib.Core.Path.{_≡_, ap, subst, sym, _∙_}
+use mathlib.Core.Path.{ap, subst, sym, _∙_}
 use lib.ListN.{length, drop}
 use Rattle.split.specs.declared.totals.Totals.{Totals}
 use Rattle.split.specs.Boxes.{boxAt}
 use Rattle.split.specs.Folding.{startBox}
 use Rattle.split.specs.Rule.{origin}
-use Rattle.split.specs.Totals.{totalsOf, totalStep}
+use Rattle.split.specs.steps.Totals.{totalsOf, totalStep}
 use Rattle.split.proofs.TotalLaws.{totalsFrom, all-totals}
 use Rattle.split.proofs.Places.{Pass, begin, taken, finished, next-within}
-use native.Mathlib.Omega.{arith}
-use borrow.Author.Needs.{needs}
 
 abbrev Inv-loop : tie.InvT-loop
-Inv-loop boxes places plain t₀ i₀ t i = Pass (totalsFrom (boxAt boxes)) (length boxes) places (totalsOf startBox origin) t i
+Inv-loop entries places plain t₀ i₀ t i = Pass (totalsFrom (boxAt entries)) (length entries) places (totalsOf startBox origin) t i
 
 abbrev μ-loop : tie.MeasureT-loop
-μ-loop boxes places plain t₀ i₀ t i = length places - i
+μ-loop entries places plain t₀ i₀ t i = length places - i
 
 no-totals-requires : tie.Need-no-totals-requires Inv-loop μ-loop
 no-totals-requires c κs = search needs
@@ -26,9 +26,11 @@ no-totals-requires c κs = search needs
 loop-holds : tie.Need-loop-holds Inv-loop μ-loop
 loop-holds c =
     let g = c .before .before .before in
-    let at = boxAt (g .args .boxes .now) in
+    let at = boxAt (g .args .entries .now) in
     let ps = g .args .places .now in
-    subst (λ (s : Totals). Pass (totalsFrom at) (length (g .args .boxes .now)) ps (totalsOf startBox origin) s 0) (sym (c .no-totals .ensures)) (begin (totalsFrom at) _ ps (totalsOf startBox origin) (g .pre .0))
+    let start : Totals = totalsOf startBox origin in
+    subst (λ (s : Totals). Pass (totalsFrom at) (length (g .args .entries .now)) ps start s 0) (sym (c .no-totals .ensures))
+    (begin (totalsFrom at) _ ps start (g .pre .0))
 
 mul-t6 : tie.Need-mul-t6 Inv-loop μ-loop
 mul-t6 c = search needs
@@ -54,16 +56,20 @@ loop-less c = search needs
 loop-again : tie.Need-loop-again Inv-loop μ-loop
 loop-again c =
     let l = c .before .before .before .before .loop in
-    let at = boxAt (c .before .before .before .before .before .before .before .before .args .boxes .now) in
-    let ps = c .before .before .before .before .before .before .before .before .args .places .now in
+    let g = c .before .before .before .before .before .before .before .before .args in
+    let at = boxAt (g .entries .now) in
+    let ps = g .places .now in
     let step = c .total-step .ensures ∙ ap (totalStep (l .t)) (c .before .corners-at .ensures) in
-    taken (totalsFrom at) _ ps (totalsOf startBox origin) (l .t) _ (l .i) (l .inv) (omega arith) (ap (λ (s : Totals). totalsFrom at s (drop (l .i + 1) ps)) step)
+    taken (totalsFrom at) _ ps (totalsOf startBox origin) (l .t) _ (l .i) (l .inv) (omega arith)
+    (ap (λ (s : Totals). totalsFrom at s (drop (l .i + 1) ps)) step)
 
 returns : tie.Need-returns Inv-loop μ-loop
 returns c =
     let l = c .before .loop in
-    let g = c .before .before .before .before .before in
-    finished (totalsFrom (boxAt (g .args .boxes .now))) _ (g .args .places .now) (totalsOf startBox origin) (l .t) (l .i) (l .inv) (c .loop-test .left) ∙ all-totals (boxAt (g .args .boxes .now)) (g .args .places .now)
+    let g = c .before .before .before .before .before .args in
+    let at = boxAt (g .entries .now) in
+    let ps = g .places .now in
+    finished (totalsFrom at) _ ps (totalsOf startBox origin) (l .t) (l .i) (l .inv) (c .loop-test .left) ∙ all-totals at ps
 
 pub total-spec : {M : Type 1} → statement M
 total-spec =

@@ -2,7 +2,7 @@
 use borrow.Author.Needs.{needs}
 use Rattle.split.proofs.totals.total_step.Statement.{statement}
 use Rattle.split.proofs.totals.total_step.Tie as tie
-use mathlib.Core.Path.{_≡_, ap, _∙_}
+use mathlib.Core.Path.{ap, _∙_}
 use Rattle.math.specs.declared.vec3.Vec3.{Vec3}
 use Rattle.math.specs.Vec3s.{addOf}
 

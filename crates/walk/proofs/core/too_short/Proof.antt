@@ -16,19 +16,19 @@ mul-if2 c = search needs
 returns : tie.Need-returns
 returns c =
     let a = c .before .before .args in
-    let e = lt-ltb (a .nodes) (16 * a .sizes .nodes) (c .if1 .taken) in
+    let e = lt-ltb (a .node-bytes) (16 * a .sizes .nodes) (c .if1 .taken) in
     e ∙ sym (or-yes _ e)
 
 returns-2 : tie.Need-returns-2
 returns-2 c =
     let a = c .before .before .before .before .args in
-    let e = lt-ltb (a .trees) (16 * a .sizes .trees) (c .if2 .taken) in
-    e ∙ sym (or-no _ (le-ltb (a .nodes) (16 * a .sizes .nodes) (c .before .before .if1 .left)) ∙ or-yes _ e)
+    let e = lt-ltb (a .tree-bytes) (16 * a .sizes .trees) (c .if2 .taken) in
+    e ∙ sym (or-no _ (le-ltb (a .node-bytes) (16 * a .sizes .nodes) (c .before .before .if1 .left)) ∙ or-yes _ e)
 
 returns-3 : tie.Need-returns-3
 returns-3 c =
     let a = c .before .before .before .before .before .args in
-    sym (or-no _ (le-ltb (a .nodes) (16 * a .sizes .nodes) (c .before .before .before .if1 .left)) ∙ or-no _ (le-ltb (a .trees) (16 * a .sizes .trees) (c .before .if2 .left)))
+    sym (or-no _ (le-ltb (a .node-bytes) (16 * a .sizes .nodes) (c .before .before .before .if1 .left)) ∙ or-no _ (le-ltb (a .tree-bytes) (16 * a .sizes .trees) (c .before .if2 .left)))
 
 pub too-short-spec : {M : Type 1} → statement M
 too-short-spec = tie.close (tie.spec mul-if1 mul-if2 returns returns-2 returns-3)

@@ -140,8 +140,8 @@ module _ {M : Type 1} (𝓤 : URA M) (H : Heap 𝓤) (A : Atoms 𝓤) (W : Given
   goes-new =
       qed W (‵ token ∷ ‵ Nodes ∷ []) ∵ nothing ! $ move ! (2 ∷ 0 ∷ []) $ fjoin ! $ nothing ! $ move ! (2 ∷ 0 ∷ []) $ join ! $ join ! $ nothing ! $ move ! (1 ∷ []) $ done !
 
-  made : (r : NodeReader) → ent 𝓤 (ensured 𝓤 H A new.ended (new.clauses 𝓤 H A mem run) (κs .0, tt) (nodes, tt) tt r) (fact 𝓤 (r .nodes ≡ nodes))
-  made r = exE 𝓤 _ (λ us. snd∗ 𝓤 (sem 𝓤 H A (lasts new.ended (κs .0, tt) (nodes, tt) us)) (fact 𝓤 (r .nodes ≡ nodes)))
+  made : (r : NodeReader) → ent 𝓤 (ensured 𝓤 H A new.ended (new.clauses 𝓤 H A mem run) (κs .0, tt) (nodes, tt) tt r) (fact 𝓤 (r .«node_bytes» ≡ nodes))
+  made r = exE 𝓤 _ (λ us. snd∗ 𝓤 (sem 𝓤 H A (lasts new.ended (κs .0, tt) (nodes, tt) us)) (fact 𝓤 (r .«node_bytes» ≡ nodes)))
 
   -- ---- the call of `walk`, with the reader r, whose machine value is w
   abbrev g-args : NodeReader → Args g.signature κs
@@ -183,7 +183,7 @@ module _ {M : Type 1} (𝓤 : URA M) (H : Heap 𝓤) (A : Atoms 𝓤) (W : Given
         move ! (6 ∷ 0 ∷ []) $ use2 W (raw (New 𝓤 H A mem run .pre to-new)) goes-new $
         calls-at ! fm (New 𝓤 H A mem run) known-new to-new (and-then ! (load ! (from ! (stop !)) (look ! 17 refl)) (no-more !)) (λ w.
         use1 W (later (some (λ (d : NodeReader). ((‵ token ⊛ ‵ ftrue) ⊛ ‵ (T.the-row α .own d (w ∷ []))) ⊛ raw (ensured 𝓤 H A new.ended (new.clauses 𝓤 H A mem run) (κs .0, tt) (nodes, tt) tt d)))) (id⊢ 𝓤 _) $ await ! tt $ pick ! (λ d. split ! $
-        move ! (1 ∷ []) $ use1 W (raw (fact 𝓤 (d .nodes ≡ nodes))) (made d) $ heard ! (d .nodes ≡ nodes) (λ k. split ! $ split ! $ move ! (1 ∷ []) $ drop ! $ move ! (1 ∷ []) $
+        move ! (1 ∷ []) $ use1 W (raw (fact 𝓤 (d .«node_bytes» ≡ nodes))) (made d) $ heard ! (d .«node_bytes» ≡ nodes) (λ k. split ! $ split ! $ move ! (1 ∷ []) $ drop ! $ move ! (1 ∷ []) $
         -- [the reader; the token; the other slices; sizes; inverse; cen; query; the other tokens; the locals]
         peeks ! (T.the-row α) (Is (T.the-row α)) (shows 𝓤 H A (T.the-row α)) d (w ∷ []) (λ is.
         land ! (from ! (stop !)) (init ! 12 refl (LL.lawful (T.the-type αᵉ) (T′.the-laws αᵉ) 𝓤 H A W .typed d _ is .0)) $
@@ -194,8 +194,8 @@ module _ {M : Type 1} (𝓤 : URA M) (H : Heap 𝓤) (A : Atoms 𝓤) (W : Given
         use2 W (raw (Walked 𝓤 H A mem run .pre (to d w))) (goes d w) $
         calls-at ! fm (Walked 𝓤 H A mem run) known (to d w) (and-then ! (load ! (from ! (stop !)) (look ! 5 refl)) (and-then ! (load ! (from ! (stop !)) (look ! 19 refl)) (and-then ! (load ! (from ! (stop !)) (look ! 17 refl)) (and-then ! (load ! (from ! (stop !)) (look ! 15 refl)) (and-then ! (load ! (from ! (stop !)) (look ! 13 refl)) (and-then ! (load ! (from ! (stop !)) (look ! 9 refl)) (and-then ! (load ! (from ! (stop !)) (look ! 1 refl)) (no-more !)))))))) (λ u.
         use1 W (later (some (λ (r : Walk). (raw (alive 𝓤 H A g.signature κs qs) ⊛ ‵ (B.the-row .own r (u ∷ []))) ⊛ raw (ensured 𝓤 H A g.ended (g.clauses 𝓤 H A mem run) κs (g-args d) tt r)))) (id⊢ 𝓤 _) $ await ! tt $ pick ! (λ r. split ! $
-        move ! (1 ∷ []) $ use1 W (some (λ (us : Lasts g.ended κs (g-args d)). ‵ (lasts g.ended κs (g-args d) us) ⊛ raw (fact 𝓤 (Said (d .nodes) r (us .1 .1 .1 .1 .1 .1 .0))))) (id⊢ 𝓤 _) $ pick ! (λ us. split ! $
-        move ! (1 ∷ []) $ heard ! (Said (d .nodes) r (us .1 .1 .1 .1 .1 .1 .0)) (λ e. move ! (1 ∷ []) $ split ! $ move ! (1 ∷ []) $
+        move ! (1 ∷ []) $ use1 W (some (λ (us : Lasts g.ended κs (g-args d)). ‵ (lasts g.ended κs (g-args d) us) ⊛ raw (fact 𝓤 (Said (d .«node_bytes») r (us .1 .1 .1 .1 .1 .1 .0))))) (id⊢ 𝓤 _) $ pick ! (λ us. split ! $
+        move ! (1 ∷ []) $ heard ! (Said (d .«node_bytes») r (us .1 .1 .1 .1 .1 .1 .0)) (λ e. move ! (1 ∷ []) $ split ! $ move ! (1 ∷ []) $
         -- [the answer; the tokens; the last values; the locals]
         peeks ! B.the-row (Is B.the-row) (shows 𝓤 H A B.the-row) r (u ∷ []) (λ is.
         land ! (from ! (stop !)) (init ! 23 refl (EL.lawful B.the-type B′.the-laws 𝓤 H A W tt .typed r _ is .0)) $

@@ -51,7 +51,7 @@ module _ {M : Type 1} (𝓤 : URA M) (H : Heap 𝓤) (A : Atoms 𝓤) (W : Given
   v = sliceVal (nodes .ptr) (length (nodes .now))
 
   abbrev reader : NodeReader
-  reader = record { nodes = nodes }
+  reader = record { «node_bytes» = nodes }
 
   abbrev Nodes : Fml
   Nodes = ShrSlice (named 0) κ u8 .own nodes (v ∷ [])

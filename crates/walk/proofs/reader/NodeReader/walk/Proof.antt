@@ -100,7 +100,7 @@ module _ {M : Type 1} (𝓤 : URA M) (H : Heap 𝓤) (A : Atoms 𝓤) (W : Given
   L = T′.the-laws α
 
   abbrev fields : Values (D .parts)
-  fields = (d .nodes, tt)
+  fields = (d .«node_bytes», tt)
 
   abbrev args : Args f.signature κs
   args = (d, (query, (cen, (inverse, (sizes, (trees, (out, tt)))))))
@@ -122,20 +122,20 @@ module _ {M : Type 1} (𝓤 : URA M) (H : Heap 𝓤) (A : Atoms 𝓤) (W : Given
 
   -- what the callee is passed
   abbrev g-args : Args g.signature κs
-  g-args = (query, (cen, (inverse, (sizes, (d .nodes, (trees, (out, tt)))))))
+  g-args = (query, (cen, (inverse, (sizes, (d .«node_bytes», (trees, (out, tt)))))))
 
   abbrev to : Walked 𝓤 H A mem run .Ghost
-  to = ((κs, qs, tt, g-args, (box-val query ∷ [], (point-val cen ∷ [], (point-val inverse ∷ [], (sizes-val sizes ∷ [], (slice-val (d .nodes) ∷ [], (slice-val trees ∷ [], (slice-val out ∷ [], tt)))))))), tt)
+  to = ((κs, qs, tt, g-args, (box-val query ∷ [], (point-val cen ∷ [], (point-val inverse ∷ [], (sizes-val sizes ∷ [], (slice-val (d .«node_bytes») ∷ [], (slice-val trees ∷ [], (slice-val out ∷ [], tt)))))))), tt)
 
   abbrev Said : Walk → List ℕ → Type 0
-  Said r out′ = walks.Promise (walks.walkOf query cen inverse sizes (now (d .nodes)) (now trees) (length (now out))) (now out) out′ r
+  Said r out′ = walks.Promise (walks.walkOf query cen inverse sizes (now (d .«node_bytes»)) (now trees) (length (now out))) (now out) out′ r
 
   -- what the struct owns is what its slice owns, which the callee asks after the sizes
   goes : ent 𝓤 (onEntry 𝓤 H A f.signature κs qs args at) (Walked 𝓤 H A mem run .pre to)
   goes =
       qed W (raw (alive 𝓤 H A f.signature κs qs) ∷ ‵ (owns rows args at) ∷ []) ∵
       move ! (1 ∷ []) $ fsplit ! $ use1 W (given (mach ∷ [] ≡ mach ∷ []) (‵ (all-own (D .parts) L fields))) (own-open 𝓤 H A W D L fields mach) $ learn ! (λ _.
-      use1 W (‵ (ownAt (D .parts) L 0 (d .nodes)) ⊛ ‵ (rest (D .parts) L 0 fields)) (own-out 𝓤 H A W (D .parts) L 0 fields) $ split ! $ move ! (1 ∷ []) $ drop ! $
+      use1 W (‵ (ownAt (D .parts) L 0 (d .«node_bytes»)) ⊛ ‵ (rest (D .parts) L 0 fields)) (own-out 𝓤 H A W (D .parts) L 0 fields) $ split ! $ move ! (1 ∷ []) $ drop ! $
       -- [the nodes; what else was passed; the tokens]
       move ! (1 ∷ []) $ fsplit ! $ move ! (1 ∷ []) $ fsplit ! $ move ! (1 ∷ []) $ fsplit ! $ move ! (1 ∷ []) $ fsplit ! $
       -- [the sizes; the slices; inverse; cen; query; the nodes; the tokens]

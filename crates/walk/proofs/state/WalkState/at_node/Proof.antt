@@ -4,16 +4,12 @@ use Rattle.walk.proofs.state.WalkState.at_node.Statement.{statement}
 use Rattle.walk.proofs.state.WalkState.at_node.Tie as tie
 use mathlib.Core.Path.{sym, ap, _∙_}
 use Prim.Native.Nat.{ℕ}
-use Rattle.records.specs.declared.BvhNode.{BvhNode}
-use Rattle.walk.specs.Step.{atNode, onward}
+use Rattle.walk.specs.Step.{quiet, onward}
 use Rattle.walk.proofs.StepLaws.{node-refused, node-handing, node-onward}
-use Rattle.walk.proofs.Given.{stepped-as, quietly}
+use Rattle.walk.proofs.Given.{stepped-as, read-as}
 
-mul-node-at : tie.Need-mul-node-at
-mul-node-at c = search needs
-
-node-at-requires : tie.Need-node-at-requires
-node-at-requires c κs = search needs
+node-numbered-requires : tie.Need-node-numbered-requires
+node-numbered-requires c κs = search needs
 
 node-refused-requires : tie.Need-node-refused-requires
 node-refused-requires c κs = search needs
@@ -21,12 +17,17 @@ node-refused-requires c κs = search needs
 refused-requires : tie.Need-refused-requires
 refused-requires c κs = search needs
 
+quiet-requires : tie.Need-quiet-requires
+quiet-requires c κs = search needs
+
 returns : tie.Need-returns
 returns c =
-    let a = c .before .before .before .before .before .before .before .args in
-    let n = c .before .before .before .node-at .result in
-    let e = ap (λ (u : BvhNode). atNode (a .query) (a .items) u (a .self)) (sym (c .before .before .before .node-at .ensures)) ∙ node-refused (a .query) (a .items) n (a .self) (sym (c .before .before .node-refused .ensures) ∙ c .before .if1 .taken) in
-    stepped-as (sym e) (quietly _ _ _ _ (c .refused .ensures))
+    let refusal = c .before .before .before in
+    let read = refusal .before in
+    let a = read .before .before .args in
+    let bad = sym (refusal .node-refused .ensures) ∙ c .before .before .if1 .taken in
+    let is = node-refused (a .query) (a .items) (read .node-numbered .result) (a .self) bad in
+    read-as _ _ _ (read .node-numbered .ensures) (stepped-as (ap quiet (c .before .refused .ensures) ∙ sym is) (c .quiet .ensures))
 
 meets-requires : tie.Need-meets-requires
 meets-requires c κs = search needs
@@ -34,46 +35,56 @@ meets-requires c κs = search needs
 hand-over-requires : tie.Need-hand-over-requires
 hand-over-requires c κs = search needs
 
-same-length : tie.Need-same-length
-same-length c = search needs
-
 returns-2 : tie.Need-returns-2
 returns-2 c =
-    let a = c .before .before .before .before .before .before .before .before .before .before .before .before .args in
-    let n = c .before .before .before .before .before .before .before .before .node-at .result in
-    let e = ap (λ (u : BvhNode). atNode (a .query) (a .items) u (a .self)) (sym (c .before .before .before .before .before .before .before .before .node-at .ensures)) ∙ node-handing (a .query) (a .items) n (a .self) (sym (c .before .before .before .before .before .before .before .node-refused .ensures) ∙ c .before .before .before .before .before .before .if1 .left) (sym (c .before .before .before .before .before .meets .ensures) ∙ c .before .before .before .before .if2 .taken) in
-    stepped-as (sym e) (c .before .before .hand-over .ensures)
+    let test = c .before .before in
+    let refusal = test .before .before in
+    let read = refusal .before in
+    let a = read .before .before .args in
+    let good = sym (refusal .node-refused .ensures) ∙ test .before .if1 .left in
+    let met = sym (test .meets .ensures) ∙ c .before .if2 .taken in
+    let is = node-handing (a .query) (a .items) (read .node-numbered .result) (a .self) good met in
+    read-as _ _ _ (read .node-numbered .ensures) (stepped-as (sym is) (c .hand-over .ensures))
 
 stride-requires : tie.Need-stride-requires
 stride-requires c κs = search needs
 
-add-t13 : tie.Need-add-t13
-add-t13 c = search needs
+add-t11 : tie.Need-add-t11
+add-t11 c = search needs
 
-add-t14 : tie.Need-add-t14
-add-t14 c = search needs
+add-t12 : tie.Need-add-t12
+add-t12 c = search needs
+
+quiet-requires-2 : tie.Need-quiet-requires-2
+quiet-requires-2 c κs = search needs
 
 returns-3 : tie.Need-returns-3
 returns-3 c =
-    let a = c .before .before .before .before .before .before .before .before .before .before .before .args in
-    let n = c .before .before .before .before .before .before .before .node-at .result in
-    let e = ap (λ (u : BvhNode). atNode (a .query) (a .items) u (a .self)) (sym (c .before .before .before .before .before .before .before .node-at .ensures)) ∙ node-onward (a .query) (a .items) n (a .self) (sym (c .before .before .before .before .before .before .node-refused .ensures) ∙ c .before .before .before .before .before .if1 .left) (sym (c .before .before .before .before .meets .ensures) ∙ c .before .before .before .if2 .left) in
-    stepped-as (sym e) (quietly _ _ _ _ (ap (λ (k : ℕ). onward k (a .self)) (c .before .before .stride .ensures .0)))
+    let stride = c .before .before .before in
+    let test = stride .before .before in
+    let refusal = test .before .before in
+    let read = refusal .before in
+    let a = read .before .before .args in
+    let good = sym (refusal .node-refused .ensures) ∙ test .before .if1 .left in
+    let missed = sym (test .meets .ensures) ∙ stride .before .if2 .left in
+    let is = node-onward (a .query) (a .items) (read .node-numbered .result) (a .self) good missed in
+    let on = ap (λ (k : ℕ). quiet (onward k (a .self))) (stride .stride .ensures .0) in
+    read-as _ _ _ (read .node-numbered .ensures) (stepped-as (on ∙ sym is) (c .quiet2 .ensures))
 
 pub at-node-spec : {M : Type 1} → statement M
 at-node-spec =
     tie.close
     (tie.spec
-    mul-node-at
-    node-at-requires
+    node-numbered-requires
     node-refused-requires
     refused-requires
+    quiet-requires
     returns
     meets-requires
     hand-over-requires
-    same-length
     returns-2
     stride-requires
-    add-t13
-    add-t14
+    add-t11
+    add-t12
+    quiet-requires-2
     returns-3)

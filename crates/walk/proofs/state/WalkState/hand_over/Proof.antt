@@ -1,18 +1,13 @@
--- `state::WalkState::hand_over` meets its contract: the two ways through it are whether the item count leaves room for the whole leaf.
+-- `state::WalkState::hand_over` meets its contract: the numbers read from the record are the definition's.
 use borrow.Author.Needs.{needs}
 use Rattle.walk.proofs.state.WalkState.hand_over.Statement.{statement}
 use Rattle.walk.proofs.state.WalkState.hand_over.Tie as tie
+use native.Mathlib.Omega.{arith}
 use mathlib.Core.Path.{_≡_, ap, _∙_}
+use Prim.Native.Nat.{ℕ, _+_, _-_, min}
 use Rattle.walk.specs.Refusals.{whole}
+use Rattle.walk.specs.Step.{upFrom, leafStatus, handing}
 use Rattle.walk.proofs.Shorts.{same}
-use Rattle.walk.proofs.Given.{short, whole-leaf}
-
--- what is read of the node
-id-is : (c : tie.After-number) → c .number .result ≡ whole (c .before .before .before .args .n .«item_id»)
-id-is c = c .number .ensures .0 ∙ ap whole (same (c .before .before .before .args .n .«item_id») (c .before .struct-told .given .1 .1 .0 .1))
-
-count-is : (c : tie.After-number2) → c .number2 .result ≡ whole (c .before .before .before .before .before .args .n .«item_count»)
-count-is c = c .number2 .ensures .0 ∙ ap whole (same (c .before .before .before .before .before .args .n .«item_count») (c .before .struct-told2 .given .1 .1 .1 .0 .1))
 
 number-requires : tie.Need-number-requires
 number-requires c κs = search needs
@@ -23,45 +18,47 @@ number-requires-2 c κs = search needs
 sub-room : tie.Need-sub-room
 sub-room c = search needs
 
-hand-out-requires : tie.Need-hand-out-requires
-hand-out-requires c κs = search needs
+lesser-requires : tie.Need-lesser-requires
+lesser-requires c κs = search needs
 
-add-t12 : tie.Need-add-t12
-add-t12 c = search needs
+leaf-status-requires : tie.Need-leaf-status-requires
+leaf-status-requires c κs = search needs
 
-add-t13 : tie.Need-add-t13
-add-t13 c = search needs
+add-t9 : tie.Need-add-t9
+add-t9 c = search needs
 
-add-t14 : tie.Need-add-t14
-add-t14 c = search needs
+add-t10 : tie.Need-add-t10
+add-t10 c = search needs
 
-same-length : tie.Need-same-length
-same-length c = search needs
+add-t11 : tie.Need-add-t11
+add-t11 c = search needs
+
+cast-t13 : tie.Need-cast-t13
+cast-t13 c = search needs
 
 returns : tie.Need-returns
+unfolding handing
 returns c =
-    let a = c .before .before .before .before .before .before .before .before .before .before .before .before .before .before .args in
-    short (a .items) (a .n) (a .self) (a .out .now) _ _ _ (id-is (c .before .before .before .before .before .before .before .before .before .before .before)) (count-is (c .before .before .before .before .before .before .before .before .before)) (c .before .before .before .before .before .before .before .if1 .taken) (c .before .before .before .before .before .hand-out .ensures)
-
-hand-out-requires-2 : tie.Need-hand-out-requires-2
-hand-out-requires-2 c κs = search needs
-
-add-t19 : tie.Need-add-t19
-add-t19 c = search needs
-
-add-t20 : tie.Need-add-t20
-add-t20 c = search needs
-
-add-t21 : tie.Need-add-t21
-add-t21 c = search needs
-
-same-length-2 : tie.Need-same-length-2
-same-length-2 c = search needs
-
-returns-2 : tie.Need-returns-2
-returns-2 c =
-    let a = c .before .before .before .before .before .before .before .before .before .before .before .before .before .before .args in
-    whole-leaf (a .items) (a .n) (a .self) (a .out .now) _ _ _ (id-is (c .before .before .before .before .before .before .before .before .before .before .before)) (count-is (c .before .before .before .before .before .before .before .before .before)) (c .before .before .before .before .before .before .before .if1 .left) (c .before .before .before .before .before .hand-out2 .ensures)
+    let kept = c .before .before .before in
+    let count = kept .before .before .before in
+    let id = count .before .before in
+    let a = id .before .before .args in
+    let s = a .self in
+    let n = a .n in
+    let room = a .items - s .handed in
+    let id-is = id .number .ensures .0 ∙ ap whole (same (n .«item_id») (id .before .struct-told .given .1 .1 .0 .1)) in
+    let count-is = count .number2 .ensures .0 ∙ ap whole (same (n .«item_count») (count .before .struct-told2 .given .1 .1 .1 .0 .1)) in
+    let m-is = kept .before .lesser .ensures ∙ ap (λ (k : ℕ). min k room) count-is in
+    let status-is = kept .leaf-status .ensures ∙ ap (leafStatus room) count-is in
+    record {
+      turn-is =
+          λ i. record {
+            state =
+                record { tree = s .tree; at = s .at + 1; last = s .last; reads = s .reads + 1; handed = s .handed + m-is i; status = status-is i };
+            given = upFrom (id-is i) (m-is i);
+          };
+      short-run = omega (arith, id .number .ensures .1, count .number2 .ensures .1, kept .before .lesser .ensures);
+    }
 
 pub hand-over-spec : {M : Type 1} → statement M
 hand-over-spec =
@@ -70,15 +67,10 @@ hand-over-spec =
     number-requires
     number-requires-2
     sub-room
-    hand-out-requires
-    add-t12
-    add-t13
-    add-t14
-    same-length
-    returns
-    hand-out-requires-2
-    add-t19
-    add-t20
-    add-t21
-    same-length-2
-    returns-2)
+    lesser-requires
+    leaf-status-requires
+    add-t9
+    add-t10
+    add-t11
+    cast-t13
+    returns)

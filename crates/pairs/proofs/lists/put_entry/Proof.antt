@@ -1,0 +1,68 @@
+-- `lists::put_entry` is safe: the seven words of entry i are there.
+use borrow.Author.Needs.{needs}
+use Rattle.pairs.proofs.lists.put_entry.Statement.{statement}
+use Rattle.pairs.proofs.lists.put_entry.Tie as tie
+use mathlib.Core.Path.{_∙_}
+use lib.ListN.{length-set}
+use native.Mathlib.Omega.{arith}
+
+mul-at : tie.Need-mul-at
+mul-at c = search needs
+
+next-requires : tie.Need-next-requires
+next-requires c κs = search needs
+
+drawn-box-requires : tie.Need-drawn-box-requires
+drawn-box-requires c κs = search needs
+
+presence-requires : tie.Need-presence-requires
+presence-requires c κs = search needs
+
+mul-words : tie.Need-mul-words
+mul-words c = search needs
+
+slice-write-words : tie.Need-slice-write-words
+slice-write-words c = search needs
+
+add-put-box : tie.Need-add-put-box
+add-put-box c = search needs
+
+bits-requires : tie.Need-bits-requires
+bits-requires c κs = search needs
+
+bits-requires-2 : tie.Need-bits-requires-2
+bits-requires-2 c κs = search needs
+
+put-box-requires : tie.Need-put-box-requires
+put-box-requires c κs = simp length-set (omega arith)
+
+three-on-requires : tie.Need-three-on-requires
+three-on-requires c κs = search needs
+
+three-on-requires-2 : tie.Need-three-on-requires-2
+three-on-requires-2 c κs = search needs
+
+same-length : tie.Need-same-length
+same-length c = c .before .before .before .before .put-box .kept .0 ∙ simp length-set
+
+returns : tie.Need-returns
+returns c = search needs
+
+pub put-entry-spec : {M : Type 1} → statement M
+put-entry-spec =
+    tie.close
+    (tie.spec
+    mul-at
+    next-requires
+    drawn-box-requires
+    presence-requires
+    mul-words
+    slice-write-words
+    add-put-box
+    bits-requires
+    bits-requires-2
+    put-box-requires
+    three-on-requires
+    three-on-requires-2
+    same-length
+    returns)

@@ -1,0 +1,101 @@
+// A list built and walked for a query.
+use crate::draw::Shape;
+use crate::draw::three_on;
+use crate::tally::Tally;
+use bvh::core::Build;
+use bvh::core::BuiltTree;
+use math::aabb::Aabb;
+use walk::core::Counts;
+use walk::core::Walk;
+ghost use Prim.Native.Nat.{_≤_};
+
+// What the answer to a query comes to. It fails where an item that meets is missed, an item comes twice or is not present, or more
+// records are read than there are.
+fn verdict(
+    list: &[u32; 4900],
+    query: Aabb,
+    threshold: u32,
+    tree: BuiltTree,
+    counts: Counts,
+    order: &[u16; 700],
+    out: &[u16; 700],
+) -> Tally {
+    if counts.handed > 700 {
+        return Tally::refused();
+    }
+    let mut seen = [0u8; 700];
+    let twice = crate::judge::mark_all(&mut seen, out, counts.handed, order, threshold);
+    let met = crate::judge::judge_all(list, query, &seen);
+    let records = std::num::wrapping_add_u64(tree.nodes as u64, tree.trees as u64);
+    let reads = counts.reads as u64;
+    let failed = met.missed > 0 || (twice > 0 || (met.stray > 0 || reads > records));
+    Tally {
+        nodes: tree.nodes as u64,
+        trees: tree.trees as u64,
+        handed: counts.handed as u64,
+        meeting: met.meeting,
+        reads,
+        missed: met.missed,
+        twice,
+        failures: if failed { 1 } else { 0 },
+    }
+}
+
+// Builds and walks. The build works in the words that it is lent, so they are not the list that the answer is held against.
+fn ask(list: &[u32; 4900], shape: Shape, threshold: u32, query: Aabb) -> Tally
+    requires { ⌜ shape .entries ≤ 700 ⌝ }
+{
+    let mut words = [0u32; 4900];
+    crate::lists::fill(&mut words, shape);
+    let mut nodes = [0u8; 22416];
+    let mut trees = [0u8; 22416];
+    let mut order = [0u16; 700];
+    let mut places = [0u32; 700];
+    let mut temp = [0u32; 700];
+    let mut stack = [0u32; 700];
+    let mut first = [0u32; 1401];
+    let mut count = [0u32; 1401];
+    let mut boxes = [0u32; 8406];
+    let mut out = [0u16; 700];
+    let found = tree::pair::build_and_walk(
+        shape.entries,
+        threshold,
+        query,
+        &mut nodes,
+        &mut trees,
+        &mut order,
+        &mut words,
+        &mut places,
+        &mut temp,
+        &mut stack,
+        &mut first,
+        &mut count,
+        &mut boxes,
+        &mut out,
+    );
+    let build = found.build;
+    let Build::Built(tree) = build else {
+        return Tally::refused();
+    };
+    let walk = found.walk;
+    let Walk::Walked(counts) = walk else {
+        return Tally::refused();
+    };
+    verdict(list, query, threshold, tree, counts, &order, &out)
+}
+
+// All queries over a list. They are drawn on from s.
+pub fn ask_all(list: &[u32; 4900], shape: Shape, threshold: u32, s: u32) -> Tally
+    requires { ⌜ shape .entries ≤ 700 ⌝ }
+{
+    let mut state = s;
+    let mut sum = Tally::none();
+    let mut k: u32 = 0;
+    while k < 16 {
+        let query = crate::queries::query(k, list, shape, state);
+        sum = sum.and(ask(list, shape, threshold, query));
+        state = three_on(three_on(state));
+        k += 1;
+    }
+    sum
+}

@@ -1,5 +1,0 @@
-pub mod Answers
-pub mod Lines
-pub mod Numbers
-pub mod Operations
-pub mod Outcomes

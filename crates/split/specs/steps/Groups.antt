@@ -1,0 +1,63 @@
+-- The steps of a split, as the contracts say them: counts, the parted list, the leading group first. Definitions only.
+use Prim.Native.Nat.{ℕ, _+_, _-_, _*_, _/_}
+use mathlib.Core.Bool.{Bool, not, cond, _||_}
+use mathlib.Core.List.{List, _++_}
+use mathlib.Core.Path.{_≡_}
+use lib.Dec.{eqb}
+use lib.ListN.{length, take, drop, getD}
+use lib.Ieee.{Float, binary32, ofBits, lt}
+use Rattle.base.specs.Lists.{oneIf, sift}
+use Rattle.math.specs.declared.vec3.Vec3.{Vec3}
+use Rattle.math.specs.declared.axis.Axis.{Axis}
+use Rattle.math.specs.declared.axis.Axis.the-variants.{X, Y, Z}
+use Rattle.math.specs.Vec3s.{_⊕_, _⊗_}
+use Rattle.math.specs.Transform.{half}
+use Rattle.split.specs.declared.boxes.BoxWords.{BoxWords}
+use Rattle.split.specs.declared.groups.Counts.{Counts}
+use Rattle.split.specs.Rule.{below, countBelow, offset, nearestAxis, twoLeads}
+use Rattle.split.specs.Sorted.{sortBoxes}
+
+-- how many centres are below the average, on each axis
+abbrev pub countsOf : (ℕ → BoxWords) → Vec3 → List ℕ → Counts
+countsOf at avg ps = record { x = countBelow at avg X ps; y = countBelow at avg Y ps; z = countBelow at avg Z ps }
+
+-- the counts with one place more
+abbrev pub countMore : (ℕ → BoxWords) → Vec3 → Counts → ℕ → Counts
+countMore at avg c p =
+    record { x = c .x + oneIf (below at avg X p); y = c .y + oneIf (below at avg Y p); z = c .z + oneIf (below at avg Z p) }
+
+-- Rule T5: the axis, by the counts of n items.
+abbrev pub axisBy : ℕ → Counts → Axis
+axisBy n c = nearestAxis (offset n (c .x)) (offset n (c .y)) (offset n (c .z))
+
+-- how many words the axis comes after x
+abbrev pub stepOf : Axis → ℕ
+stepOf X = 0
+stepOf Y = 1
+stepOf Z = 2
+
+-- Rule T3 on the axis that comes `step` words after x, and whether the centre is above the cut there
+abbrev pub centreAt : List ℕ → ℕ → ℕ → Float
+centreAt ws step p = (ofBits binary32 (getD ws (7 * p + 1 + step) 0) ⊕ ofBits binary32 (getD ws (7 * p + 1 + step + 3) 0)) ⊗ half
+
+unfoldable pub passes : List ℕ → ℕ → Float → ℕ → Bool
+passes ws step cut p = lt cut (centreAt ws step p)
+
+-- Rule T5: what passes the test, then the rest, order kept, and how many pass.
+pub record Parted (test : ℕ → Bool) (ps w : List ℕ) (r : ℕ) : Type 0 where
+  pub list : w ≡ sift test ps ++ sift (λ p. not (test p)) ps
+  pub count : r ≡ length (sift test ps)
+
+-- Rule T6: where none or all of n items are in group one.
+abbrev pub oneSided : ℕ → ℕ → Bool
+oneSided k n = eqb k 0 || eqb k n
+
+-- Rule T6: sorted where a group is empty, and where the second group begins then.
+pub record Settled (at : ℕ → BoxWords) (k : ℕ) (ps w : List ℕ) (r : ℕ) : Type 0 where
+  pub list : w ≡ cond (oneSided k (length ps)) (sortBoxes at ps) ps
+  pub begin : r ≡ cond (oneSided k (length ps)) (length ps / 2) k
+
+-- Rule T7: of the first h places and the others, the group that leads first, and how many it has.
+pub record LeaderFirst (at : ℕ → BoxWords) (h : ℕ) (ps w : List ℕ) (r : ℕ) : Type 0 where
+  pub list : w ≡ cond (twoLeads at (take h ps) (drop h ps)) (drop h ps ++ take h ps) ps
+  pub count : r ≡ cond (twoLeads at (take h ps) (drop h ps)) (length ps - h) h
