@@ -2,11 +2,11 @@
 use mathlib.Core.Path.{_≡_, refl, sym, ap, ap₂, _∙_}
 use mathlib.Core.Bool.{true, _&&_, and-assoc}
 use mathlib.Core.List.{List, [], _∷_, _++_}
-use Prim.Native.Nat.{ℕ, zero, suc, _+_, _-_, _*_, _/_, _%_, _^_, _<_}
+use Prim.Native.Nat.{ℕ, zero, suc, _+_, _-_, _*_, _/_, _%_, _^_, _≤_, _<_}
 use native.Mathlib.Nat.{add-assoc, pow-suc, div-lt-iff-lt-mul}
 use native.Mathlib.Omega.{arith}
 use lib.Dec.{ltb, lit≤}
-use lib.ListN.{length, getD, set, replicate, length-append}
+use lib.ListN.{length, getD, set, replicate, length-append, List·getD-eq-default}
 use lib.Pow.{areBytes}
 use lib.Seq.{sets, getD-append-add}
 use borrow.Author.Tests.{lt-ltb}
@@ -83,6 +83,13 @@ le-back (suc size) n rest h =
     let less : n / 256 < 256 ^ size = div-lt-iff-lt-mul (lit≤ tt) .1 (rw (pow-suc 256 size) at h) in
     let high : leAt size (n % 256 ∷ q) 1 ≡ n / 256 = le-after size (n % 256 ∷ []) q 1 0 refl ∙ le-back size (n / 256) rest less in
     ap (λ (k : ℕ). n % 256 + 256 * k) high ∙ omega arith
+
+-- Past the bytes there is 0.
+pub le-past : (size : ℕ) (bytes : List ℕ) (k : ℕ) → length bytes ≤ k → leAt size bytes k ≡ 0
+unfolding leAt
+le-past zero bytes k h = refl
+le-past (suc size) bytes k h =
+    ap₂ (λ (b n : ℕ). b + 256 * n) (List·getD-eq-default bytes 0 {n = k} h) (le-past size bytes (k + 1) (omega arith))
 
 -- Four bytes are two and two.
 pub le-four : (bytes : List ℕ) (k : ℕ) → leAt 2 bytes k + 65536 * leAt 2 bytes (k + 2) ≡ leAt 4 bytes k

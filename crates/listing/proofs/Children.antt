@@ -9,11 +9,13 @@ use lib.ListN.{length, getD, take, drop, length-append, List·getD-append, List�
 use lib.Seq.{take-at, getD-append-add}
 use Rattle.base.proofs.StoreLaws.{over-more}
 use Rattle.base.specs.Lists.{upFrom, over}
+use Rattle.base.specs.LittleEndian.{leAt}
+use Rattle.base.proofs.LittleEndian.{le-past}
 use Rattle.split.specs.Boxes.{boxWords, boxFrom}
 use Rattle.bvh.specs.Decode.{marked}
 use Rattle.bvh.specs.Entry.{entriesIn}
 use Rattle.listing.specs.Listing.{childrenOf}
-use Rattle.listing.specs.Reading.{wordAt, cornerAt, childBox, childWords}
+use Rattle.listing.specs.Reading.{cornerAt, childBox, childWords}
 
 pub length-children : (bytes : List ℕ) (n : ℕ) → length (childWords bytes n) ≡ 7 * n
 unfolding childWords
@@ -91,17 +93,8 @@ module _ (bytes : List ℕ) where
       λ i. record { min = record { x = a i; y = b i; z = c i }; max = record { x = d i; y = e i; z = f i } }
 
   -- past the records both are zeros
-  word-past : (k : ℕ) → length bytes ≤ k → wordAt bytes k ≡ 0
-  word-past k h =
-      rw (
-        List·getD-eq-default bytes 0 {n = k} h,
-        List·getD-eq-default bytes 0 {n = k + 1} (omega arith),
-        List·getD-eq-default bytes 0 {n = k + 2} (omega arith),
-        List·getD-eq-default bytes 0 {n = k + 3} (omega arith),
-      )
-
-  both-past : (n k j : ℕ) → 7 * n ≤ k → length bytes ≤ j → getD (childWords bytes n) k 0 ≡ wordAt bytes j
-  both-past n k j h l = List·getD-eq-default (childWords bytes n) 0 {n = k} (omega (arith, length-children bytes n)) ∙ sym (word-past j l)
+  both-past : (n k j : ℕ) → 7 * n ≤ k → length bytes ≤ j → getD (childWords bytes n) k 0 ≡ leAt 4 bytes j
+  both-past n k j h l = List·getD-eq-default (childWords bytes n) 0 {n = k} (omega (arith, length-children bytes n)) ∙ sym (le-past 4 bytes j l)
 
   box-past : (n p : ℕ) → n ≤ p → length bytes ≤ 32 * n → boxFrom (childWords bytes n) (7 * p + 1) ≡ childBox bytes (32 * p)
   unfolding childBox cornerAt

@@ -6,6 +6,7 @@ use mathlib.Core.Path.{_≡_, refl}
 use lib.Ieee.{ofBits, ofInt, add, sub, mul, div, lt, neg, toSigned}
 use lib.IntN.{pos, negsuc}
 use lib.ListN.{replicate}
+use Rattle.base.specs.LittleEndian.{leAt}
 use Rattle.float32.specs.Casts.{shortOf}
 use Rattle.float32.specs.Counts.{ofCount}
 use Rattle.float32.specs.Extremes.{vminOf, vmaxOf, vminWord, vmaxWord}
@@ -20,7 +21,7 @@ use Rattle.bvh.specs.Output.{nodeOf, treeRecord}
 use Rattle.bvh.specs.Tree.{growF, grow}
 use Rattle.listing.specs.Lines.{nodeLine, recordLine, vertexFields, countsLine, refusedLine, treeLine}
 use Rattle.listing.specs.Listing.{boxesText, childrenOf, nodesOf, treesOf, listingOf}
-use Rattle.listing.specs.Reading.{wordAt, cornerAt, childBox}
+use Rattle.listing.specs.Reading.{cornerAt, childBox}
 use Rattle.listing.specs.Text.{decimalOf, decimal, signed, field}
 
 -- "0", "10" and "-32768"
@@ -56,7 +57,8 @@ unfolding nodeLine recordLine vertexFields field decimal decimalOf
 node-text = refl
 
 -- a float's word, the lowest byte first: -0.5
-pub word-text : wordAt (0x00 ∷ 0x00 ∷ 0x00 ∷ 0xbf ∷ []) 0 ≡ 0xbf00_0000
+pub word-text : leAt 4 (0x00 ∷ 0x00 ∷ 0x00 ∷ 0xbf ∷ []) 0 ≡ 0xbf00_0000
+unfolding leAt
 word-text = refl
 
 -- 8,193 bytes, which are no whole records either, are refused as too many.
@@ -96,7 +98,7 @@ listed =
     ∷ 32 ∷ 45 ∷ 51 ∷ 50 ∷ 55 ∷ 54 ∷ 55 ∷ 32 ∷ 51 ∷ 50 ∷ 55 ∷ 54 ∷ 55 ∷ 32 ∷ 51 ∷ 50 ∷ 55 ∷ 54 ∷ 55 ∷ 32 ∷ 51 ∷ 50 ∷ 55 ∷ 54 ∷ 55 ∷ 32 ∷ 48 ∷ 32 ∷ 51 ∷ 10 ∷ [])
 
 pub two-boxes : boxesText input ≡ listed
-unfolding boxesText listingOf childrenOf nodesOf treesOf cornerAt childBox nodeLine treeLine countsLine recordLine vertexFields field decimal decimalOf
+unfolding boxesText listingOf childrenOf nodesOf treesOf cornerAt leAt childBox nodeLine treeLine countsLine recordLine vertexFields field decimal decimalOf
     treeOf grow growF nodeOf treeRecord foldBox averageOf below above countBelow axisOf chosen groupOne groupTwo firstOf secondOf quantiseOf scaleOfBox
     shortOf ofCount vminOf vmaxOf vminWord vmaxWord Signs.absOf ofBits add sub mul div lt neg toSigned ofInt
 two-boxes = refl
@@ -114,7 +116,7 @@ nothing =
     ∷ 32 ∷ 45 ∷ 51 ∷ 50 ∷ 55 ∷ 54 ∷ 54 ∷ 32 ∷ 45 ∷ 51 ∷ 50 ∷ 55 ∷ 54 ∷ 54 ∷ 32 ∷ 45 ∷ 51 ∷ 50 ∷ 55 ∷ 54 ∷ 54 ∷ 32 ∷ 48 ∷ 32 ∷ 49 ∷ 10 ∷ [])
 
 pub no-box : boxesText [] ≡ nothing
-unfolding boxesText listingOf childrenOf nodesOf treesOf cornerAt childBox nodeLine treeLine countsLine recordLine vertexFields field decimal decimalOf
+unfolding boxesText listingOf childrenOf nodesOf treesOf cornerAt leAt childBox nodeLine treeLine countsLine recordLine vertexFields field decimal decimalOf
     treeOf grow growF nodeOf treeRecord foldBox averageOf below above countBelow axisOf chosen groupOne groupTwo firstOf secondOf quantiseOf scaleOfBox
     shortOf ofCount vminOf vmaxOf vminWord vmaxWord Signs.absOf ofBits add sub mul div lt neg toSigned ofInt
 no-box = refl

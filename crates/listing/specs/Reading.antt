@@ -1,18 +1,14 @@
 -- The child box records that `boxes` reads. Definitions only.
 use Prim.Native.Nat.{ℕ, zero, suc, _+_, _*_}
 use mathlib.Core.List.{List, [], _∷_, _++_}
-use lib.ListN.{getD}
+use Rattle.base.specs.LittleEndian.{leAt}
 use Rattle.math.specs.declared.words3.Words3.{Words3}
 use Rattle.split.specs.declared.boxes.BoxWords.{BoxWords}
 use Rattle.split.specs.Boxes.{boxWords}
 
--- Rule R1: the u32 whose four bytes stand from k on, the lowest first.
-abbrev pub wordAt : List ℕ → ℕ → ℕ
-wordAt bytes k = getD bytes k 0 + 256 * getD bytes (k + 1) 0 + 65536 * getD bytes (k + 2) 0 + 16777216 * getD bytes (k + 3) 0
-
 -- Rule L8 (01: w ignored): the x, y and z of the four floats from k on.
 unfoldable pub cornerAt : List ℕ → ℕ → Words3
-cornerAt bytes k = record { x = wordAt bytes k; y = wordAt bytes (k + 4); z = wordAt bytes (k + 8) }
+cornerAt bytes k = record { x = leAt 4 bytes k; y = leAt 4 bytes (k + 4); z = leAt 4 bytes (k + 8) }
 
 -- Rule L8 (01: child boxes of 32 bytes, min, max): the box of the record that stands at k.
 unfoldable pub childBox : List ℕ → ℕ → BoxWords

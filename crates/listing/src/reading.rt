@@ -1,30 +1,14 @@
 // The child box records of the input, as the entries of a build.
+use base::little_endian::word_at;
 use math::words3::Words3;
 use split::boxes::BoxWords;
 ghost use mathlib.Core.Path.{_≡_};
 ghost use mathlib.Core.List.{_∷_, _++_};
-ghost use Prim.Native.Nat.{_+_, _*_, _≤_, _<_};
+ghost use Prim.Native.Nat.{_+_, _*_, _≤_};
 ghost use lib.ListN.{length, take, drop};
 ghost use Rattle.base.specs.Lists.{over};
 ghost use Rattle.split.specs.Boxes.{boxWords};
-ghost use Rattle.listing.specs.Reading.{wordAt, cornerAt, childBox, childWords};
-
-fn wide(byte: u8) -> u32
-    ensures { λ r. ⌜ (r ≡ byte) × (r < 256) ⌝ }
-{
-    byte as u32
-}
-
-fn word_at(bytes: &[u8], at: usize) -> u32
-    requires { ⌜ at + 4 ≤ length (now bytes) ⌝ }
-    ensures { λ r. ⌜ r ≡ wordAt (now (bytes .entry)) at ⌝ }
-{
-    let a = wide(bytes[at]);
-    let b = wide(bytes[at + 1]);
-    let c = wide(bytes[at + 2]);
-    let d = wide(bytes[at + 3]);
-    a + 256 * b + 65536 * c + 16777216 * d
-}
+ghost use Rattle.listing.specs.Reading.{cornerAt, childBox, childWords};
 
 // The three words from `at` on. The fourth, w, is not read.
 fn corner_at(bytes: &[u8], at: usize) -> Words3

@@ -7,16 +7,20 @@ use Rattle.float32.proofs.casts.truncated.Statement.{statement}
 use Rattle.float32.proofs.casts.truncated.Tie as tie
 
 in-range : (c : tie.Else3) → Range.Small 15 (c .before .before .before .args .x)
-in-range c = Truncation.small15 (c .before .before .before .args .x) (c .before .before .if1 .left) (c .before .if2 .left) (c .if3 .left)
+in-range c =
+    let first = c .before .before in
+    Truncation.small15 (first .before .args .x) (first .if1 .left) (c .before .if2 .left) (c .if3 .left)
 
 truncating-f32-to-i64-requires : tie.Need-truncating-f32-to-i64-requires
 truncating-f32-to-i64-requires c κs =
-    (Range.wide-low 15 tt (c .before .before .before .args .x) (in-range c), Range.wide-high 15 tt (c .before .before .before .args .x) (in-range c))
+    let x = c .before .before .before .args .x in
+    (Range.wide-low 15 tt x (in-range c), Range.wide-high 15 tt x (in-range c))
 
 cast-result : tie.Need-cast-result
 cast-result c =
-    Range.cast-fits w16 tt (c .before .before .before .before .args .x) (c .truncating-f32-to-i64 .result) (in-range (c .before))
-    (c .truncating-f32-to-i64 .ensures)
+    let b = c .before in
+    let x = b .before .before .before .args .x in
+    Range.cast-fits w16 tt x (c .truncating-f32-to-i64 .result) (in-range b) (c .truncating-f32-to-i64 .ensures)
 
 returns : tie.Need-returns
 returns c = Truncation.low-end (c .before .args .x) (c .if1 .taken)

@@ -43,11 +43,12 @@ value-requires c κs = search needs
 
 returns-2 : tie.Need-returns-2
 returns-2 c =
-    let at = c .before .before .before .before .before in
+    let parted = c .before .before in
+    let tested = parted .before in
+    let at = tested .before .before in
     c .value .ensures
     ∙ ap (ofBits binary32) (c .before .root-bits .ensures)
-    ∙ above-zero (at .bits .result) _ _ (omega (arith, c .before .before .before .before .if1 .left)) (c .before .before .before .if2 .taken)
-    (c .before .before .parts .ensures)
+    ∙ above-zero (at .bits .result) _ _ (omega (arith, tested .before .if1 .left)) (tested .if2 .taken) (parted .parts .ensures)
     ∙ ap (sqrtOf binary32) (x-is at)
 
 returns-3 : tie.Need-returns-3

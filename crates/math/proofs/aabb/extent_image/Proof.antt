@@ -27,11 +27,12 @@ abs-requires-2 c κs = search needs
 returns : tie.Need-returns
 unfolding extentImage
 returns c =
-    let m = c .before .before .before .before .before .args .m in
-    let e = c .before .before .before .scale .ensures ∙ ap (λ (v : Vec3). scaleOf v half) (c .before .before .before .before .sub .ensures) in
-    c .abs2 .ensures
-    ∙ ap absOf (c .before .transform-vector .ensures
-    ∙ ap (λ (a : Mat4). vectorOf a (c .before .before .before .scale .result)) (c .before .before .abs .ensures) ∙ ap (vectorOf (absMatrix m)) e)
+    let turned = c .before in
+    let scaled = turned .before .before in
+    let m = scaled .before .before .args .m in
+    let half-extent = scaled .scale .ensures ∙ ap (λ (v : Vec3). scaleOf v half) (scaled .before .sub .ensures) in
+    let rows = ap (λ (a : Mat4). vectorOf a (scaled .scale .result)) (turned .before .abs .ensures) in
+    c .abs2 .ensures ∙ ap absOf (turned .transform-vector .ensures ∙ rows ∙ ap (vectorOf (absMatrix m)) half-extent)
 
 pub extent-image-spec : {M : Type 1} → statement M
 extent-image-spec =
