@@ -7,6 +7,7 @@ use mathlib.Core.List.{List, [], _∷_, _++_, append-assoc, append-nil}
 use lib.ListN.{length, getD, take, drop, set, length-append}
 use lib.Seq.{take-at, drop-append-add, drop-drop, drop-cons, set-at}
 use Rattle.base.specs.Lists.{over}
+use Rattle.base.proofs.StoreLaws.{over-more}
 use Rattle.records.specs.declared.scale.Scale.{Scale}
 use Rattle.records.specs.Records.{nodeBytes}
 use Rattle.records.proofs.Sizes.{node-bytes}
