@@ -8,7 +8,7 @@ use Rattle.records.specs.declared.scale.Scale.{Scale}
 use Rattle.records.specs.Records.{treeBytes}
 use Rattle.records.proofs.Sizes.{tree-bytes}
 use Rattle.bvh.specs.Tree.{Node, leaf, inner, Builder, growF, grow, size}
-use Rattle.bvh.specs.Ranges.{Range, ranges}
+use Rattle.bvh.specs.Ranges.{Range}
 use Rattle.bvh.specs.Output.{treeRecord, treesBytes}
 use Rattle.bvh.specs.steps.Flat.{Full, Filled, Flat, Scannable}
 use Rattle.bvh.specs.steps.Laid.{Grown}

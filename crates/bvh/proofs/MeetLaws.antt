@@ -17,7 +17,7 @@ use Rattle.split.specs.Ends.{low, high, Proper, Bounded, Each}
 use Rattle.split.specs.Folding.{foldBox}
 use Rattle.split.proofs.FoldLaws.{fold-below-each, fold-above-each, fold-proper, fold-bounded, fold-contains}
 use Rattle.records.specs.Axis.{extent, largest, smallest, nought, Measured}
-use Rattle.records.proofs.AxisLaws.{built, asked, Inside, built-below, built-above, built-mono}
+use Rattle.records.proofs.AxisLaws.{built, asked, Inside, built-below, built-above}
 
 module _ (at : ℕ → BoxWords) (a : Axis) (ps : List ℕ) (proper : Each at (Proper a) ps) where
   -- the box of all items
@@ -56,10 +56,6 @@ module _ (at : ℕ → BoxWords) (a : Axis) (ps : List ℕ) (proper : Each at (P
     max-inside n =
         let c = fold-contains at a ps proper qs sub in
         (le-trans (low a all) (low a part) (high a part) (c .0) (part-proper n .in-order), c .1)
-
-    -- min at most max in units too
-    pub part-in-order : 0 < length qs → T (leZ (built a (all .min) (all .max) (part .min)) (built a (all .min) (all .max) (part .max)))
-    part-in-order n = built-mono a (all .min) (all .max) m (part .min) (part .max) (min-inside n) (max-inside n) (part-proper n .in-order)
 
     pub part-below : (p : ℕ) (w : Vec3) → 0 < length qs → Among p qs → T (le (low a (at p)) (coordinate a w))
         → T (leZ (built a (all .min) (all .max) (part .min)) (asked a (all .min) (all .max) w))

@@ -4,7 +4,6 @@ use Rattle.bvh.proofs.emit.row_node.Statement.{statement}
 use Rattle.bvh.proofs.emit.row_node.Tie as tie
 use Prim.Native.Nat.{ℕ, _<_}
 use mathlib.Core.Path.{_≡_, sym, ap, subst, _∙_}
-use lib.IntN.{pos}
 use lib.ListN.{length}
 use mir.Syntax.{w16}
 use mir.Val.{toZ}

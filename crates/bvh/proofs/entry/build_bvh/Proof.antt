@@ -49,7 +49,7 @@ use denote.Slice.{sliceTy, sliceVal, ShrSlice, MutSlice, Room, finally, slice-va
 use denote.Steps.{nothing, only, owned, heard, peeks, facts}
 use denote.Struct.Laws as LL
 use denote.Enum.Laws as EL
-use denote.Triple.Entry.{Args, Vals, alive, onEntry}
+use denote.Triple.Entry.{Args, Vals, onEntry}
 use denote.Triple.Spec.{Meets, tripleOf}
 use denote.Triple.Statement.{Contract, Triple}
 use denote.Triple.Call.{calls-at}

@@ -1,13 +1,12 @@
 -- `sizes::fill_sizes` meets its contract. The loop's invariant is `Filling`: the rows from i on are sized, the others as they were.
 use Rattle.bvh.proofs.sizes.fill_sizes.Statement.{statement}
 use Rattle.bvh.proofs.sizes.fill_sizes.Tie as tie
-use Prim.Native.Nat.{ℕ, _-_, _*_, _<_}
-use mathlib.Core.List.{List}
+use Prim.Native.Nat.{_-_, _*_, _<_}
 use mathlib.Core.Path.{_≡_, refl, sym, _∙_}
 use lib.ListN.{length, drop}
 use Rattle.bvh.specs.steps.Table.{rowAt, rowsIn}
 use Rattle.bvh.proofs.TableLaws.{length-rows-in}
-use Rattle.bvh.proofs.sizes.Filling.{Filling, Read, start, room, first-ends, read, inner-turn, leaf-turn, ended}
+use Rattle.bvh.proofs.sizes.Filling.{Filling, Read, start, first-ends, read, inner-turn, leaf-turn, ended}
 use native.Mathlib.Omega.{arith}
 
 abbrev Inv-loop : tie.InvT-loop
