@@ -19,7 +19,7 @@ use Rattle.bvh.specs.Entry.{Outputs, entriesIn}
 use Rattle.bvh.specs.Items.{marked}
 use Rattle.bvh.specs.Output.{over, nodesBytes, padBytes, capacityOf, treesBytes, orderOf}
 use Rattle.bvh.specs.Ranges.{ranges, rangeLimit}
-use Rattle.bvh.specs.Rows.{Row, rows}
+use Rattle.bvh.specs.Rows.{rows}
 use Rattle.bvh.specs.Tree.{Node, leaf, inner, Builder, builder, grow, boxOf, leafOrder, size}
 use Rattle.bvh.specs.steps.Core.{NodesWritten, OrderFits, Writable, Written}
 use Rattle.bvh.specs.steps.Decode.{Below, RowsFit, SmallRows}
@@ -167,7 +167,7 @@ module _ (task : Task) (p : Planted) (entries places temp table : List ℕ) (o :
       → ((u : Node) → Flat u (p .nodes) table → TreesPut rangeLimit s u (o .trees) (o′ .trees) parts)
       → o′ .order ≡ over (orderOf th marks leaves) (o .order)
       → Written (entriesIn n entries) th
-        (record { nodes = p .nodes; capacity = cap; trees = parts; present = p .present; min = all .min; max = all .max; scale = s }) o o′
+      (record { nodes = p .nodes; capacity = cap; trees = parts; present = p .present; min = all .min; max = all .max; scale = s }) o o′
   unfolding entriesIn treeOf nodesWritten treesWritten orderWritten
   written all s cap parts o′ ea es wn wt wo =
       let box-is : all ≡ boxOf t = ea ∙ root-box in
