@@ -1,11 +1,10 @@
 -- What is written: how many bytes it has, and that what is written part after part is written as one.
-use Prim.Native.Nat.{ℕ, zero, suc, _+_, _-_, _*_, _≤_, _<_}
+use Prim.Native.Nat.{ℕ, zero, suc, _+_, _-_, _*_, _≤_}
 use native.Mathlib.Omega.{arith}
 use native.Mathlib.Numerals.{add-one}
-use mathlib.Core.Path.{_≡_, refl, sym, ap, ap₂, _∙_}
+use mathlib.Core.Path.{_≡_, refl, sym, ap, _∙_}
 use mathlib.Core.List.{List, [], _∷_, _++_, append-assoc, append-nil}
-use lib.ListN.{length, getD, take, drop, set, length-append}
-use lib.Seq.{take-at, drop-append-add, drop-drop, drop-cons, set-at}
+use lib.ListN.{length, take, drop, length-append}
 use Rattle.base.specs.Lists.{over}
 use Rattle.base.proofs.StoreLaws.{over-more}
 use Rattle.records.specs.declared.scale.Scale.{Scale}

@@ -1,18 +1,15 @@
 -- Laws of the tree that a lawful builder grows: how `grow` unfolds whatever the fuel, what its leaves hold, and how its rows lie.
 use Prim.Native.Nat.{ℕ, zero, suc, _+_, _*_, _≤_, _<_}
 use native.Mathlib.Omega.{arith}
-use mathlib.Core.Bool.{Bool, true, false, _&&_}
-use mathlib.Core.List.{List, [], _∷_, _++_}
-use mathlib.Core.Path.{_≡_, refl, sym, ap, ap₂, _∙_, subst}
-use lib.Dec.{leb, ltb}
-use lib.ListN.{length, take, drop, length-append}
-use lib.Seq.{take-at, drop-at}
-use native.Mathlib.Decide.{decLe}
-use borrow.Author.Tests.{leb-true, leb-false, le-leb, lt-leb, lt-ltb, le-ltb}
+use mathlib.Core.Bool.{Bool, true, false}
+use mathlib.Core.List.{List}
+use mathlib.Core.Path.{_≡_, refl, sym, ap₂, _∙_}
+use lib.Dec.{leb}
+use lib.ListN.{length, length-append}
+use borrow.Author.Tests.{leb-true, leb-false, le-leb, lt-leb}
 use Rattle.base.proofs.ListLaws.{occurs-append}
 use Rattle.base.proofs.WithinLaws.{within-append}
 use Rattle.base.specs.Lists.{Within, Permutes}
-use Rattle.split.specs.declared.boxes.BoxWords.{BoxWords}
 use Rattle.bvh.specs.steps.Flat.{Full}
 use Rattle.bvh.specs.Rows.{rows}
 use Rattle.bvh.specs.Tree.{Node, leaf, inner, Builder, growF, grow, leafOrder, size}

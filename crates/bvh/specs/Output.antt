@@ -4,8 +4,7 @@ use mathlib.Core.Bool.{cond}
 use mathlib.Core.List.{List, [], _∷_, _++_}
 use lib.Dec.{eqb}
 use lib.IntN.{pos}
-use lib.ListN.{length, getD, drop}
-use Rattle.split.specs.declared.boxes.BoxWords.{BoxWords}
+use lib.ListN.{getD}
 use Rattle.records.specs.declared.BvhNode.{BvhNode}
 use Rattle.records.specs.declared.BvhTree.{BvhTree}
 use Rattle.records.specs.declared.scale.Scale.{Scale}

@@ -1,6 +1,6 @@
 -- The walk over the records of a tree is the visit of the tree: from the number of a node's record on, the machine hands out what the visit does,
 -- reads as much, and stands behind the node's last record. By induction over the tree, and over its parts, at every limit from 1 on.
-use Prim.Native.Nat.{ℕ, zero, suc, _+_, _-_, _*_, _≤_, _<_, min, max}
+use Prim.Native.Nat.{ℕ, _+_, _-_, _*_, _≤_, _<_, min, max}
 use native.Mathlib.Omega.{arith}
 use native.Mathlib.Nat.{add-zero, zero-add}
 use mathlib.Core.Bool.{Bool, true, false, cond, _||_}
@@ -27,7 +27,6 @@ use Rattle.bvh.proofs.RangeLaws.{size-some, parts-induction}
 use Rattle.bvh.proofs.TreeLaws.{length-rows}
 use Rattle.walk.specs.Refusals.{badRange, badNode}
 use Rattle.walk.specs.Step.{Lent, Turn, more, stepOf, atNode, atTree, handing, quiet, onward, passing, strideOf, started}
-use Rattle.walk.specs.Step as W
 use Rattle.walk.specs.Walks.{joined, walkFrom}
 use Rattle.walk.specs.declared.boxes.Query.{Query}
 use Rattle.walk.specs.declared.state.Sizes.{Sizes}
@@ -66,10 +65,6 @@ at-node tree k last reads handed = record { tree = tree; at = k; last = last; re
 
 -- ---- one node record
 
-ups : (id n : ℕ) → W.upFrom id n ≡ upFrom id n
-ups id zero = refl
-ups id (suc n) = ap (λ (l : List ℕ). id ∷ l) (ups (id + 1) n)
-
 module _ (sc : Scale) (th : ℕ) (order : List ℕ) (r : Row) where
   abbrev id : ℕ
   id = idOf th order r
@@ -100,7 +95,7 @@ module _ (sc : Scale) (th : ℕ) (order : List ℕ) (r : Row) where
   unfolding handing nodeOf
   handed-all items tree k last reads handed h =
       let m : min (r .count) (items - handed) ≡ r .count = omega arith in
-      rw (m, le-ltb (items - handed) (r .count) (omega arith), ups id (r .count))
+      rw (m, le-ltb (items - handed) (r .count) (omega arith))
 
 -- ---- a tree's node records
 

@@ -1,11 +1,9 @@
 -- What a build wrote is what the walk reads: the record at a number is that of the row, or of the range, with that number.
-use Prim.Native.Nat.{ℕ, suc, _+_, _*_, _<_}
-use native.Mathlib.Omega.{arith}
+use Prim.Native.Nat.{ℕ, _+_, _*_, _<_}
 use mathlib.Core.List.{List, _∷_, _++_, append-assoc}
-use mathlib.Core.Path.{_≡_, sym, ap, _∙_}
+use mathlib.Core.Path.{_≡_, ap, _∙_}
 use lib.IntN.{pos}
-use lib.ListN.{length, take, drop, take-append-drop, length-drop}
-use lib.Seq.{length-take-le}
+use lib.ListN.{take, drop}
 use mir.Syntax.{w16}
 use mir.Val.{SFits}
 use Rattle.records.specs.declared.scale.Scale.{Scale}

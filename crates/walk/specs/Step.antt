@@ -1,7 +1,7 @@
 -- One reading of a record: what state it leads to, and which positions it hands out. Definitions only.
-use Prim.Native.Nat.{ℕ, zero, suc, _+_, _-_, _*_, min, max}
+use Prim.Native.Nat.{ℕ, _+_, _-_, _*_, min, max}
 use mathlib.Core.Bool.{Bool, true, false, cond, _&&_, _||_}
-use mathlib.Core.List.{List, [], _∷_}
+use mathlib.Core.List.{List, []}
 use lib.Dec.{ltb, eqb}
 use Rattle.base.specs.Lists.{upFrom}
 use Rattle.records.specs.Records.{nodeAt, treeAt}

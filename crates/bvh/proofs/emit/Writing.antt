@@ -4,8 +4,8 @@ use native.Mathlib.Omega.{arith}
 use native.Mathlib.Numerals.{add-one}
 use mathlib.Core.Path.{_≡_, sym, ap, _∙_, subst}
 use mathlib.Core.List.{List, [], _∷_, _++_, append-assoc, append-nil}
-use lib.ListN.{length, getD, take, drop, set, length-append, length-set, length-drop, take-append-drop}
-use lib.Seq.{length-take-le, take-suc, take-length, take-all}
+use lib.ListN.{length, getD, take, drop, set, length-append, length-set, take-append-drop}
+use lib.Seq.{length-take-le, take-suc}
 use Rattle.base.proofs.StoreLaws.{over-more, over-one}
 use Rattle.base.specs.Lists.{over}
 use lib.ListN.{length, getD, take, drop, set, length-append, length-set, take-append-drop}
