@@ -12,6 +12,7 @@ use lib.IntN.{pos}
 use lib.ListN.{length, take, drop, length-append, length-map, take-append-drop}
 use lib.Seq.{drop-at, drop-drop}
 use lib.Signed.{ltZ}
+use Rattle.base.proofs.NumberLaws.{length-up}
 use Rattle.base.specs.Lists.{upFrom}
 use Rattle.records.specs.declared.BvhNode.{BvhNode}
 use Rattle.records.specs.declared.BvhTree.{BvhTree}
@@ -37,7 +38,7 @@ use Rattle.walk.proofs.WalkLaws.{walk-more, walk-none}
 use Rattle.tree.specs.Pair.{hitBy}
 use Rattle.tree.specs.Visit.{visit, visitReads, visitParts, rangeReads, partReads}
 use Rattle.tree.proofs.ReadLaws.{node-read, tree-read}
-use Rattle.tree.proofs.VisitLaws.{length-up, visit-few, parts-few, visit-both, reads-append}
+use Rattle.tree.proofs.VisitLaws.{visit-few, parts-few, visit-both, reads-append}
 
 -- ---- on from a state
 
