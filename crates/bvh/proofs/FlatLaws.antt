@@ -1,17 +1,17 @@
--- What a caller of `ranges::put_trees` shows and gets: the builder's slices are a flat tree, there is room for its ranges, and their records' bytes.
+-- What a caller of `ranges::put_trees` shows and gets: the builder's table is a flat tree, there is room for its ranges, and their records' bytes.
 use Prim.Native.Nat.{ℕ, _+_, _*_, _≤_, _<_}
 use native.Mathlib.Omega.{arith}
 use mathlib.Core.List.{List, [], _∷_, _++_, append-assoc}
 use mathlib.Core.Path.{_≡_, refl, sym, ap, _∙_}
-use lib.ListN.{length, take, length-append}
+use lib.ListN.{length, length-append}
 use Rattle.records.specs.declared.scale.Scale.{Scale}
 use Rattle.records.specs.Records.{treeBytes}
 use Rattle.records.proofs.Sizes.{tree-bytes}
 use Rattle.bvh.specs.Tree.{Node, leaf, inner, Builder, growF, grow, size}
-use Rattle.bvh.specs.Rows.{words, rows, Grown}
 use Rattle.bvh.specs.Ranges.{Range, ranges}
 use Rattle.bvh.specs.Output.{treeRecord, treesBytes}
-use Rattle.bvh.specs.Flat.{Full, Filled, Flat, Scannable}
+use Rattle.bvh.specs.steps.Flat.{Full, Filled, Flat, Scannable}
+use Rattle.bvh.specs.steps.Laid.{Grown}
 use Rattle.bvh.proofs.RangeLaws.{ranges-few}
 
 -- ---- the records' bytes
@@ -38,18 +38,12 @@ unfolding growF grow
 grow-filled b th [] h = tt
 grow-filled b th (p ∷ ps) h = full-filled (grow b th (p ∷ ps)) (h (omega arith))
 
-module _ (b : Builder) (th : ℕ) (ps order first count boxes : List ℕ) (r : ℕ) (g : Grown b th ps order first count boxes r) (filled : Filled (grow b th ps)) (few : r ≤ 32767) where
-  pub grown-flat : Flat (grow b th ps) (take r first) (take r count) boxes
-  grown-flat =
-      record {
-        heads-are = g .heads-are;
-        counts-are = g .counts-are;
-        words-are = ap (λ (n : ℕ). take (6 * n) boxes) (sym (g .size-is)) ∙ g .words-are;
-        filled = filled;
-        few = omega (arith, g .size-is);
-      }
+module _ (b : Builder) (th : ℕ) (ps places table : List ℕ) (r : ℕ)
+    (g : Grown b th ps places table r) (filled : Filled (grow b th ps)) (few : r ≤ 32767) where
+  pub grown-flat : Flat (grow b th ps) r table
+  grown-flat = record { number-is = g .size-is; rows-are = g .rows-are; filled = filled; few = omega (arith, g .size-is) }
 
   -- As many records as nodes are room enough.
-  pub grown-scannable : (trees : List ℕ) → 16 * r ≤ length trees → Scannable (take r first) (take r count) boxes trees
-  grown-scannable trees h =
-      record { tree = grow b th ps; flat = grown-flat; room = omega (arith, ranges-few 0 (grow b th ps), g .size-is) }
+  pub grown-scannable : (limit : ℕ) → 0 < limit → (trees : List ℕ) → 16 * r ≤ length trees → Scannable limit r table trees
+  grown-scannable limit some trees h =
+      record { limit-some = some; tree = grow b th ps; flat = grown-flat; room = omega (arith, ranges-few limit some 0 (grow b th ps), g .size-is) }

@@ -9,6 +9,7 @@ pub mod MeetLaws
 pub mod Places
 pub mod Promises
 pub mod RangeLaws
-pub mod RowsInLaws
+pub mod SmallLaws
+pub mod TableLaws
 pub mod TreeLaws
 pub mod WordLaws

@@ -10,8 +10,8 @@ use lib.ListN.{length, getD, take, drop, set, length-append}
 use lib.Seq.{getD-at, take-set-le, take-suc-set}
 use Rattle.split.specs.Lists.{pick, oneIf}
 use Rattle.bvh.specs.declared.items.BvhItem.{BvhItem}
-use Rattle.bvh.specs.Items.{present, itemWords, wordsOf}
-use Rattle.bvh.specs.Decode.{isMarked, marked, Below, Rising}
+use Rattle.bvh.specs.Items.{present, itemWords, wordsOf, isMarked, marked}
+use Rattle.bvh.specs.steps.Decode.{Below, Rising}
 use Rattle.bvh.proofs.WordLaws.{below-wider, rising-lower}
 
 is-marked : (b : Bool) → isMarked (cond b 1 0) ≡ b

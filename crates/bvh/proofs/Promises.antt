@@ -13,12 +13,13 @@ use lib.Seq.{drop-at, drop-drop, getD-drop}
 use Rattle.split.specs.Lists.{occurrences, sift, pick}
 use Rattle.split.specs.declared.boxes.BoxWords.{BoxWords}
 use Rattle.bvh.specs.Build.{Entries, treeOf}
-use Rattle.bvh.specs.Decode.{Rising}
+use Rattle.bvh.specs.steps.Decode.{Rising}
 use Rattle.bvh.specs.declared.items.BvhItem.{BvhItem}
 use Rattle.bvh.specs.Entry.{entriesIn, entriesOf}
 use Rattle.bvh.specs.Items.{wordsOf}
 use Rattle.bvh.specs.Numbers.{upFrom}
 use Rattle.bvh.specs.Promises.{itemsIn, itemsOf, WellFormed}
+use Rattle.bvh.specs.Ranges.{rangeLimit}
 use Rattle.bvh.specs.Rows.{Row, rows}
 use Rattle.bvh.specs.Tree.{Node, leaf, inner, builder, grow, leafOrder}
 use Rattle.bvh.proofs.Lawful.{lawful}
@@ -113,7 +114,7 @@ well-formed e th some rising =
       present-once = λ p m. same p ∙ rising-once 0 p (e .places) rising m;
       only-present = same;
       at-most = rows-at-most th 0 t most;
-      cut = ranges-cut t;
+      cut = ranges-cut rangeLimit (omega arith) t;
     }
 
 -- the entries of words

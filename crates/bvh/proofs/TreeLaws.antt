@@ -2,7 +2,7 @@
 use Prim.Native.Nat.{ℕ, zero, suc, _+_, _*_, _≤_, _<_}
 use native.Mathlib.Omega.{arith}
 use mathlib.Core.Bool.{Bool, true, false, _&&_}
-use mathlib.Core.List.{List, [], _∷_, _++_, append-assoc, map-append}
+use mathlib.Core.List.{List, [], _∷_, _++_}
 use mathlib.Core.Path.{_≡_, refl, sym, ap, ap₂, _∙_, subst}
 use lib.Dec.{leb, ltb}
 use lib.ListN.{length, take, drop, length-append}
@@ -10,10 +10,9 @@ use lib.Seq.{take-at, drop-at}
 use native.Mathlib.Decide.{decLe}
 use borrow.Author.Tests.{leb-true, leb-false, le-leb, lt-leb, lt-ltb, le-ltb}
 use Rattle.split.specs.declared.boxes.BoxWords.{BoxWords}
-use Rattle.split.specs.Boxes.{boxWords}
 use Rattle.split.specs.Lists.{Within, Permutes}
-use Rattle.bvh.specs.Flat.{Full}
-use Rattle.bvh.specs.Rows.{Row, rows, heads, counts, words}
+use Rattle.bvh.specs.steps.Flat.{Full}
+use Rattle.bvh.specs.Rows.{Row, rows}
 use Rattle.bvh.specs.Tree.{Node, leaf, inner, Builder, growF, grow, leafOrder, size}
 use Rattle.split.proofs.WithinLaws.{within-append}
 use Rattle.bvh.proofs.Places.{occurrences-append}
@@ -134,25 +133,11 @@ module _ (b : Builder) (law : Lawful b) (th : ℕ) (pos : 0 < th) where
 
 -- ---- how the rows lie
 
-pub heads-append : (xs ys : List Row) → heads (xs ++ ys) ≡ heads xs ++ heads ys
-heads-append xs ys = map-append (λ (r : Row). r .head) xs ys
-
-pub counts-append : (xs ys : List Row) → counts (xs ++ ys) ≡ counts xs ++ counts ys
-counts-append xs ys = map-append (λ (r : Row). r .count) xs ys
-
-pub words-append : (xs ys : List Row) → words (xs ++ ys) ≡ words xs ++ words ys
-words-append [] ys = refl
-words-append (x ∷ xs) ys = ap (λ (ws : List ℕ). boxWords (x .box) ++ ws) (words-append xs ys) ∙ sym (append-assoc (boxWords (x .box)) (words xs) (words ys))
-
 -- a row a node
 pub length-rows : (lo : ℕ) (t : Node) → length (rows lo t) ≡ size t
 length-rows lo (leaf b ps) = refl
 length-rows lo (inner b l r) =
     omega (arith, length-append (rows lo l) (rows (lo + length (leafOrder l)) r), length-rows lo l, length-rows (lo + length (leafOrder l)) r)
-
-pub length-words : (rs : List Row) → length (words rs) ≡ 6 * length rs
-length-words [] = refl
-length-words (r ∷ rs) = omega (arith, length-words rs)
 
 -- An inner row is followed by as many rows as its first child has nodes, which are that child's, and then by the second child's.
 pub first-rows : (lo : ℕ) (b : BoxWords) (l r : Node) → take (size l) (drop 1 (rows lo (inner b l r))) ≡ rows lo l

@@ -8,7 +8,7 @@ use lib.ListN.{length, getD, drop}
 use lib.Seq.{getD-drop}
 use Rattle.split.specs.Boxes.{pointAt, boxFrom}
 use Rattle.split.specs.Lists.{Within}
-use Rattle.bvh.specs.Decode.{Below, Rising}
+use Rattle.bvh.specs.steps.Decode.{Below, Rising}
 
 word-drop : (n : ℕ) (ws : List ℕ) (at k : ℕ) → getD (drop n ws) (at + k) 0 ≡ getD ws (n + at + k) 0
 word-drop n ws at k = getD-drop n ws (at + k) 0 ∙ ap (λ (m : ℕ). getD ws m 0) (sym (add-assoc n at k))

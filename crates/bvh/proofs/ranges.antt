@@ -1,2 +1,1 @@
-mod RowBoxes
 mod Scanning

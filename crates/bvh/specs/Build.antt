@@ -1,19 +1,21 @@
 -- What a build answers, and what its output buffers then hold. Definitions only.
 use Prim.Native.Nat.{ℕ, _+_, _-_, _*_}
-use mathlib.Core.Bool.{Bool, true, false, cond, _||_}
-use mathlib.Core.List.{List, [], _∷_, _++_}
+use mathlib.Core.Bool.{Bool, cond, _||_}
+use mathlib.Core.List.{List, _++_}
 use lib.Dec.{ltb}
 use lib.ListN.{length}
 use Rattle.split.specs.declared.boxes.BoxWords.{BoxWords}
 use Rattle.records.specs.declared.scale.Scale.{Scale}
 use Rattle.records.specs.Scale.{scaleOfBox}
 use Rattle.bvh.specs.declared.core.Build.{Build}
-use Rattle.bvh.specs.declared.core.Build.the-variants.{Built, TooManyEntries, ThresholdOutside, BufferTooShort, TooManyNodes}
+use Rattle.bvh.specs.declared.core.Build.the-variants.{Built, Refused}
+use Rattle.bvh.specs.declared.core.BuildRefusal.{BuildRefusal}
+use Rattle.bvh.specs.declared.core.BuildRefusal.the-variants.{TooManyEntries, ThresholdOutside, BufferTooShort, TooManyNodes}
 use Rattle.bvh.specs.declared.core.BuiltTree.{BuiltTree}
 use Rattle.bvh.specs.declared.core.Lengths.{Lengths}
 use Rattle.bvh.specs.Tree.{Node, grow, builder, boxOf, leafOrder, size}
 use Rattle.bvh.specs.Rows.{rows}
-use Rattle.bvh.specs.Ranges.{ranges}
+use Rattle.bvh.specs.Ranges.{ranges, rangeLimit}
 use Rattle.bvh.specs.Output.{over, nodesBytes, padBytes, capacityOf, treesBytes, orderOf}
 
 -- What a build is of: the entries' number, the box at each place, and the places of the present ones.
@@ -33,12 +35,7 @@ scaleIn t = scaleOfBox (boxOf t .min) (boxOf t .max)
 abbrev pub short : ℕ → Lengths → Bool
 short n l =
     ltb (l .nodes) (16 * (2 * n + 1)) || ltb (l .trees) (16 * (2 * n + 1)) || ltb (l .order) n
-    || ltb (l .words) (7 * n) || ltb (l .places) n || ltb (l .temp) n || ltb (l .stack) n
-    || ltb (l .first) (2 * n + 1) || ltb (l .count) (2 * n + 1) || ltb (l .boxes) (6 * (2 * n + 1))
-
-abbrev pub pickBuild : Bool → Build → Build → Build
-pickBuild true a b = a
-pickBuild false a b = b
+    || ltb (l .entries) (7 * n) || ltb (l .places) n || ltb (l .temp) n || ltb (l .stack) n || ltb (l .rows) (8 * (2 * n + 1))
 
 -- the values of a build that is not refused
 abbrev pub builtOf : Entries → ℕ → Node → BuiltTree
@@ -46,7 +43,7 @@ builtOf e th t =
     record {
       nodes = size t;
       capacity = capacityOf th (e .number) (size t);
-      trees = length (ranges 0 t);
+      trees = length (ranges rangeLimit 0 t);
       present = length (e .places);
       min = boxOf t .min;
       max = boxOf t .max;
@@ -59,27 +56,28 @@ unfolding treeOf
 answerOf e th l =
     let n = e .number in
     let t = treeOf e th in
-    pickBuild (ltb 32767 n) TooManyEntries
-    (pickBuild (ltb th 1 || ltb 32767 th) ThresholdOutside
-    (pickBuild (short n l) BufferTooShort
-    (pickBuild (ltb 32767 (size t)) TooManyNodes
+    cond (ltb 32767 n) (Refused TooManyEntries)
+    (cond (ltb th 1 || ltb 32767 th) (Refused ThresholdOutside)
+    (cond (short n l) (Refused BufferTooShort)
+    (cond (ltb 32767 (size t)) (Refused TooManyNodes)
     (Built (builtOf e th t)))))
+
+-- 01's number for each reason
+abbrev pub refusalNumber : BuildRefusal → ℕ
+refusalNumber TooManyEntries = 1
+refusalNumber BufferTooShort = 2
+refusalNumber ThresholdOutside = 3
+refusalNumber TooManyNodes = 4
 
 -- 01's number for each answer, 0 where it is not refused
 abbrev pub numberOf : Build → ℕ
 numberOf (Built b) = 0
-numberOf TooManyEntries = 1
-numberOf BufferTooShort = 2
-numberOf ThresholdOutside = 3
-numberOf TooManyNodes = 4
+numberOf (Refused r) = refusalNumber r
 
 -- what a buffer holds at the end: on a refusal what it had
 abbrev pub kept : Build → List ℕ → List ℕ → List ℕ
 kept (Built b) written before = over written before
-kept TooManyEntries written before = before
-kept BufferTooShort written before = before
-kept ThresholdOutside written before = before
-kept TooManyNodes written before = before
+kept (Refused r) written before = before
 
 -- Rules R10 to R12: the node records and the padding.
 unfoldable pub nodesWritten : Entries → ℕ → List ℕ
@@ -91,7 +89,7 @@ nodesWritten e th =
 -- Rule R14.
 unfoldable pub treesWritten : Entries → ℕ → List ℕ
 unfolding treeOf
-treesWritten e th = treesBytes (scaleIn (treeOf e th)) (ranges 0 (treeOf e th))
+treesWritten e th = treesBytes (scaleIn (treeOf e th)) (ranges rangeLimit 0 (treeOf e th))
 
 -- Rule R13.
 unfoldable pub orderWritten : Entries → ℕ → List ℕ

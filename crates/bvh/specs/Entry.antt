@@ -9,9 +9,8 @@ use Rattle.bvh.specs.declared.core.Build.{Build}
 use Rattle.bvh.specs.declared.items.BvhItem.{BvhItem}
 use Rattle.bvh.specs.declared.core.Lengths.{Lengths}
 use Rattle.bvh.specs.Build.{Entries, answerOf, kept, nodesWritten, treesWritten, orderWritten}
-use Rattle.bvh.specs.Decode.{marked}
 use Rattle.split.specs.Boxes.{boxFrom}
-use Rattle.bvh.specs.Items.{boxIn, present}
+use Rattle.bvh.specs.Items.{boxIn, present, marked}
 
 -- the entries of a list of items
 unfoldable pub entriesOf : List BvhItem → Entries
@@ -25,25 +24,42 @@ entriesIn n ws = record { number = n; at = λ p. boxFrom ws (7 * p + 1); places 
 abbrev pub takenOf : ℕ → ℕ → ℕ
 takenOf n room = cond (leb n 32767 && leb (7 * n) room) n 0
 
--- the lengths of the ten lent buffers
-abbrev pub lengthsOf : List ℕ → List ℕ → List ℕ → List ℕ → List ℕ → List ℕ → List ℕ → List ℕ → List ℕ → List ℕ → Lengths
-lengthsOf nodes trees order words places temp stack first count boxes =
+-- The buffers that a build writes, as they are before it or after it.
+pub record Outputs : Type 0 where
+  pub nodes : List ℕ
+  pub trees : List ℕ
+  pub order : List ℕ
+
+-- The other buffers that it is lent: the entries' words, and four parts of work.
+pub record Lent : Type 0 where
+  pub entries : List ℕ
+  pub places : List ℕ
+  pub temp : List ℕ
+  pub stack : List ℕ
+  pub rows : List ℕ
+
+abbrev pub outputs : List ℕ → List ℕ → List ℕ → Outputs
+outputs nodes trees order = record { nodes = nodes; trees = trees; order = order }
+
+abbrev pub lent : List ℕ → List ℕ → List ℕ → List ℕ → List ℕ → Lent
+lent entries places temp stack rows = record { entries = entries; places = places; temp = temp; stack = stack; rows = rows }
+
+abbrev pub lengthsOf : Outputs → Lent → Lengths
+lengthsOf o l =
     record {
-      nodes = length nodes;
-      trees = length trees;
-      order = length order;
-      words = length words;
-      places = length places;
-      temp = length temp;
-      stack = length stack;
-      first = length first;
-      count = length count;
-      boxes = length boxes;
+      nodes = length (o .nodes);
+      trees = length (o .trees);
+      order = length (o .order);
+      entries = length (l .entries);
+      places = length (l .places);
+      temp = length (l .temp);
+      stack = length (l .stack);
+      rows = length (l .rows);
     }
 
 -- Rule B2 (01, Build): the answer, and the three outputs whole. Nothing is said of the work buffers.
-pub record Answered (e : Entries) (th : ℕ) (l : Lengths) (r : Build) (nodes trees order nodes′ trees′ order′ : List ℕ) : Type 0 where
+pub record Answered (e : Entries) (th : ℕ) (l : Lengths) (r : Build) (before after : Outputs) : Type 0 where
   pub answer : r ≡ answerOf e th l
-  pub nodes-are : nodes′ ≡ kept r (nodesWritten e th) nodes
-  pub trees-are : trees′ ≡ kept r (treesWritten e th) trees
-  pub order-is : order′ ≡ kept r (orderWritten e th) order
+  pub nodes-are : after .nodes ≡ kept r (nodesWritten e th) (before .nodes)
+  pub trees-are : after .trees ≡ kept r (treesWritten e th) (before .trees)
+  pub order-is : after .order ≡ kept r (orderWritten e th) (before .order)

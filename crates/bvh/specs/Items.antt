@@ -1,7 +1,8 @@
--- The list of entries that a build is lent. Definitions only.
-use Prim.Native.Nat.{ℕ, _+_}
-use mathlib.Core.Bool.{Bool, true, false, cond}
+-- The list of entries that a build is lent, as items and as words. Definitions only.
+use Prim.Native.Nat.{ℕ, zero, suc, _+_, _*_}
+use mathlib.Core.Bool.{Bool, true, false, cond, not}
 use mathlib.Core.List.{List, [], _∷_, _++_}
+use lib.Dec.{eqb}
 use lib.ListN.{getD}
 use Rattle.split.specs.Boxes.{boxWords}
 use Rattle.split.specs.Lists.{pick}
@@ -33,3 +34,12 @@ itemWords i = cond (i .present) 1 0 ∷ boxWords (itemBox i)
 abbrev pub wordsOf : List BvhItem → List ℕ
 wordsOf [] = []
 wordsOf (i ∷ is) = itemWords i ++ wordsOf is
+
+-- an entry's first word: 0 where it is absent
+abbrev pub isMarked : ℕ → Bool
+isMarked w = not (eqb w 0)
+
+-- Rule T9, of entries in words: the places of the present ones among the n from `at` on, rising. Entry p begins at word 7 · p.
+abbrev pub marked : ℕ → ℕ → List ℕ → List ℕ
+marked at zero ws = []
+marked at (suc n) ws = pick (isMarked (getD ws (7 * at) 0)) (at ∷ marked (at + 1) n ws) (marked (at + 1) n ws)

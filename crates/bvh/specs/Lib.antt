@@ -1,14 +1,10 @@
 pub mod Build
-pub mod Core
-pub mod Decode
 pub mod Entry
-pub mod Flat
 pub mod Items
-pub mod Laid
 pub mod Numbers
 pub mod Output
 pub mod Promises
 pub mod Ranges
 pub mod Rows
-pub mod Sizes
 pub mod Tree
+pub mod steps

@@ -5,14 +5,9 @@ use mathlib.Core.List.{List, [], _∷_, _++_, List·Memᴰ}
 use mathlib.Core.Path.{_≡_}
 use lib.Dec.{leb, ltb}
 use lib.ListN.{drop}
-use Rattle.bvh.specs.Tree.{Node, leaf, inner, boxOf, size}
-use Rattle.bvh.specs.Ranges.{Range}
+use Rattle.bvh.specs.Tree.{Node, leaf, inner, size}
+use Rattle.bvh.specs.Ranges.{Range, Subtree, rangeOf}
 use Rattle.bvh.specs.Rows.{Row, rows}
-
--- a node with all below it, and its number
-pub record Subtree : Type 0 where
-  pub number : ℕ
-  pub root : Node
 
 -- Rule R10 (01, Records and ranges; bvh.rs, number): every node in preorder, for a tree whose root has the number at.
 abbrev pub subtrees : ℕ → Node → List Subtree
@@ -28,10 +23,6 @@ leafNumbers at (inner b l r) = leafNumbers (at + 1) l ++ leafNumbers (at + 1 + s
 abbrev pub upFrom : ℕ → ℕ → List ℕ
 upFrom at zero = []
 upFrom at (suc n) = at ∷ upFrom (at + 1) n
-
--- the range of one subtree: its box and its nodes
-abbrev pub rangeOf : Subtree → Range
-rangeOf s = record { box = boxOf (s .root); first = s .number; last = s .number + size (s .root) }
 
 -- 01, Walk: a range holds the nodes first to last − 1.
 abbrev pub holds : ℕ → Range → Bool
@@ -51,11 +42,11 @@ abbrev pub RisingRanges : ℕ → List Range → ℕ → Type 0
 RisingRanges lo [] hi = lo ≤ hi
 RisingRanges lo (r ∷ rs) hi = (lo ≤ r .first) × (r .first < r .last) × RisingRanges (r .last) rs hi
 
--- A range is that of one subtree of at most 127 nodes.
-pub record Part (at : ℕ) (t : Node) (r : Range) : Type 0 where
+-- A range is that of one subtree of at most `limit` nodes.
+pub record Part (limit at : ℕ) (t : Node) (r : Range) : Type 0 where
   pub subtree : Subtree
   pub within : List·Memᴰ subtree (subtrees at t)
-  pub small : size (subtree .root) ≤ 127
+  pub small : size (subtree .root) ≤ limit
   pub range-is : r ≡ rangeOf subtree
 
 -- Among the rows rs, those of the tree t stand from number k on; its first item has the position given.
@@ -64,9 +55,9 @@ pub record RowsFrom (k : ℕ) (t : Node) (rs : List Row) : Type 0 where
   pub rest : List Row
   pub rows-are : drop k rs ≡ rows position t ++ rest
 
--- What the request's point 3 asks of the ranges rs of a tree t.
-pub record Cut (t : Node) (rs : List Range) : Type 0 where
-  pub sizes : (r : Range) → List·Memᴰ r rs → (0 < nodesIn r) × (nodesIn r ≤ 127)
+-- What the request's point 3 asks of the ranges rs of a tree t, at a limit of nodes.
+pub record Cut (limit : ℕ) (t : Node) (rs : List Range) : Type 0 where
+  pub sizes : (r : Range) → List·Memᴰ r rs → (0 < nodesIn r) × (nodesIn r ≤ limit)
   pub rising : RisingRanges 0 rs (size t)
-  pub parts : (r : Range) → List·Memᴰ r rs → Part 0 t r
+  pub parts : (r : Range) → List·Memᴰ r rs → Part limit 0 t r
   pub leaves : (k : ℕ) → List·Memᴰ k (leafNumbers 0 t) → rangesHolding k rs ≡ 1

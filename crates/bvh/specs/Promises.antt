@@ -9,7 +9,7 @@ use Rattle.split.specs.Lists.{occurrences}
 use Rattle.bvh.specs.Build.{Entries, treeOf}
 use Rattle.bvh.specs.Numbers.{upFrom, Cut}
 use Rattle.bvh.specs.Output.{idOf}
-use Rattle.bvh.specs.Ranges.{ranges}
+use Rattle.bvh.specs.Ranges.{ranges, rangeLimit}
 use Rattle.bvh.specs.Rows.{Row, rows}
 use Rattle.bvh.specs.Tree.{leafOrder}
 
@@ -32,4 +32,4 @@ pub record WellFormed (e : Entries) (th : ℕ) : Type 0 where
   pub present-once : (p : ℕ) → List·Memᴰ p (e .places) → occurrences p (itemsOf th (leafOrder (treeOf e th)) (rows 0 (treeOf e th))) ≡ 1
   pub only-present : (p : ℕ) → occurrences p (itemsOf th (leafOrder (treeOf e th)) (rows 0 (treeOf e th))) ≡ occurrences p (e .places)
   pub at-most : (r : Row) → List·Memᴰ r (rows 0 (treeOf e th)) → r .count ≤ th
-  pub cut : Cut (treeOf e th) (ranges 0 (treeOf e th))
+  pub cut : Cut rangeLimit (treeOf e th) (ranges rangeLimit 0 (treeOf e th))

@@ -1,15 +1,17 @@
 // The build on plain slices: the checks, the tree in the work buffers, and last the outputs, so that a refusal changes none of them.
-// The work buffer is lent in seven parts, since two parts of one slice cannot be lent at once.
+// The work buffer is lent in four parts, since two parts of one slice cannot be lent at once.
+use crate::ranges::RANGE_LIMIT;
 use math::words3::Words3;
 use records::scale::Scale;
 ghost use mathlib.Core.Path.{_≡_};
 ghost use Prim.Native.Nat.{_+_, _*_, _≤_, _<_};
 ghost use lib.ListN.{length, take};
 ghost use Rattle.bvh.specs.Build.{short};
-ghost use Rattle.bvh.specs.Core.{NodesWritten, WorkRoom, TreePlanted, Writable, Written};
-ghost use Rattle.bvh.specs.Decode.{RowsFit, Below, marked};
-ghost use Rattle.bvh.specs.Entry.{entriesIn, lengthsOf, Answered};
+ghost use Rattle.bvh.specs.Entry.{entriesIn, outputs, lent, lengthsOf, Answered};
+ghost use Rattle.bvh.specs.Items.{marked};
 ghost use Rattle.bvh.specs.Output.{over, orderOf};
+ghost use Rattle.bvh.specs.steps.Core.{NodesWritten, OrderFits, WorkRoom, TreePlanted, Writable, Written};
+ghost use Rattle.bvh.specs.steps.Decode.{RowsFit};
 
 pub struct BuiltTree {
     pub nodes: usize,
@@ -21,26 +23,35 @@ pub struct BuiltTree {
     pub scale: Scale,
 }
 
-pub enum Build {
-    Built(BuiltTree),
+// Why a build is refused.
+pub enum BuildRefusal {
     TooManyEntries,
     ThresholdOutside,
     BufferTooShort,
     TooManyNodes,
 }
 
-// The lengths of the lent buffers. The work buffer is lent in seven parts, from words on.
+pub enum Build {
+    Built(BuiltTree),
+    Refused(BuildRefusal),
+}
+
+// The lengths of the lent buffers.
 pub struct Lengths {
     pub nodes: usize,
     pub trees: usize,
     pub order: usize,
-    pub words: usize,
+    pub entries: usize,
     pub places: usize,
     pub temp: usize,
     pub stack: usize,
-    pub first: usize,
-    pub count: usize,
-    pub boxes: usize,
+    pub rows: usize,
+}
+
+// How many entries there are, and how many items a leaf may have.
+pub struct Task {
+    pub n: usize,
+    pub threshold: usize,
 }
 
 // How many entries are present, and how many nodes their tree has.
@@ -64,7 +75,7 @@ fn too_short(n: usize, l: Lengths) -> bool
     if l.order < n {
         return true;
     }
-    if l.words < 7 * n {
+    if l.entries < 7 * n {
         return true;
     }
     if l.places < n {
@@ -76,85 +87,53 @@ fn too_short(n: usize, l: Lengths) -> bool
     if l.stack < n {
         return true;
     }
-    if l.first < rows {
-        return true;
-    }
-    if l.count < rows {
-        return true;
-    }
-    l.boxes < 6 * rows
+    l.rows < 8 * rows
 }
 
-// The node records and, at threshold 1, the padding; how many records that is.
-fn write_nodes(
-    nodes: &mut [u8],
-    first: &[u32],
-    count: &[u32],
-    boxes: &[u32],
-    order: &[u32],
-    scale: Scale,
-    threshold: usize,
-    n: usize,
-) -> usize
-    requires { ⌜ (RowsFit threshold (now order) (now first) (now count) (now boxes) (now nodes)) × (n ≤ 32767) × (length (now first) ≤ 2 * n + 1) × (16 * (2 * n + 1) ≤ length (now nodes)) ⌝ }
-    ensures { λ r. ⌜ NodesWritten scale threshold n (now (first .entry)) (now (count .entry)) (now (boxes .entry)) (now (order .entry)) (now (nodes .entry)) (now (nodes .exit)) r ⌝ }
+// The records of m rows and, at threshold 1, the padding; how many records that is.
+fn write_nodes(node_bytes: &mut [u8], rows: &[u32], m: usize, leaf_order: &[u32], scale: Scale, task: Task) -> usize
+    requires { ⌜ (RowsFit (task .threshold) m (now «leaf_order») (now rows) (now «node_bytes»)) × (task .n ≤ 32767) × (m ≤ 2 * task .n + 1)
+        × (16 * (2 * task .n + 1) ≤ length (now «node_bytes»)) ⌝ }
+    ensures { λ r. ⌜ NodesWritten scale task m (now («leaf_order» .entry)) (now (rows .entry)) (now («node_bytes» .entry))
+        (now («node_bytes» .exit)) r ⌝ }
 {
-    crate::emit::put_nodes(nodes, first, count, boxes, order, scale, threshold);
-    let m = first.len();
-    if threshold == 1 {
-        let capacity = 2 * n + 1;
-        crate::emit::pad_nodes(nodes, m, capacity);
+    crate::emit::put_nodes(node_bytes, rows, m, leaf_order, scale, task.threshold);
+    if task.threshold == 1 {
+        let capacity = 2 * task.n + 1;
+        crate::emit::pad_nodes(node_bytes, m, capacity);
         return capacity;
     }
     m
 }
 
 // The order list: at threshold 1 the present places again, rising, else the leaf order.
-fn write_order(
-    order: &mut [u16],
-    words: &[u32],
-    n: usize,
-    threshold: usize,
-    leaves: &[u32],
-    temp: &mut [u32],
-)
-    requires { ⌜ (7 * n ≤ length (now words)) × (n ≤ length (now temp)) × (n ≤ 32767) × (n ≤ length (now order)) × (length (now leaves) ≤ n) × (Below 65536 (now leaves)) ⌝ }
-    ensures { λ _. ⌜ now (order .exit) ≡ over (orderOf threshold (marked 0 n (now (words .entry))) (now (leaves .entry))) (now (order .entry)) ⌝ }
+fn write_order(order: &mut [u16], entries: &[u32], leaf_order: &[u32], temp: &mut [u32], task: Task)
+    requires { ⌜ OrderFits task (now entries) (now «leaf_order») (now temp) (now order) ⌝ }
+    ensures { λ _. ⌜ now (order .exit) ≡ over (orderOf (task .threshold) (marked 0 (task .n) (now (entries .entry)))
+        (now («leaf_order» .entry))) (now (order .entry)) ⌝ }
 {
-    if threshold == 1 {
-        let k = crate::items::gather(words, n, temp);
+    if task.threshold == 1 {
+        let k = crate::items::gather(entries, task.n, temp);
         crate::emit::put_order(order, &temp[..k]);
     } else {
-        crate::emit::put_order(order, leaves);
+        crate::emit::put_order(order, leaf_order);
     }
 }
 
 // The present places, and their tree in the work buffers.
 fn plant(
     entries: &[u32],
-    n: usize,
-    threshold: usize,
     places: &mut [u32],
     temp: &mut [u32],
     stack: &mut [u32],
-    first: &mut [u32],
-    count: &mut [u32],
-    boxes: &mut [u32],
+    rows: &mut [u32],
+    task: Task,
 ) -> Planted
-    requires { ⌜ WorkRoom n threshold (now entries) (now places) (now temp) (now stack) (now first) (now count) (now boxes) ⌝ }
-    ensures { λ r. ⌜ TreePlanted n threshold (now (entries .entry)) (now (places .exit)) (now (first .exit)) (now (count .exit)) (now (boxes .exit)) r ⌝ }
+    requires { ⌜ WorkRoom task (lent (now entries) (now places) (now temp) (now stack) (now rows)) ⌝ }
+    ensures { λ r. ⌜ TreePlanted task (now (entries .entry)) (now (places .exit)) (now (rows .exit)) r ⌝ }
 {
-    let k = crate::items::gather(entries, n, places);
-    let m = crate::grow::grow_tree(
-        &mut places[..k],
-        temp,
-        entries,
-        stack,
-        first,
-        count,
-        boxes,
-        threshold,
-    );
+    let k = crate::items::gather(entries, task.n, places);
+    let m = crate::grow::grow_tree(&mut places[..k], temp, entries, stack, rows, task.threshold);
     Planted {
         present: k,
         nodes: m,
@@ -164,39 +143,30 @@ fn plant(
 // The outputs of a planted tree, and the values of the answer.
 fn write_tree(
     entries: &[u32],
-    n: usize,
-    threshold: usize,
-    planted: Planted,
-    nodes: &mut [u8],
-    trees: &mut [u8],
+    node_bytes: &mut [u8],
+    tree_bytes: &mut [u8],
     order: &mut [u16],
     places: &[u32],
     temp: &mut [u32],
-    first: &[u32],
-    count: &[u32],
-    boxes: &[u32],
+    rows: &[u32],
+    task: Task,
+    planted: Planted,
 ) -> BuiltTree
-    requires { ⌜ Writable n threshold planted (now entries) (now places) (now temp) (now first) (now count) (now boxes) (now nodes) (now trees) (now order) ⌝ }
-    ensures { λ r. ⌜ Written (entriesIn n (now (entries .entry))) threshold r (now (nodes .entry)) (now (trees .entry)) (now (order .entry)) (now (nodes .exit)) (now (trees .exit)) (now (order .exit)) ⌝ }
+    requires { ⌜ Writable task planted (now entries) (now places) (now temp) (now rows)
+        (outputs (now «node_bytes») (now «tree_bytes») (now order)) ⌝ }
+    ensures { λ r. ⌜ Written (entriesIn (task .n) (now (entries .entry))) (task .threshold) r
+        (outputs (now («node_bytes» .entry)) (now («tree_bytes» .entry)) (now (order .entry)))
+        (outputs (now («node_bytes» .exit)) (now («tree_bytes» .exit)) (now (order .exit))) ⌝ }
 {
     let m = planted.nodes;
     let k = planted.present;
-    let all = crate::ranges::row_box(boxes, 0);
+    let all = crate::rows::row_box(rows, 0);
     let min = all.min;
     let max = all.max;
     let scale = records::scale::scale_of(min, max);
-    let capacity = write_nodes(
-        nodes,
-        &first[..m],
-        &count[..m],
-        boxes,
-        &places[..k],
-        scale,
-        threshold,
-        n,
-    );
-    let parts = crate::ranges::put_trees(trees, &first[..m], &count[..m], boxes, scale);
-    write_order(order, entries, n, threshold, &places[..k], temp);
+    let capacity = write_nodes(node_bytes, rows, m, &places[..k], scale, task);
+    let parts = crate::ranges::put_trees(tree_bytes, rows, m, scale, RANGE_LIMIT);
+    write_order(order, entries, &places[..k], temp, task);
     BuiltTree {
         nodes: m,
         capacity: capacity,
@@ -212,70 +182,61 @@ fn write_tree(
 pub fn build_core(
     n: usize,
     threshold: u32,
-    nodes: &mut [u8],
-    trees: &mut [u8],
+    entries: &[u32],
+    node_bytes: &mut [u8],
+    tree_bytes: &mut [u8],
     order: &mut [u16],
-    words: &mut [u32],
     places: &mut [u32],
     temp: &mut [u32],
     stack: &mut [u32],
-    first: &mut [u32],
-    count: &mut [u32],
-    boxes: &mut [u32],
+    rows: &mut [u32],
 ) -> Build
-    ensures { λ r. ⌜ Answered (entriesIn n (take (7 * n) (now (words .entry)))) threshold (lengthsOf (now (nodes .entry)) (now (trees .entry)) (now (order .entry)) (now (words .entry)) (now (places .entry)) (now (temp .entry)) (now (stack .entry)) (now (first .entry)) (now (count .entry)) (now (boxes .entry))) r (now (nodes .entry)) (now (trees .entry)) (now (order .entry)) (now (nodes .exit)) (now (trees .exit)) (now (order .exit)) ⌝ }
+    ensures { λ r. ⌜ Answered (entriesIn n (take (7 * n) (now (entries .entry)))) threshold
+        (lengthsOf (outputs (now («node_bytes» .entry)) (now («tree_bytes» .entry)) (now (order .entry)))
+        (lent (now (entries .entry)) (now (places .entry)) (now (temp .entry)) (now (stack .entry)) (now (rows .entry)))) r
+        (outputs (now («node_bytes» .entry)) (now («tree_bytes» .entry)) (now (order .entry)))
+        (outputs (now («node_bytes» .exit)) (now («tree_bytes» .exit)) (now (order .exit))) ⌝ }
 {
     if 32767 < n {
-        return Build::TooManyEntries;
+        return Build::Refused(BuildRefusal::TooManyEntries);
     }
     if threshold < 1 {
-        return Build::ThresholdOutside;
+        return Build::Refused(BuildRefusal::ThresholdOutside);
     }
     if 32767 < threshold {
-        return Build::ThresholdOutside;
+        return Build::Refused(BuildRefusal::ThresholdOutside);
     }
-    let lent = Lengths {
-        nodes: nodes.len(),
-        trees: trees.len(),
+    let lengths = Lengths {
+        nodes: node_bytes.len(),
+        trees: tree_bytes.len(),
         order: order.len(),
-        words: words.len(),
+        entries: entries.len(),
         places: places.len(),
         temp: temp.len(),
         stack: stack.len(),
-        first: first.len(),
-        count: count.len(),
-        boxes: boxes.len(),
+        rows: rows.len(),
     };
-    if too_short(n, lent) {
-        return Build::BufferTooShort;
+    if too_short(n, lengths) {
+        return Build::Refused(BuildRefusal::BufferTooShort);
     }
-    let most = threshold as usize;
-    let planted = plant(
-        &words[..7 * n],
-        n,
-        most,
-        places,
-        temp,
-        stack,
-        first,
-        count,
-        boxes,
-    );
+    let task = Task {
+        n: n,
+        threshold: threshold as usize,
+    };
+    let listed = &entries[..7 * n];
+    let planted = plant(listed, places, temp, stack, rows, task);
     if 32767 < planted.nodes {
-        return Build::TooManyNodes;
+        return Build::Refused(BuildRefusal::TooManyNodes);
     }
     Build::Built(write_tree(
-        &words[..7 * n],
-        n,
-        most,
-        planted,
-        nodes,
-        trees,
+        listed,
+        node_bytes,
+        tree_bytes,
         order,
         places,
         temp,
-        first,
-        count,
-        boxes,
+        rows,
+        task,
+        planted,
     ))
 }

@@ -1,5 +1,6 @@
-// The tree of a list of places, laid out as rows in preorder. Segment after segment is taken from a stack, since hostile boxes make trees too deep to recurse.
-use split::boxes::BoxWords;
+// The tree of a list of places, laid out as rows in preorder. Segment after segment is taken from a stack, since hostile boxes make trees too
+// deep to recurse.
+use crate::rows::put_row;
 ghost use mathlib.Core.Path.{_≡_};
 ghost use Prim.Native.Nat.{_+_, _-_, _*_, _≤_, _<_};
 ghost use lib.ListN.{length, set};
@@ -7,64 +8,31 @@ ghost use Rattle.split.specs.Boxes.{boxAt};
 ghost use Rattle.split.specs.Folding.{foldBox};
 ghost use Rattle.split.specs.Lists.{Within};
 ghost use Rattle.split.specs.Plain.{Plain};
-ghost use Rattle.bvh.specs.Laid.{RowPut, InnerPut, Laid};
-ghost use Rattle.bvh.specs.Rows.{Room, Grown};
 ghost use Rattle.bvh.specs.Tree.{builder};
+ghost use Rattle.bvh.specs.steps.Laid.{Room, InnerPut, Laid, Grown};
+ghost use Rattle.bvh.specs.steps.Table.{withRow};
 
-// Row m: a box, a head and a count.
-fn set_row(
-    first: &mut [u32],
-    count: &mut [u32],
-    nodes: &mut [u32],
-    m: usize,
-    around: BoxWords,
-    head: usize,
-    items: usize,
-)
-    requires { ⌜ (m < length (now first)) × (m < length (now count)) × (6 * m + 6 ≤ length (now nodes)) × (head < 65536) × (items < 65536) ⌝ }
-    ensures { λ _. ⌜ RowPut m (record { box = around; head = head; count = items }) (now (first .entry)) (now (count .entry)) (now (nodes .entry)) (now (first .exit)) (now (count .exit)) (now (nodes .exit)) ⌝ }
+// Row m of a leaf: the box of its places, the position of the first, and how many they are.
+fn put_leaf(rows: &mut [u32], m: usize, entries: &[u32], places: &[u32], lo: usize, plain: bool)
+    requires { ⌜ (8 * m + 8 ≤ length (now rows)) × (Within (length (now entries)) (now places)) × (lo < 65536) × (length (now places) < 65536)
+        × (Plain plain (now entries)) ⌝ }
+    ensures { λ _. ⌜ now (rows .exit) ≡ withRow m (record { box = foldBox (boxAt (now (entries .entry))) (now (places .entry)); head = lo;
+        count = length (now (places .entry)) }) (now (rows .entry)) ⌝ }
 {
-    first[m] = head as u32;
-    count[m] = items as u32;
-    split::boxes::put_box(nodes, 6 * m, around);
-}
-
-// Row m: the box of some places, a head and a count.
-fn put_row(
-    first: &mut [u32],
-    count: &mut [u32],
-    nodes: &mut [u32],
-    m: usize,
-    boxes: &[u32],
-    places: &[u32],
-    head: usize,
-    items: usize,
-    plain: bool,
-)
-    requires { ⌜ (m < length (now first)) × (m < length (now count)) × (6 * m + 6 ≤ length (now nodes)) × (Within (length (now boxes)) (now places)) × (head < 65536) × (items < 65536) × (Plain plain (now boxes)) ⌝ }
-    ensures { λ _. ⌜ RowPut m (record { box = foldBox (boxAt (now (boxes .entry))) (now (places .entry)); head = head; count = items }) (now (first .entry)) (now (count .entry)) (now (nodes .entry)) (now (first .exit)) (now (count .exit)) (now (nodes .exit)) ⌝ }
-{
-    let around = split::fold::fold_box(boxes, places, plain);
-    set_row(first, count, nodes, m, around, head, items);
+    let around = split::fold::fold_box(entries, places, plain);
+    put_row(rows, m, around, lo, places.len());
 }
 
 // Row m of an inner node, whose places are split. Their box is that of before the split, which permutes them: with a NaN the order decides.
-fn put_inner(
-    places: &mut [u32],
-    temp: &mut [u32],
-    boxes: &[u32],
-    first: &mut [u32],
-    count: &mut [u32],
-    nodes: &mut [u32],
-    m: usize,
-    plain: bool,
-) -> usize
-    requires { ⌜ (m < length (now first)) × (m < length (now count)) × (6 * m + 6 ≤ length (now nodes)) × (2 ≤ length (now places)) × (length (now places) < 32768) × (length (now places) ≤ length (now temp)) × (Within (length (now boxes)) (now places)) × (Plain plain (now boxes)) ⌝ }
-    ensures { λ r. ⌜ InnerPut (builder (boxAt (now (boxes .entry)))) m (now (places .entry)) (now (places .exit)) (now (first .entry)) (now (count .entry)) (now (nodes .entry)) (now (first .exit)) (now (count .exit)) (now (nodes .exit)) r ⌝ }
+fn put_inner(places: &mut [u32], temp: &mut [u32], entries: &[u32], rows: &mut [u32], m: usize, plain: bool) -> usize
+    requires { ⌜ (8 * m + 8 ≤ length (now rows)) × (2 ≤ length (now places)) × (length (now places) < 32768)
+        × (length (now places) ≤ length (now temp)) × (Within (length (now entries)) (now places)) × (Plain plain (now entries)) ⌝ }
+    ensures { λ r. ⌜ InnerPut (builder (boxAt (now (entries .entry)))) m (now (places .entry)) (now (places .exit)) (now (rows .entry))
+        (now (rows .exit)) r ⌝ }
 {
-    let cut = split::divide::divide(places, temp, boxes, plain);
+    let cut = split::divide::divide(places, temp, entries, plain);
     let around = cut.around;
-    set_row(first, count, nodes, m, around, 0, 0);
+    put_row(rows, m, around, 0, 0);
     cut.first
 }
 
@@ -77,22 +45,22 @@ fn push_two(stack: &mut [u32], sp: usize, a: usize, b: usize)
     stack[sp - 1] = a as u32;
 }
 
-// Rows in preorder, without their numbers of nodes. The stack holds the lengths of the segments that wait, which lie one after the other from `lo` on.
+// Rows in preorder, without their numbers of nodes. The stack holds the lengths of the segments that wait, which lie one after the other
+// from `lo` on.
 pub fn grow(
-    order: &mut [u32],
+    places: &mut [u32],
     temp: &mut [u32],
-    boxes: &[u32],
+    entries: &[u32],
     stack: &mut [u32],
-    first: &mut [u32],
-    count: &mut [u32],
-    nodes: &mut [u32],
+    rows: &mut [u32],
     threshold: usize,
     plain: bool,
 ) -> usize
-    requires { ⌜ (0 < length (now order)) × (Room threshold (now order) (now temp) (now boxes) (now stack) (now first) (now count) (now nodes)) × (Plain plain (now boxes)) ⌝ }
-    ensures { λ r. ⌜ Laid (builder (boxAt (now (boxes .entry)))) threshold (now (order .entry)) (now (order .exit)) (now (first .exit)) (now (count .exit)) (now (nodes .exit)) r ⌝ }
+    requires { ⌜ (0 < length (now places)) × (Room threshold (now places) (now temp) (now entries) (now stack) (now rows))
+        × (Plain plain (now entries)) ⌝ }
+    ensures { λ r. ⌜ Laid (builder (boxAt (now (entries .entry)))) threshold (now (places .entry)) (now (places .exit)) (now (rows .exit)) r ⌝ }
 {
-    let n = order.len();
+    let n = places.len();
     let mut sp = stack.len() - 1;
     stack[sp] = n as u32;
     let mut lo = 0;
@@ -101,21 +69,12 @@ pub fn grow(
         let k = stack[sp] as usize;
         let hi = lo + k;
         if k <= threshold {
-            put_row(first, count, nodes, m, boxes, &order[lo..hi], lo, k, plain);
+            put_leaf(rows, m, entries, &places[lo..hi], lo, plain);
             lo = hi;
             sp += 1;
             m += 1;
         } else {
-            let a = put_inner(
-                &mut order[lo..hi],
-                temp,
-                boxes,
-                first,
-                count,
-                nodes,
-                m,
-                plain,
-            );
+            let a = put_inner(&mut places[lo..hi], temp, entries, rows, m, plain);
             push_two(stack, sp, a, k - a);
             sp -= 1;
             m += 1;
@@ -124,37 +83,25 @@ pub fn grow(
     m
 }
 
-// The tree of the places of `order`: they become the leaf order, and `first`, `count` and `nodes` begin with the rows, as many as the result says.
+// The tree of the places: they become the leaf order, and `rows` begins with the rows, as many as the result says.
 pub fn grow_tree(
-    order: &mut [u32],
+    places: &mut [u32],
     temp: &mut [u32],
-    boxes: &[u32],
+    entries: &[u32],
     stack: &mut [u32],
-    first: &mut [u32],
-    count: &mut [u32],
-    nodes: &mut [u32],
+    rows: &mut [u32],
     threshold: usize,
 ) -> usize
-    requires { ⌜ Room threshold (now order) (now temp) (now boxes) (now stack) (now first) (now count) (now nodes) ⌝ }
-    ensures { λ r. ⌜ Grown (builder (boxAt (now (boxes .entry)))) threshold (now (order .entry)) (now (order .exit)) (now (first .exit)) (now (count .exit)) (now (nodes .exit)) r ⌝ }
+    requires { ⌜ Room threshold (now places) (now temp) (now entries) (now stack) (now rows) ⌝ }
+    ensures { λ r. ⌜ Grown (builder (boxAt (now (entries .entry)))) threshold (now (places .entry)) (now (places .exit)) (now (rows .exit)) r ⌝ }
 {
     // An empty leaf and an inner row both have the count 0: only here is a leaf empty.
-    if order.len() == 0 {
-        put_row(first, count, nodes, 0, boxes, order, 0, 0, false);
+    if places.len() == 0 {
+        put_leaf(rows, 0, entries, places, 0, false);
         return 1;
     }
-    let plain = split::boxes::all_numbers(boxes);
-    let m = grow(
-        order,
-        temp,
-        boxes,
-        stack,
-        first,
-        count,
-        nodes,
-        threshold,
-        plain,
-    );
-    crate::sizes::fill_sizes(&mut first[..m], &count[..m]);
+    let plain = split::boxes::all_numbers(entries);
+    let m = grow(places, temp, entries, stack, rows, threshold, plain);
+    crate::sizes::fill_sizes(rows, m);
     m
 }

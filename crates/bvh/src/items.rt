@@ -4,7 +4,8 @@ ghost use mathlib.Core.Path.{_≡_};
 ghost use Prim.Native.Nat.{_*_, _≤_, _<_};
 ghost use lib.ListN.{length};
 ghost use Rattle.split.specs.Lists.{oneIf};
-ghost use Rattle.bvh.specs.Decode.{isMarked, Gathered};
+ghost use Rattle.bvh.specs.Items.{isMarked};
+ghost use Rattle.bvh.specs.steps.Decode.{Gathered};
 
 // An entry: a box and whether it is there, in the place of the source's `Option`. It is known by its place in the list.
 #[repr(C)]
@@ -23,15 +24,15 @@ fn one_if_marked(mark: u32) -> usize
 
 // The places of the present ones among the first n entries, rising; how many they are.
 // Each place is stored and then kept or overwritten, so that no branch waits for the mark.
-pub fn gather(words: &[u32], n: usize, places: &mut [u32]) -> usize
-    requires { ⌜ (7 * n ≤ length (now words)) × (n ≤ length (now places)) × (n < 65536) ⌝ }
-    ensures { λ r. ⌜ Gathered n (now (words .entry)) (now (places .exit)) r ⌝ }
+pub fn gather(entries: &[u32], n: usize, places: &mut [u32]) -> usize
+    requires { ⌜ (7 * n ≤ length (now entries)) × (n ≤ length (now places)) × (n < 65536) ⌝ }
+    ensures { λ r. ⌜ Gathered n (now (entries .entry)) (now (places .exit)) r ⌝ }
 {
     let mut k = 0;
     let mut p = 0;
     while p < n {
         places[k] = p as u32;
-        k += one_if_marked(words[7 * p]);
+        k += one_if_marked(entries[7 * p]);
         p += 1;
     }
     k

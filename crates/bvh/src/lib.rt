@@ -5,4 +5,5 @@ pub mod entry;
 pub mod grow;
 pub mod items;
 pub mod ranges;
+pub mod rows;
 pub mod sizes;

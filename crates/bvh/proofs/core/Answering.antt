@@ -10,64 +10,67 @@ use lib.ListN.{length, take}
 use lib.Seq.{length-take-le}
 use Rattle.split.specs.Boxes.{boxAt}
 use Rattle.bvh.specs.declared.core.Build.{Build}
-use Rattle.bvh.specs.declared.core.Build.the-variants.{Built, TooManyEntries, ThresholdOutside, BufferTooShort, TooManyNodes}
+use Rattle.bvh.specs.declared.core.Build.the-variants.{Built, Refused}
+use Rattle.bvh.specs.declared.core.BuildRefusal.{BuildRefusal}
+use Rattle.bvh.specs.declared.core.BuildRefusal.the-variants.{TooManyEntries, ThresholdOutside, BufferTooShort, TooManyNodes}
 use Rattle.bvh.specs.declared.core.BuiltTree.{BuiltTree}
 use Rattle.bvh.specs.declared.core.Lengths.{Lengths}
 use Rattle.bvh.specs.declared.core.Planted.{Planted}
-use Rattle.bvh.specs.Build.{short, answerOf, treeOf}
-use Rattle.bvh.specs.Core.{WorkRoom, TreePlanted, Writable, Written}
-use Rattle.bvh.specs.Decode.{marked}
-use Rattle.bvh.specs.Entry.{entriesIn, lengthsOf, Answered}
+use Rattle.bvh.specs.declared.core.Task.{Task}
+use Rattle.bvh.specs.Build.{Entries, short, answerOf, treeOf}
+use Rattle.bvh.specs.Entry.{Outputs, Lent, lent, entriesIn, lengthsOf, Answered}
+use Rattle.bvh.specs.Items.{marked}
 use Rattle.bvh.specs.Tree.{builder, grow, size}
+use Rattle.bvh.specs.steps.Core.{WorkRoom, TreePlanted, Writable, Written}
 
 -- ---- the buffers
 
 -- none is too short
-pub record Enough (n : ℕ) (nodes trees order words places temp stack first count boxes : List ℕ) : Type 0 where
-  pub nodes-room : 16 * (2 * n + 1) ≤ length nodes
-  pub trees-room : 16 * (2 * n + 1) ≤ length trees
-  pub order-room : n ≤ length order
-  pub words-room : 7 * n ≤ length words
-  pub places-room : n ≤ length places
-  pub temp-room : n ≤ length temp
-  pub stack-room : n ≤ length stack
-  pub first-room : 2 * n + 1 ≤ length first
-  pub count-room : 2 * n + 1 ≤ length count
-  pub boxes-room : 6 * (2 * n + 1) ≤ length boxes
+pub record Enough (n : ℕ) (o : Outputs) (l : Lent) : Type 0 where
+  pub nodes-room : 16 * (2 * n + 1) ≤ length (o .nodes)
+  pub trees-room : 16 * (2 * n + 1) ≤ length (o .trees)
+  pub order-room : n ≤ length (o .order)
+  pub entries-room : 7 * n ≤ length (l .entries)
+  pub places-room : n ≤ length (l .places)
+  pub temp-room : n ≤ length (l .temp)
+  pub stack-room : n ≤ length (l .stack)
+  pub rows-room : 8 * (2 * n + 1) ≤ length (l .rows)
 
 neither : (a b : Bool) → (a || b) ≡ false → (a ≡ false) × (b ≡ false)
 neither false b e = (refl, e)
 neither true b e = absurd (subst T e tt)
 
-pub enough : (n : ℕ) (nodes trees order words places temp stack first count boxes : List ℕ) → short n (lengthsOf nodes trees order words places temp stack first count boxes) ≡ false → Enough n nodes trees order words places temp stack first count boxes
-enough n nodes trees order words places temp stack first count boxes e =
-    let e₉ = neither _ (ltb (length boxes) (6 * (2 * n + 1))) e in
-    let e₈ = neither _ (ltb (length count) (2 * n + 1)) (e₉ .0) in
-    let e₇ = neither _ (ltb (length first) (2 * n + 1)) (e₈ .0) in
-    let e₆ = neither _ (ltb (length stack) n) (e₇ .0) in
-    let e₅ = neither _ (ltb (length temp) n) (e₆ .0) in
-    let e₄ = neither _ (ltb (length places) n) (e₅ .0) in
-    let e₃ = neither _ (ltb (length words) (7 * n)) (e₄ .0) in
-    let e₂ = neither _ (ltb (length order) n) (e₃ .0) in
-    let e₁ = neither (ltb (length nodes) (16 * (2 * n + 1))) (ltb (length trees) (16 * (2 * n + 1))) (e₂ .0) in
+pub enough : (n : ℕ) (o : Outputs) (l : Lent) → short n (lengthsOf o l) ≡ false → Enough n o l
+enough n o l e =
+    let e₇ = neither _ (ltb (length (l .rows)) (8 * (2 * n + 1))) e in
+    let e₆ = neither _ (ltb (length (l .stack)) n) (e₇ .0) in
+    let e₅ = neither _ (ltb (length (l .temp)) n) (e₆ .0) in
+    let e₄ = neither _ (ltb (length (l .places)) n) (e₅ .0) in
+    let e₃ = neither _ (ltb (length (l .entries)) (7 * n)) (e₄ .0) in
+    let e₂ = neither _ (ltb (length (o .order)) n) (e₃ .0) in
+    let e₁ = neither (ltb (length (o .nodes)) (16 * (2 * n + 1))) (ltb (length (o .trees)) (16 * (2 * n + 1))) (e₂ .0) in
     record {
       nodes-room = ltb-false _ _ (e₁ .0);
       trees-room = ltb-false _ _ (e₁ .1);
       order-room = ltb-false _ _ (e₂ .1);
-      words-room = ltb-false _ _ (e₃ .1);
+      entries-room = ltb-false _ _ (e₃ .1);
       places-room = ltb-false _ _ (e₄ .1);
       temp-room = ltb-false _ _ (e₅ .1);
       stack-room = ltb-false _ _ (e₆ .1);
-      first-room = ltb-false _ _ (e₇ .1);
-      count-room = ltb-false _ _ (e₈ .1);
-      boxes-room = ltb-false _ _ (e₉ .1);
+      rows-room = ltb-false _ _ (e₇ .1);
     }
 
-module _ (n th : ℕ) (nodes trees order words places temp stack first count boxes : List ℕ) (few : n ≤ 32767) (some : 1 ≤ th) (room : Enough n nodes trees order words places temp stack first count boxes) where
-  entries-long : length (take (7 * n) words) ≡ 7 * n
-  entries-long = length-take-le (7 * n) words (room .words-room)
+module _ (n th : ℕ) (o : Outputs) (l : Lent) (few : n ≤ 32767) (some : 1 ≤ th) (room : Enough n o l) where
+  abbrev task : Task
+  task = record { n = n; threshold = th }
 
-  pub work-room : WorkRoom n th (take (7 * n) words) places temp stack first count boxes
+  abbrev listed : List ℕ
+  listed = take (7 * n) (l .entries)
+
+  entries-long : length listed ≡ 7 * n
+  entries-long = length-take-le (7 * n) (l .entries) (room .entries-room)
+
+  pub work-room : WorkRoom task (lent listed (l .places) (l .temp) (l .stack) (l .rows))
   work-room =
       record {
         few = few;
@@ -76,15 +79,13 @@ module _ (n th : ℕ) (nodes trees order words places temp stack first count box
         places-room = room .places-room;
         temp-room = room .temp-room;
         stack-room = room .stack-room;
-        first-room = room .first-room;
-        count-room = room .count-room;
-        boxes-room = room .boxes-room;
+        rows-room = room .rows-room;
       }
 
-  pub writable : (p : Planted) (places′ temp′ first′ count′ boxes′ : List ℕ) → TreePlanted n th (take (7 * n) words) places′ first′ count′ boxes′ p → p .nodes ≤ 32767
-      → length places′ ≡ length places → length temp′ ≡ length temp → length first′ ≡ length first → length count′ ≡ length count → length boxes′ ≡ length boxes
-      → Writable n th p (take (7 * n) words) places′ temp′ first′ count′ boxes′ nodes trees order
-  writable p places′ temp′ first′ count′ boxes′ planted nodes-few k₁ k₂ k₃ k₄ k₅ =
+  pub writable : (p : Planted) (places′ temp′ rows′ : List ℕ) → TreePlanted task listed places′ rows′ p → p .nodes ≤ 32767
+      → length places′ ≡ length (l .places) → length temp′ ≡ length (l .temp) → length rows′ ≡ length (l .rows)
+      → Writable task p listed places′ temp′ rows′ o
+  writable p places′ temp′ rows′ planted nodes-few kp kt kr =
       record {
         planted = planted;
         nodes-few = nodes-few;
@@ -93,9 +94,7 @@ module _ (n th : ℕ) (nodes trees order words places temp stack first count box
         entries-are = entries-long;
         places-room = omega (arith, room .places-room);
         temp-room = omega (arith, room .temp-room);
-        first-room = omega (arith, room .first-room);
-        count-room = omega (arith, room .count-room);
-        boxes-room = omega (arith, room .boxes-room);
+        rows-room = omega (arith, room .rows-room);
         nodes-room = room .nodes-room;
         trees-room = room .trees-room;
         order-room = room .order-room;
@@ -103,35 +102,46 @@ module _ (n th : ℕ) (nodes trees order words places temp stack first count box
 
 -- ---- the answers
 
-module _ (n th : ℕ) (ws : List ℕ) (l : Lengths) (nodes trees order : List ℕ) where
-  pub too-many-entries : 32767 < n → Answered (entriesIn n ws) th l TooManyEntries nodes trees order nodes trees order
-  unfolding entriesIn answerOf
-  too-many-entries h = record { answer = rw (lt-ltb 32767 n h); nodes-are = refl; trees-are = refl; order-is = refl }
+-- a refusal leaves the outputs
+refusal : (e : Entries) (th : ℕ) (l : Lengths) (o : Outputs) (r : BuildRefusal) → Refused r ≡ answerOf e th l → Answered e th l (Refused r) o o
+refusal e th l o r is = record { answer = is; nodes-are = refl; trees-are = refl; order-is = refl }
 
-  pub threshold-below : n ≤ 32767 → th < 1 → Answered (entriesIn n ws) th l ThresholdOutside nodes trees order nodes trees order
-  unfolding entriesIn answerOf
-  threshold-below few h = record { answer = rw (le-ltb 32767 n few, lt-ltb th 1 h); nodes-are = refl; trees-are = refl; order-is = refl }
+module _ (n th : ℕ) (ws : List ℕ) (l : Lengths) (o : Outputs) where
+  abbrev e : Entries
+  e = entriesIn n ws
 
-  pub threshold-above : n ≤ 32767 → 1 ≤ th → 32767 < th → Answered (entriesIn n ws) th l ThresholdOutside nodes trees order nodes trees order
+  pub too-many-entries : 32767 < n → Answered e th l (Refused TooManyEntries) o o
   unfolding entriesIn answerOf
-  threshold-above few some h = record { answer = rw (le-ltb 32767 n few, le-ltb th 1 some, lt-ltb 32767 th h); nodes-are = refl; trees-are = refl; order-is = refl }
+  too-many-entries h = refusal e th l o TooManyEntries (rw (lt-ltb 32767 n h))
 
-  pub buffer-too-short : n ≤ 32767 → 1 ≤ th → th ≤ 32767 → short n l ≡ true → Answered (entriesIn n ws) th l BufferTooShort nodes trees order nodes trees order
+  pub threshold-below : n ≤ 32767 → th < 1 → Answered e th l (Refused ThresholdOutside) o o
   unfolding entriesIn answerOf
-  buffer-too-short few some most h = record { answer = rw (le-ltb 32767 n few, le-ltb th 1 some, le-ltb 32767 th most, h); nodes-are = refl; trees-are = refl; order-is = refl }
+  threshold-below few h = refusal e th l o ThresholdOutside (rw (le-ltb 32767 n few, lt-ltb th 1 h))
+
+  pub threshold-above : n ≤ 32767 → 1 ≤ th → 32767 < th → Answered e th l (Refused ThresholdOutside) o o
+  unfolding entriesIn answerOf
+  threshold-above few some h = refusal e th l o ThresholdOutside (rw (le-ltb 32767 n few, le-ltb th 1 some, lt-ltb 32767 th h))
+
+  pub buffer-too-short : n ≤ 32767 → 1 ≤ th → th ≤ 32767 → short n l ≡ true → Answered e th l (Refused BufferTooShort) o o
+  unfolding entriesIn answerOf
+  buffer-too-short few some most h = refusal e th l o BufferTooShort (rw (le-ltb 32767 n few, le-ltb th 1 some, le-ltb 32767 th most, h))
 
   module _ (few : n ≤ 32767) (some : 1 ≤ th) (most : th ≤ 32767) (enough : short n l ≡ false) where
-    pub too-many-nodes : 32767 < size (grow (builder (boxAt ws)) th (marked 0 n ws)) → Answered (entriesIn n ws) th l TooManyNodes nodes trees order nodes trees order
+    abbrev nodes : ℕ
+    nodes = size (grow (builder (boxAt ws)) th (marked 0 n ws))
+
+    pub too-many-nodes : 32767 < nodes → Answered e th l (Refused TooManyNodes) o o
     unfolding entriesIn answerOf treeOf
     too-many-nodes h =
-        record { answer = rw (le-ltb 32767 n few, le-ltb th 1 some, le-ltb 32767 th most, enough, lt-ltb 32767 (size (grow (builder (boxAt ws)) th (marked 0 n ws))) h); nodes-are = refl; trees-are = refl; order-is = refl }
+        refusal e th l o TooManyNodes (rw (le-ltb 32767 n few, le-ltb th 1 some, le-ltb 32767 th most, enough, lt-ltb 32767 nodes h))
 
-    pub built : size (grow (builder (boxAt ws)) th (marked 0 n ws)) ≤ 32767 → (b : BuiltTree) (nodes′ trees′ order′ : List ℕ) → Written (entriesIn n ws) th b nodes trees order nodes′ trees′ order′
-        → Answered (entriesIn n ws) th l (Built b) nodes trees order nodes′ trees′ order′
+    pub built : nodes ≤ 32767 → (b : BuiltTree) (o′ : Outputs) → Written e th b o o′ → Answered e th l (Built b) o o′
     unfolding entriesIn answerOf treeOf
-    built h b nodes′ trees′ order′ w =
+    built h b o′ w =
         record {
-          answer = ap {B = Build} (λ (x : BuiltTree). Built x) (w .built) ∙ rw (le-ltb 32767 n few, le-ltb th 1 some, le-ltb 32767 th most, enough, le-ltb 32767 (size (grow (builder (boxAt ws)) th (marked 0 n ws))) h);
+          answer =
+              ap {B = Build} (λ (x : BuiltTree). Built x) (w .built)
+              ∙ rw (le-ltb 32767 n few, le-ltb th 1 some, le-ltb 32767 th most, enough, le-ltb 32767 nodes h);
           nodes-are = w .nodes-are;
           trees-are = w .trees-are;
           order-is = w .order-is;

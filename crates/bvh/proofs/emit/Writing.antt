@@ -11,10 +11,10 @@ use Rattle.records.specs.declared.scale.Scale.{Scale}
 use Rattle.records.specs.Records.{nodeBytes}
 use Rattle.records.proofs.Sizes.{node-bytes}
 use Rattle.bvh.specs.Rows.{Row}
-use Rattle.bvh.specs.Decode.{rowAt, rowsIn}
 use Rattle.bvh.specs.Output.{over, nodeOf, nodesBytes, padNode, padBytes}
+use Rattle.bvh.specs.steps.Table.{rowAt, rowsIn}
 use Rattle.bvh.proofs.EmitLaws.{over-more, over-one, length-nodes, nodes-append, length-pad, pad-more}
-use Rattle.bvh.proofs.RowsInLaws.{length-rows-in, row-in}
+use Rattle.bvh.proofs.TableLaws.{length-rows-in, row-in}
 
 pub record Writing (before buffer written : List ℕ) (i last : ℕ) : Type 0 where
   pub upto : i ≤ last
@@ -35,7 +35,8 @@ number-next before buffer xs i w h room =
     }
 
 -- one record more
-pub record-next : (before buffer written after : List ℕ) (n : BvhNode) (i last : ℕ) → Writing before buffer written i last → i < last → length written ≡ 16 * i
+pub record-next : (before buffer written after : List ℕ) (n : BvhNode) (i last : ℕ) → Writing before buffer written i last → i < last
+    → length written ≡ 16 * i
     → length after ≡ length buffer → after ≡ take (16 * i) buffer ++ (nodeBytes n ++ drop (16 * i + 16) buffer)
     → Writing before after (written ++ nodeBytes n) (i + 1) last
 record-next before buffer written after n i last w h at kept e =
@@ -53,7 +54,8 @@ module _ (s : Scale) (th : ℕ) (order : List ℕ) where
   length-first rs i h = length-nodes s th order (take i rs) ∙ ap (λ (k : ℕ). 16 * k) (length-take-le i rs h)
 
   -- the bytes of one row more
-  pub rows-next : (rs : List Row) (i : ℕ) (d : Row) → i < length rs → nodesBytes s th order (take i rs) ++ nodeBytes (nodeOf s th order (getD rs i d)) ≡ nodesBytes s th order (take (i + 1) rs)
+  pub rows-next : (rs : List Row) (i : ℕ) (d : Row) → i < length rs
+      → nodesBytes s th order (take i rs) ++ nodeBytes (nodeOf s th order (getD rs i d)) ≡ nodesBytes s th order (take (i + 1) rs)
   rows-next rs i d h =
       let r = getD rs i d in
       ap (λ (bs : List ℕ). nodesBytes s th order (take i rs) ++ bs) (sym (append-nil (nodeBytes (nodeOf s th order r))))
@@ -61,18 +63,19 @@ module _ (s : Scale) (th : ℕ) (order : List ℕ) where
       ∙ ap (nodesBytes s th order) (sym (ap (λ (k : ℕ). take k rs) (add-one i) ∙ take-suc rs i d h))
 
   -- the record of row i more
-  pub row-next : (fs cs ws before buffer after : List ℕ) (n : BvhNode) (i : ℕ) → Writing before buffer (nodesBytes s th order (take i (rowsIn fs cs ws))) i (length fs) → i < length fs
-      → n ≡ nodeOf s th order (rowAt fs cs ws i) → length after ≡ length buffer → after ≡ take (16 * i) buffer ++ (nodeBytes n ++ drop (16 * i + 16) buffer)
-      → Writing before after (nodesBytes s th order (take (i + 1) (rowsIn fs cs ws))) (i + 1) (length fs)
-  row-next fs cs ws before buffer after n i w h node kept e =
-      let rs = rowsIn fs cs ws in
-      let d = rowAt fs cs ws i in
-      let few : i < length rs = omega (arith, length-rows-in fs cs ws) in
+  pub row-next : (m : ℕ) (table before buffer after : List ℕ) (n : BvhNode) (i : ℕ)
+      → Writing before buffer (nodesBytes s th order (take i (rowsIn m table))) i m → i < m → n ≡ nodeOf s th order (rowAt table i)
+      → length after ≡ length buffer → after ≡ take (16 * i) buffer ++ (nodeBytes n ++ drop (16 * i + 16) buffer)
+      → Writing before after (nodesBytes s th order (take (i + 1) (rowsIn m table))) (i + 1) m
+  row-next m table before buffer after n i w h node kept e =
+      let rs = rowsIn m table in
+      let d = rowAt table i in
+      let many : length rs ≡ m = length-rows-in m table in
       let bytes : nodesBytes s th order (take i rs) ++ nodeBytes n ≡ nodesBytes s th order (take (i + 1) rs) =
-      ap (λ (m : BvhNode). nodesBytes s th order (take i rs) ++ nodeBytes m) (node ∙ ap (nodeOf s th order) (sym (row-in fs cs ws i d h)))
-      ∙ rows-next rs i d few in
-      subst (λ (l : List ℕ). Writing before after l (i + 1) (length fs)) bytes
-      (record-next before buffer (nodesBytes s th order (take i rs)) after n i (length fs) w h (length-first rs i (omega arith)) kept e)
+      ap (λ (m : BvhNode). nodesBytes s th order (take i rs) ++ nodeBytes m) (node ∙ ap (nodeOf s th order) (sym (row-in m table i d h)))
+      ∙ rows-next rs i d (omega arith) in
+      subst (λ (l : List ℕ). Writing before after l (i + 1) m) bytes
+      (record-next before buffer (nodesBytes s th order (take i rs)) after n i m w h (length-first rs i (omega arith)) kept e)
 
 -- what stands before the padding, and the padding so far
 abbrev pub paddedTo : List ℕ → ℕ → ℕ → List ℕ
@@ -89,7 +92,8 @@ module _ (before : List ℕ) (from : ℕ) where
       append-assoc (take (16 * from) before) (padBytes (i - from)) (nodeBytes padNode)
       ∙ ap (λ (bs : List ℕ). take (16 * from) before ++ bs) (sym (pad-more (i - from)) ∙ ap padBytes (sym one))
 
-  pub padding-done : (i : ℕ) → from ≤ i → 16 * i ≤ length before → over (paddedTo before from i) before ≡ take (16 * from) before ++ (padBytes (i - from) ++ drop (16 * i) before)
+  pub padding-done : (i : ℕ) → from ≤ i → 16 * i ≤ length before
+      → over (paddedTo before from i) before ≡ take (16 * from) before ++ (padBytes (i - from) ++ drop (16 * i) before)
   padding-done i h room =
       ap (λ (k : ℕ). paddedTo before from i ++ drop k before) (length-padded i h room)
       ∙ append-assoc (take (16 * from) before) (padBytes (i - from)) (drop (16 * i) before)
@@ -103,7 +107,8 @@ module _ (before : List ℕ) (from : ℕ) where
       ∙ take-append-drop (16 * from) before)
 
   -- one record of padding more
-  pub pad-next : (buffer after : List ℕ) (n : BvhNode) (i upto : ℕ) → from ≤ i → Writing before buffer (paddedTo before from i) i upto → i < upto → 16 * upto ≤ length before
+  pub pad-next : (buffer after : List ℕ) (n : BvhNode) (i upto : ℕ) → from ≤ i → Writing before buffer (paddedTo before from i) i upto → i < upto
+      → 16 * upto ≤ length before
       → n ≡ padNode → length after ≡ length buffer → after ≡ take (16 * i) buffer ++ (nodeBytes n ++ drop (16 * i + 16) buffer)
       → Writing before after (paddedTo before from (i + 1)) (i + 1) upto
   pad-next buffer after n i upto h w more room node kept e =

@@ -1,4 +1,4 @@
--- The loop of `grow`: the lists of `Pending` stand in the slices, the lengths that wait from sp on in the stack, their places from lo on in the order.
+-- The loop of `grow`: the lists of `Pending` stand in the slices, the lengths that wait from sp on in the stack, their places from lo on in `places`.
 use Prim.Native.Nat.{ℕ, suc, _+_, _-_, _*_, _≤_, _<_}
 use native.Mathlib.Omega.{arith}
 use native.Mathlib.Numerals.{add-one}
@@ -8,51 +8,46 @@ use lib.ListN.{length, getD, set, take, drop, length-drop, length-set, drop-of-l
 use lib.Seq.{getD-set-same, drop-set-lt, length-take-le, drop-at, drop-cons, take-add, take-all, drop-drop}
 use borrow.Rule.Slice.PartMut.{putMid, same-len-mid, take-put}
 use Rattle.split.specs.Lists.{Within}
-use Rattle.bvh.specs.Laid.{RowPut, InnerPut, Laid}
-use Rattle.bvh.specs.Rows.{Row, Room, heads, counts, words}
-use Rattle.bvh.specs.Sizes.{bareRows}
+use Rattle.bvh.specs.Rows.{Row}
 use Rattle.bvh.specs.Tree.{Builder, grow}
+use Rattle.bvh.specs.steps.Laid.{Room, InnerPut, Laid}
+use Rattle.bvh.specs.steps.Sizes.{bareRows}
+use Rattle.bvh.specs.steps.Table.{tableOf, withRow}
 use Rattle.bvh.proofs.Lawful.{Lawful}
 use Rattle.split.proofs.WithinLaws.{within-append, within-take, within-drop}
 use Rattle.bvh.proofs.grow.Pending.{Pending, Some, sum, some-most, begin, leaf-step, inner-step}
-use Rattle.bvh.proofs.grow.Written.{Written, none, one-more, first-length, count-length}
+use Rattle.bvh.proofs.grow.Written.{one-more}
 
 -- the slices that the loop changes
 pub record Slices : Type 0 where
-  pub order : List ℕ
+  pub places : List ℕ
   pub temp : List ℕ
   pub stack : List ℕ
-  pub first : List ℕ
-  pub count : List ℕ
-  pub nodes : List ℕ
+  pub rows : List ℕ
 
 -- none changes its length
 pub record Same (s₀ s : Slices) : Type 0 where
-  pub order-same : length (s .order) ≡ length (s₀ .order)
+  pub places-same : length (s .places) ≡ length (s₀ .places)
   pub temp-same : length (s .temp) ≡ length (s₀ .temp)
   pub stack-same : length (s .stack) ≡ length (s₀ .stack)
-  pub first-same : length (s .first) ≡ length (s₀ .first)
-  pub count-same : length (s .count) ≡ length (s₀ .count)
-  pub nodes-same : length (s .nodes) ≡ length (s₀ .nodes)
+  pub rows-same : length (s .rows) ≡ length (s₀ .rows)
 
-pub record Going (b : Builder) (th : ℕ) (boxes : List ℕ) (s₀ s : Slices) (sp lo m : ℕ) : Type 0 where
+pub record Going (b : Builder) (th : ℕ) (entries : List ℕ) (s₀ s : Slices) (sp lo m : ℕ) : Type 0 where
   pub laid : List Row
-  pub pending : Pending b th (grow b th (s₀ .order)) (length (s₀ .order)) (drop sp (s .stack)) (drop lo (s .order)) (take lo (s .order)) laid lo m
-  pub written : Written laid (s .first) (s .count) (s .nodes) m
+  pub pending : Pending b th (grow b th (s₀ .places)) (length (s₀ .places)) (drop sp (s .stack)) (drop lo (s .places)) (take lo (s .places)) laid lo m
+  pub written : take (8 * m) (s .rows) ≡ tableOf laid
   pub deep : sp ≤ length (s .stack)
   pub same : Same s₀ s
-  pub places : Within (length boxes) (s .order)
+  pub within : Within (length entries) (s .places)
 
 -- what a turn knows of the length k at the top of the stack
 pub record Top (th : ℕ) (s₀ s : Slices) (sp lo m k : ℕ) : Type 0 where
   pub in-stack : sp < length (s .stack)
   pub some : 0 < k
-  pub in-order : lo + k ≤ length (s .order)
+  pub in-places : lo + k ≤ length (s .places)
   pub few : lo + k < 32768
-  pub in-first : m < length (s .first)
-  pub in-count : m < length (s .count)
-  pub in-nodes : 6 * m + 6 ≤ length (s .nodes)
-  pub below : m < 2 * length (s₀ .order)
+  pub in-rows : 8 * m + 8 ≤ length (s .rows)
+  pub below : m < 2 * length (s₀ .places)
   pub in-temp : k ≤ length (s .temp)
   pub more : th < k → 0 < sp
 
@@ -81,27 +76,28 @@ pushed st sp a v h₀ h =
     ∙ ap₂ _∷_ (getD-set-same st sp v 0 h) (drop-set-lt (suc sp) st sp v (omega arith)))
 
 -- a store into the stack leaves the room
-pub room-set : {th : ℕ} {order temp boxes stack first count nodes : List ℕ} (i v : ℕ) → Room th order temp boxes stack first count nodes → Room th order temp boxes (set stack i v) first count nodes
+pub room-set : {th : ℕ} {places temp entries stack table : List ℕ} (i v : ℕ) → Room th places temp entries stack table
+    → Room th places temp entries (set stack i v) table
 room-set i v r =
     record {
       few = r .few;
       temp-room = r .temp-room;
       stack-room = rw length-set (r .stack-room);
-      first-room = r .first-room;
-      count-room = r .count-room;
-      nodes-room = r .nodes-room;
+      rows-room = r .rows-room;
       threshold = r .threshold;
-      places = r .places;
+      within = r .within;
     }
 
 pub segment-length : (l : List ℕ) (lo k : ℕ) → lo + k ≤ length l → length (take (lo + k - lo) (drop lo l)) ≡ k
 segment-length l lo k h = length-take-le (lo + k - lo) (drop lo l) (omega (arith, length-drop lo l)) ∙ omega arith
 
-module _ (b : Builder) (law : Lawful b) (th : ℕ) (boxes : List ℕ) (s₀ : Slices) (room : Room th (s₀ .order) (s₀ .temp) boxes (s₀ .stack) (s₀ .first) (s₀ .count) (s₀ .nodes)) where
-  pub start : (stack : List ℕ) → s₀ .stack ≡ set stack (length stack - 1) (length (s₀ .order)) → 0 < length (s₀ .order) → Going b th boxes s₀ s₀ (length stack - 1) 0 0
+module _ (b : Builder) (law : Lawful b) (th : ℕ) (entries : List ℕ) (s₀ : Slices)
+    (room : Room th (s₀ .places) (s₀ .temp) entries (s₀ .stack) (s₀ .rows)) where
+  pub start : (stack : List ℕ) → s₀ .stack ≡ set stack (length stack - 1) (length (s₀ .places)) → 0 < length (s₀ .places)
+      → Going b th entries s₀ s₀ (length stack - 1) 0 0
   start stack es some =
       let p : ℕ = length stack - 1 in
-      let n : ℕ = length (s₀ .order) in
+      let n : ℕ = length (s₀ .places) in
       let l : length (s₀ .stack) ≡ length stack = ap length es ∙ length-set stack p n in
       let deep = room .stack-room in
       let e : drop p (s₀ .stack) ≡ n ∷ [] =
@@ -109,38 +105,38 @@ module _ (b : Builder) (law : Lawful b) (th : ℕ) (boxes : List ℕ) (s₀ : Sl
       ∙ ap₂ _∷_ (rw es (getD-set-same stack p n 0 (omega arith))) (drop-of-length-le (s₀ .stack) {i = suc p} (omega arith)) in
       record {
         laid = [];
-        pending = rw e (begin b law th (room .threshold) (s₀ .order) some);
-        written = none (s₀ .first) (s₀ .count) (s₀ .nodes);
+        pending = rw e (begin b law th (room .threshold) (s₀ .places) some);
+        written = refl;
         deep = omega arith;
-        same = record { order-same = refl; temp-same = refl; stack-same = refl; first-same = refl; count-same = refl; nodes-same = refl };
-        places = room .places;
+        same = record { places-same = refl; temp-same = refl; stack-same = refl; rows-same = refl };
+        within = room .within;
       }
 
-  module _ (s : Slices) (sp lo m : ℕ) (g : Going b th boxes s₀ s sp lo m) where
-    pub ended : length (s₀ .order) ≤ lo → Laid b th (s₀ .order) (s .order) (s .first) (s .count) (s .nodes) m
+  module _ (s : Slices) (sp lo m : ℕ) (g : Going b th entries s₀ s sp lo m) where
+    pub ended : length (s₀ .places) ≤ lo → Laid b th (s₀ .places) (s .places) (s .rows) m
     ended h =
-        let w : lo + length (drop lo (s .order)) ≡ length (s₀ .order) = g .pending .whole in
-        let sm : sum (drop sp (s .stack)) ≡ length (drop lo (s .order)) = g .pending .span in
+        let w : lo + length (drop lo (s .places)) ≡ length (s₀ .places) = g .pending .whole in
+        let sm : sum (drop sp (s .stack)) ≡ length (drop lo (s .places)) = g .pending .span in
         let empty : drop sp (s .stack) ≡ [] = no-more (drop sp (s .stack)) (g .pending .some) (omega arith) in
-        let all : take lo (s .order) ≡ s .order = take-all lo (s .order) (omega (arith, g .same .order-same)) in
-        let p : Pending b th (grow b th (s₀ .order)) (length (s₀ .order)) [] (drop lo (s .order)) (s .order) (g .laid) lo m = rw (empty, all) at (g .pending) in
-        let e : g .laid ≡ bareRows 0 (grow b th (s₀ .order)) = rw append-nil at (p .rows-are) in
+        let all : take lo (s .places) ≡ s .places = take-all lo (s .places) (omega (arith, g .same .places-same)) in
+        let p : Pending b th (grow b th (s₀ .places)) (length (s₀ .places)) [] (drop lo (s .places)) (s .places) (g .laid) lo m =
+        rw (empty, all) at (g .pending) in
+        let e : g .laid ≡ bareRows 0 (grow b th (s₀ .places)) = rw append-nil at (p .rows-are) in
         record {
           order-is = rw append-nil at (p .order-is);
-          heads-are = g .written .heads-are ∙ ap heads e;
-          counts-are = g .written .counts-are ∙ ap counts e;
-          words-are = g .written .words-are ∙ ap words e;
+          rows-are = g .written ∙ ap tableOf e;
           most = omega (arith, p .room);
         }
 
-    module _ (h : lo < length (s₀ .order)) where
+    module _ (h : lo < length (s₀ .places)) where
       in-stack₀ : sp < length (s .stack)
       in-stack₀ =
           let l : length (drop sp (s .stack)) ≡ length (s .stack) - sp = length-drop sp (s .stack) in
           let ne : 0 < length (drop sp (s .stack)) = not-none (drop sp (s .stack)) (omega (arith, g .pending .span, g .pending .whole)) in
           omega arith
 
-      popped : Pending b th (grow b th (s₀ .order)) (length (s₀ .order)) (getD (s .stack) sp 0 ∷ drop (suc sp) (s .stack)) (drop lo (s .order)) (take lo (s .order)) (g .laid) lo m
+      popped : Pending b th (grow b th (s₀ .places)) (length (s₀ .places)) (getD (s .stack) sp 0 ∷ drop (suc sp) (s .stack)) (drop lo (s .places))
+          (take lo (s .places)) (g .laid) lo m
       popped = rw (drop-cons (s .stack) sp 0 in-stack₀) at (g .pending)
 
       pub top : Top th s₀ s sp lo m (getD (s .stack) sp 0)
@@ -148,100 +144,105 @@ module _ (b : Builder) (law : Lawful b) (th : ℕ) (boxes : List ℕ) (s₀ : Sl
           let k : ℕ = getD (s .stack) sp 0 in
           let ks : List ℕ = drop (suc sp) (s .stack) in
           let p = popped in
-          let sm : k + sum ks ≡ length (drop lo (s .order)) = p .span in
+          let sm : k + sum ks ≡ length (drop lo (s .places)) = p .span in
           let le : length ks ≤ sum ks = some-most ks (p .some .1) in
           let l : length ks ≡ length (s .stack) - suc sp = length-drop (suc sp) (s .stack) in
-          let w : lo + length (drop lo (s .order)) ≡ length (s₀ .order) = p .whole in
-          let r : m + 2 * (k + sum ks) + 1 ≤ 2 * length (s₀ .order) + suc (length ks) = p .room in
+          let w : lo + length (drop lo (s .places)) ≡ length (s₀ .places) = p .whole in
+          let r : m + 2 * (k + sum ks) + 1 ≤ 2 * length (s₀ .places) + suc (length ks) = p .room in
           let some : 0 < k = p .some .0 in
           let is = in-stack₀ in
           let same = g .same in
           let pos = room .threshold in
           let few = room .few in
-          let fr = room .first-room in
-          let cr = room .count-room in
-          let nr = room .nodes-room in
+          let rr = room .rows-room in
           let tr = room .temp-room in
           let sr = room .stack-room in
-          let below : m < 2 * length (s₀ .order) = omega arith in
+          let below : m < 2 * length (s₀ .places) = omega arith in
           record {
             in-stack = is;
             some = some;
-            in-order = omega (arith, same .order-same);
+            in-places = omega (arith, same .places-same);
             few = omega arith;
-            in-first = omega (arith, same .first-same);
-            in-count = omega (arith, same .count-same);
-            in-nodes = omega (arith, same .nodes-same);
+            in-rows = omega (arith, same .rows-same);
             below = below;
             in-temp = omega (arith, same .temp-same);
             more = λ z. omega (arith, same .stack-same);
           }
 
-      pub leaf-turn : getD (s .stack) sp 0 ≤ th → (j : ℕ) (first′ count′ nodes′ : List ℕ) → j ≡ getD (s .stack) sp 0
-          → RowPut m (record { box = b .box (take j (drop lo (s .order))); head = lo; count = getD (s .stack) sp 0 }) (s .first) (s .count) (s .nodes) first′ count′ nodes′
-          → length nodes′ ≡ length (s .nodes)
-          → Going b th boxes s₀ (record { order = s .order; temp = s .temp; stack = s .stack; first = first′; count = count′; nodes = nodes′ }) (sp + 1) (lo + getD (s .stack) sp 0) (m + 1)
-      leaf-turn z j first′ count′ nodes′ ej put ln =
+      -- the table with the row of the segment's first j places
+      abbrev pub leaf-row : ℕ → List ℕ
+      leaf-row j =
+          let ps = take j (drop lo (s .places)) in
+          withRow m (record { box = b .box ps; head = lo; count = length ps }) (s .rows)
+
+      pub leaf-turn : getD (s .stack) sp 0 ≤ th → (j : ℕ) (rows′ : List ℕ) → j ≡ getD (s .stack) sp 0 → rows′ ≡ leaf-row j
+          → length rows′ ≡ length (s .rows)
+          → Going b th entries s₀ (record { places = s .places; temp = s .temp; stack = s .stack; rows = rows′ })
+            (sp + 1) (lo + getD (s .stack) sp 0) (m + 1)
+      leaf-turn z j rows′ ej put lr =
           let k : ℕ = getD (s .stack) sp 0 in
-          let row : Row = record { box = b .box (take k (drop lo (s .order))); head = lo; count = k } in
-          let put′ : RowPut m row (s .first) (s .count) (s .nodes) first′ count′ nodes′ = rw ej at put in
+          let ps : List ℕ = take k (drop lo (s .places)) in
+          let row : Row = record { box = b .box ps; head = lo; count = length ps } in
+          let put′ : rows′ ≡ withRow m row (s .rows) = put ∙ ap leaf-row ej in
           let t = top in
           record {
             laid = g .laid ++ (row ∷ []);
             pending =
-                rw (add-one sp, ← drop-drop k lo (s .order), take-add lo k (s .order), add-one m)
-                (leaf-step b law th (room .threshold) (grow b th (s₀ .order)) (length (s₀ .order)) k (drop (suc sp) (s .stack)) (drop lo (s .order)) (take lo (s .order)) (g .laid) lo m popped z);
-            written = rw (add-one m) (one-more m row (s .first) (s .count) (s .nodes) first′ count′ nodes′ put′ (g .laid) (g .written) (t .in-first) (t .in-count) (t .in-nodes));
+                rw (add-one sp, ← drop-drop k lo (s .places), take-add lo k (s .places), add-one m)
+                (leaf-step b law th (room .threshold) (grow b th (s₀ .places)) (length (s₀ .places)) k (drop (suc sp) (s .stack)) (drop lo (s .places))
+                (take lo (s .places)) (g .laid) lo m popped z);
+            written = rw (add-one m, put′) (one-more m row (s .rows) (g .laid) (t .in-rows) (g .written));
             deep = omega (arith, t .in-stack);
             same = record {
-              order-same = g .same .order-same;
+              places-same = g .same .places-same;
               temp-same = g .same .temp-same;
               stack-same = g .same .stack-same;
-              first-same = first-length m row (s .first) (s .count) (s .nodes) first′ count′ nodes′ put′ ∙ g .same .first-same;
-              count-same = count-length m row (s .first) (s .count) (s .nodes) first′ count′ nodes′ put′ ∙ g .same .count-same;
-              nodes-same = ln ∙ g .same .nodes-same;
+              rows-same = lr ∙ g .same .rows-same;
             };
-            places = g .places;
+            within = g .within;
           }
 
-      pub inner-turn : th < getD (s .stack) sp 0 → (j a : ℕ) (w temp′ stack′ first′ count′ nodes′ : List ℕ) → j ≡ getD (s .stack) sp 0
-          → InnerPut b m (take j (drop lo (s .order))) w (s .first) (s .count) (s .nodes) first′ count′ nodes′ a
-          → length w ≡ length (take j (drop lo (s .order))) → length temp′ ≡ length (s .temp) → length nodes′ ≡ length (s .nodes)
+      pub inner-turn : th < getD (s .stack) sp 0 → (j a : ℕ) (w temp′ stack′ rows′ : List ℕ) → j ≡ getD (s .stack) sp 0
+          → InnerPut b m (take j (drop lo (s .places))) w (s .rows) rows′ a
+          → length w ≡ length (take j (drop lo (s .places))) → length temp′ ≡ length (s .temp) → length rows′ ≡ length (s .rows)
           → stack′ ≡ set (set (s .stack) sp (getD (s .stack) sp 0 - a)) (sp - 1) a
-          → Going b th boxes s₀ (record { order = putMid lo j (s .order) w; temp = temp′; stack = stack′; first = first′; count = count′; nodes = nodes′ }) (sp - 1) lo (m + 1)
-      inner-turn z j a w temp′ stack′ first′ count′ nodes′ ej put lw lt ln est =
+          → Going b th entries s₀ (record { places = putMid lo j (s .places) w; temp = temp′; stack = stack′; rows = rows′ }) (sp - 1) lo (m + 1)
+      inner-turn z j a w temp′ stack′ rows′ ej put lw lt lr est =
           let k : ℕ = getD (s .stack) sp 0 in
           let t = top in
-          let here : List ℕ = take j (drop lo (s .order)) in
-          let behind : List ℕ = drop j (drop lo (s .order)) in
-          let row : Row = record { box = b .box (take k (drop lo (s .order))); head = 0; count = 0 } in
-          let put′ : RowPut m row (s .first) (s .count) (s .nodes) first′ count′ nodes′ = rw ej at (put .row-put) in
-          let order′ : List ℕ = putMid lo j (s .order) w in
-          let ahead : length (take lo (s .order)) ≡ lo = length-take-le lo (s .order) (omega (arith, t .in-order)) in
-          let d₁ : drop lo order′ ≡ w ++ behind = drop-at (take lo (s .order)) (w ++ behind) lo ahead in
-          let t₁ : take lo order′ ≡ take lo (s .order) = take-put lo j (s .order) w (omega (arith, t .in-order)) in
-          let ea : a ≡ length (b .first (take k (drop lo (s .order)))) = rw ej at (put .group-size) in
-          let er : w ++ behind ≡ (b .first (take k (drop lo (s .order))) ++ b .second (take k (drop lo (s .order)))) ++ drop k (drop lo (s .order)) = rw (put .groups, ej) in
+          let here : List ℕ = take j (drop lo (s .places)) in
+          let behind : List ℕ = drop j (drop lo (s .places)) in
+          let row : Row = record { box = b .box (take k (drop lo (s .places))); head = 0; count = 0 } in
+          let put′ : rows′ ≡ withRow m row (s .rows) = rw ej at (put .row-put) in
+          let places′ : List ℕ = putMid lo j (s .places) w in
+          let ahead : length (take lo (s .places)) ≡ lo = length-take-le lo (s .places) (omega (arith, t .in-places)) in
+          let d₁ : drop lo places′ ≡ w ++ behind = drop-at (take lo (s .places)) (w ++ behind) lo ahead in
+          let t₁ : take lo places′ ≡ take lo (s .places) = take-put lo j (s .places) w (omega (arith, t .in-places)) in
+          let ea : a ≡ length (b .first (take k (drop lo (s .places)))) = rw ej at (put .group-size) in
+          let waits : List ℕ = drop lo (s .places) in
+          let er : w ++ behind ≡ (b .first (take k waits) ++ b .second (take k waits)) ++ drop k waits = rw (put .groups, ej) in
           let ls : length stack′ ≡ length (s .stack) = rw est (simp length-set) in
-          let held : Within (length boxes) here = within-take (length boxes) j (drop lo (s .order)) (within-drop (length boxes) lo (s .order) (g .places)) in
+          let held : Within (length entries) here =
+          within-take (length entries) j (drop lo (s .places)) (within-drop (length entries) lo (s .places) (g .within)) in
           record {
             laid = g .laid ++ (row ∷ []);
             pending =
                 rw (est, pushed (s .stack) sp a (k - a) (t .more z) (t .in-stack), d₁, t₁, add-one m)
-                (inner-step b law th (room .threshold) (grow b th (s₀ .order)) (length (s₀ .order)) k (drop (suc sp) (s .stack)) (drop lo (s .order)) (take lo (s .order)) (g .laid) lo m popped a (w ++ behind) z ea er);
-            written = rw (add-one m) (one-more m row (s .first) (s .count) (s .nodes) first′ count′ nodes′ put′ (g .laid) (g .written) (t .in-first) (t .in-count) (t .in-nodes));
+                (inner-step b law th (room .threshold) (grow b th (s₀ .places)) (length (s₀ .places)) k (drop (suc sp) (s .stack)) waits
+                (take lo (s .places)) (g .laid) lo m popped a (w ++ behind) z ea er);
+            written = rw (add-one m, put′) (one-more m row (s .rows) (g .laid) (t .in-rows) (g .written));
             deep = omega (arith, t .in-stack);
             same = record {
-              order-same = same-len-mid lo j (s .order) w lw ∙ g .same .order-same;
+              places-same = same-len-mid lo j (s .places) w lw ∙ g .same .places-same;
               temp-same = lt ∙ g .same .temp-same;
               stack-same = ls ∙ g .same .stack-same;
-              first-same = first-length m row (s .first) (s .count) (s .nodes) first′ count′ nodes′ put′ ∙ g .same .first-same;
-              count-same = count-length m row (s .first) (s .count) (s .nodes) first′ count′ nodes′ put′ ∙ g .same .count-same;
-              nodes-same = ln ∙ g .same .nodes-same;
+              rows-same = lr ∙ g .same .rows-same;
             };
-            places =
-                within-append (length boxes) (take lo (s .order)) (w ++ behind) (within-take (length boxes) lo (s .order) (g .places))
-                (within-append (length boxes) w behind
-                (rw (put .groups) (within-append (length boxes) (b .first here) (b .second here) (law .within-first (length boxes) here held) (law .within-second (length boxes) here held)))
-                (within-drop (length boxes) j (drop lo (s .order)) (within-drop (length boxes) lo (s .order) (g .places))));
+            within =
+                within-append (length entries) (take lo (s .places)) (w ++ behind) (within-take (length entries) lo (s .places) (g .within))
+                (within-append (length entries) w behind
+                (rw (put .groups)
+                (within-append (length entries) (b .first here) (b .second here) (law .within-first (length entries) here held)
+                (law .within-second (length entries) here held)))
+                (within-drop (length entries) j (drop lo (s .places)) (within-drop (length entries) lo (s .places) (g .within))));
           }

@@ -6,7 +6,7 @@ use mathlib.Core.Path.{_≡_, sym, ap, _∙_}
 use lib.ListN.{length, take, drop, length-append, length-drop}
 use lib.Seq.{length-take-le, take-at, drop-at, take-length}
 use Rattle.bvh.specs.Rows.{Row}
-use Rattle.bvh.specs.Sizes.{bareRows}
+use Rattle.bvh.specs.steps.Sizes.{bareRows}
 use Rattle.bvh.specs.Tree.{Node, leaf, inner, Builder, grow, leafOrder}
 use Rattle.bvh.proofs.Lawful.{Lawful}
 use Rattle.bvh.proofs.TreeLaws.{grow-leaf, grow-inner, leaf-order-length}
@@ -55,7 +55,9 @@ module _ (b : Builder) (law : Lawful b) (th : ℕ) (pos : 0 < th) where
       }
 
   module _ (t : Node) (n k : ℕ) (ks r order : List ℕ) (laid : List Row) (lo m : ℕ) (p : Pending b th t n (k ∷ ks) r order laid lo m) where
-    pub leaf-step : k ≤ th → Pending b th t n ks (drop k r) (order ++ take k r) (laid ++ (record { box = b .box (take k r); head = lo; count = k } ∷ [])) (lo + k) (suc m)
+    pub leaf-step : k ≤ th
+        → Pending b th t n ks (drop k r) (order ++ take k r)
+          (laid ++ (record { box = b .box (take k r); head = lo; count = length (take k r) } ∷ [])) (lo + k) (suc m)
     leaf-step h =
         let sp : k + sum ks ≡ length r = p .span in
         let l : length (take k r) ≡ k = length-take-le k r (omega arith) in
@@ -63,7 +65,9 @@ module _ (b : Builder) (law : Lawful b) (th : ℕ) (pos : 0 < th) where
         let e : grow b th (take k r) ≡ leaf (b .box (take k r)) (take k r) = grow-leaf b th (take k r) (omega arith) in
         record {
           order-is = append-assoc order (take k r) (ordersOf b th ks (drop k r)) ∙ (rw e at (p .order-is));
-          rows-are = append-assoc laid (record { box = b .box (take k r); head = lo; count = k } ∷ []) (rowsOf b th (lo + k) ks (drop k r)) ∙ (rw (e, l) at (p .rows-are));
+          rows-are =
+              append-assoc laid (record { box = b .box (take k r); head = lo; count = length (take k r) } ∷ []) (rowsOf b th (lo + k) ks (drop k r))
+              ∙ (rw e at (p .rows-are));
           span = omega arith;
           some = p .some .1;
           whole = omega (arith, p .whole);

@@ -2,10 +2,18 @@
 use borrow.Author.Needs.{needs}
 use Rattle.bvh.proofs.core.plant.Statement.{statement}
 use Rattle.bvh.proofs.core.plant.Tie as tie
-use Rattle.bvh.proofs.core.plant.Reads as reads
+use Prim.Native.Nat.{_≤_}
 use mathlib.Core.Path.{sym}
+use lib.ListN.{length}
 use Rattle.bvh.proofs.core.Planting.{gathered-long, grow-room, planted}
 use native.Mathlib.Omega.{arith}
+
+-- the function's entry, from where the places are gathered
+abbrev start : tie.After-gather → tie.Start
+start c = c .before .before .before .before .before .before .before
+
+fits : (c : tie.After-gather) → start c .args .task .n ≤ length (c .gather .last .1 .1 .0)
+fits c = omega (arith, c .gather .kept .1 .1 .0, start c .pre .places-room)
 
 gather-requires : tie.Need-gather-requires
 gather-requires c κs = search needs
@@ -15,13 +23,13 @@ slice-relend-prefix-grow-tree c = search needs
 
 slice-aggregate-grow-tree : tie.Need-slice-aggregate-grow-tree
 slice-aggregate-grow-tree c =
-    let g = c .before .before .before .gather in
-    sym (gathered-long _ 0 _ _ _ (g .ensures) (omega (arith, g .kept .1 .1 .0, c .before .before .before .before .before .before .before .before .before .before .before .before .pre .places-room)))
+    let g = c .before .before .before in
+    sym (gathered-long _ _ _ _ (g .gather .ensures) (fits g))
 
 grow-tree-requires : tie.Need-grow-tree-requires
 grow-tree-requires c κs =
-    let g = c .before .before .before .before .before .before .before .before .gather in
-    grow-room _ _ _ _ _ (g .ensures) (omega (arith, g .kept .1 .1 .0, c .before .before .before .before .before .before .before .before .before .before .before .before .before .before .before .before .before .pre .places-room)) _ _ _ _ _ _ (c .before .before .before .before .before .before .before .before .before .before .before .before .before .before .before .before .before .pre)
+    let g = c .before .before .before .before .before .before in
+    grow-room (start g .args .task) _ _ _ (g .gather .ensures) (fits g) _ _ _ _ (start g .pre)
 
 same-length : tie.Need-same-length
 same-length c = search needs
@@ -35,17 +43,11 @@ same-length-3 c = search needs
 same-length-4 : tie.Need-same-length-4
 same-length-4 c = search needs
 
-same-length-5 : tie.Need-same-length-5
-same-length-5 c = search needs
-
-same-length-6 : tie.Need-same-length-6
-same-length-6 c = search needs
-
 returns : tie.Need-returns
 returns c =
-    let g = c .before .before .before .before .before .before .before .before .before .before .before .before .before .before .before .before .before .before .before .before .before .gather in
-    let w = c .before .before .before .before .before .before .before .before .before .before .before .before .grow-tree in
-    planted _ _ _ _ _ (g .ensures) (omega (arith, g .kept .1 .1 .0, c .before .before .before .before .before .before .before .before .before .before .before .before .before .before .before .before .before .before .before .before .before .before .before .before .before .before .before .before .before .before .pre .places-room)) _ _ _ _ _ (w .kept .0) (w .ensures)
+    let w = c .before .before .before .before .before .before .before .before in
+    let g = w .before .before .before .before .before .before .before in
+    planted (start g .args .task) _ _ _ (g .gather .ensures) (fits g) _ _ _ (w .grow-tree .kept .0) (w .grow-tree .ensures)
 
 pub plant-spec : {M : Type 1} → statement M
 plant-spec =
@@ -59,6 +61,4 @@ plant-spec =
     same-length-2
     same-length-3
     same-length-4
-    same-length-5
-    same-length-6
     returns)

@@ -2,7 +2,6 @@
 use borrow.Author.Needs.{needs}
 use Rattle.bvh.proofs.core.write_nodes.Statement.{statement}
 use Rattle.bvh.proofs.core.write_nodes.Tie as tie
-use Rattle.bvh.proofs.core.write_nodes.Reads as reads
 use Rattle.bvh.proofs.core.Writing.{nodes-padded, nodes-bare}
 
 put-nodes-requires : tie.Need-put-nodes-requires
@@ -21,13 +20,15 @@ same-length : tie.Need-same-length
 same-length c = search needs
 
 returns : tie.Need-returns
-returns c = nodes-padded _ _ _ _ _ _ _ _ _ (c .before .before .before .before .before .before .before .put-nodes .ensures) _ (c .before .before .before .before .if1 .taken) (c .before .before .before .before .before .before .before .before .before .before .before .before .before .before .pre .2) (c .before .before .pad-nodes .ensures)
+returns c =
+    let before = c .before .before .before .before .before in
+    nodes-padded _ _ _ _ _ _ _ (before .before .before .before .before .put-nodes .ensures) _ (before .if1 .taken) (before .before .before .before .before .before .before .before .before .before .pre .2) (c .before .before .pad-nodes .ensures)
 
 same-length-2 : tie.Need-same-length-2
 same-length-2 c = search needs
 
 returns-2 : tie.Need-returns-2
-returns-2 c = nodes-bare _ _ _ _ _ _ _ _ _ (c .before .before .before .put-nodes .ensures) (c .if1 .left)
+returns-2 c = nodes-bare _ _ _ _ _ _ _ (c .before .before .before .before .put-nodes .ensures) (c .if1 .left)
 
 pub write-nodes-spec : {M : Type 1} → statement M
 write-nodes-spec =

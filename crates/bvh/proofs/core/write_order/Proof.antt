@@ -2,11 +2,19 @@
 use borrow.Author.Needs.{needs}
 use Rattle.bvh.proofs.core.write_order.Statement.{statement}
 use Rattle.bvh.proofs.core.write_order.Tie as tie
-use Rattle.bvh.proofs.core.write_order.Reads as reads
-use mathlib.Core.Path.{sym}
+use Prim.Native.Nat.{_≤_}
+use mathlib.Core.Path.{_≡_, sym}
+use lib.ListN.{length, take}
 use Rattle.bvh.proofs.core.Planting.{gathered-below, gathered-long}
 use Rattle.bvh.proofs.core.Writing.{order-rising, order-leaves}
 use native.Mathlib.Omega.{arith}
+
+-- the function's entry, from where the places are gathered again
+abbrev start : tie.After-gather → tie.Start
+start c = c .before .before .before .before .before .before .before .before
+
+long : (c : tie.After-gather) → let g = c .gather in length (take (g .result) (g .last .1 .1 .0)) ≡ g .result
+long c = gathered-long _ _ _ _ (c .gather .ensures) (omega (arith, c .gather .kept .1 .1 .0, start c .pre .temp-room))
 
 gather-requires : tie.Need-gather-requires
 gather-requires c κs = search needs
@@ -15,17 +23,12 @@ slice-reshare-prefix-put-order : tie.Need-slice-reshare-prefix-put-order
 slice-reshare-prefix-put-order c = search needs
 
 slice-aggregate-put-order : tie.Need-slice-aggregate-put-order
-slice-aggregate-put-order c =
-    let g = c .before .before .before .before .gather in
-    let p = c .before .before .before .before .before .before .before .before .before .before .before .pre in
-    sym (gathered-long _ 0 _ _ _ (g .ensures) (omega (arith, g .kept .1 .1 .0)))
+slice-aggregate-put-order c = sym (long (c .before .before .before .before))
 
 put-order-requires : tie.Need-put-order-requires
 put-order-requires c κs =
-    let g = c .before .before .before .before .gather in
-    let p = c .before .before .before .before .before .before .before .before .before .before .before .pre in
-    let long = gathered-long _ 0 _ _ _ (g .ensures) (omega (arith, g .kept .1 .1 .0)) in
-    (omega (arith, g .ensures .most, long), gathered-below _ _ _ _ _ (g .ensures) (omega arith))
+    let g = c .before .before .before .before in
+    (omega (arith, g .gather .ensures .most, long g, start g .pre), gathered-below _ _ _ _ _ (g .gather .ensures) (omega (arith, start g .pre .few)))
 
 put-order-requires-2 : tie.Need-put-order-requires-2
 put-order-requires-2 c κs = search needs
@@ -37,7 +40,9 @@ same-length-2 : tie.Need-same-length-2
 same-length-2 c = search needs
 
 returns : tie.Need-returns
-returns c = order-rising _ _ _ _ _ _ (c .before .before .before .before .before .before .before .before .before .if1 .taken) (c .before .before .before .before .before .before .before .gather .ensures .places-are) (c .before .before .put-order .ensures)
+returns c =
+    let g = c .before .before .before .before .before .before .before in
+    order-rising _ _ _ _ _ _ (g .before .before .if1 .taken) (g .gather .ensures .places-are) (c .before .before .put-order .ensures)
 
 same-length-3 : tie.Need-same-length-3
 same-length-3 c = search needs

@@ -8,15 +8,16 @@ use Rattle.bvh.proofs.emit.Writing.{Writing, paddedTo, padding-begins, 
 use native.Mathlib.Omega.{arith}
 
 abbrev Inv-loop : tie.InvT-loop
-Inv-loop nodes₀ from upto i₀ nodes i = (from ≤ i) × Writing nodes₀ nodes (paddedTo nodes₀ from i) i upto
+Inv-loop bytes₀ from upto i₀ bytes i = (from ≤ i) × Writing bytes₀ bytes (paddedTo bytes₀ from i) i upto
 
 abbrev μ-loop : tie.MeasureT-loop
-μ-loop nodes₀ from upto i₀ nodes i = upto - i
+μ-loop bytes₀ from upto i₀ bytes i = upto - i
 
 loop-holds : tie.Need-loop-holds Inv-loop μ-loop
 loop-holds c =
     let g = c .before in
-    (omega arith, record { upto = g .pre .0; same = refl; held = padding-begins (g .args .nodes .now) (g .args .from) (omega (arith, g .pre)) })
+    let held = padding-begins (g .args .node-bytes .now) (g .args .from) (omega (arith, g .pre)) in
+    (omega arith, record { upto = g .pre .0; same = refl; held = held })
 
 mul-put-node : tie.Need-mul-put-node Inv-loop μ-loop
 mul-put-node c = omega arith
@@ -39,7 +40,8 @@ loop-again c =
     let l = c .before .before .before .before .before .before .loop in
     let pad = c .before .before .before .pad-node in
     let put = c .before .before .put-node in
-    let more = pad-next (g .args .nodes .now) (g .args .from) (l .nodes) (put .last .0) (pad .result) (l .i) (g .args .upto) (l .inv .0) (l .inv .1) (omega arith) (g .pre .1) (pad .ensures) (put .kept .0) (put .ensures) in
+    let more = pad-next (g .args .node-bytes .now) (g .args .from) (l .node-bytes) (put .last .0) (pad .result) (l .i) (g .args .upto) (l .inv .0)
+    (l .inv .1) (omega arith) (g .pre .1) (pad .ensures) (put .kept .0) (put .ensures) in
     (omega arith, more)
 
 same-length : tie.Need-same-length Inv-loop μ-loop
@@ -49,9 +51,11 @@ returns : tie.Need-returns Inv-loop μ-loop
 returns c =
     let g = c .before .before .before in
     let l = c .before .loop in
-    let before = g .args .nodes .now in
+    let before = g .args .node-bytes .now in
     let end : l .i ≡ g .args .upto = omega arith in
-    l .inv .1 .held ∙ ap (λ (k : ℕ). over (paddedTo before (g .args .from) k) before) end ∙ padding-done before (g .args .from) (g .args .upto) (g .pre .0) (g .pre .1)
+    l .inv .1 .held
+    ∙ ap (λ (k : ℕ). over (paddedTo before (g .args .from) k) before) end
+    ∙ padding-done before (g .args .from) (g .args .upto) (g .pre .0) (g .pre .1)
 
 pub pad-nodes-spec : {M : Type 1} → statement M
 pad-nodes-spec =

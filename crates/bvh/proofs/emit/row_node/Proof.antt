@@ -5,34 +5,41 @@ use Rattle.bvh.proofs.emit.row_node.Tie as tie
 use Prim.Native.Nat.{ℕ, _<_}
 use mathlib.Core.Path.{_≡_, sym, ap, subst, _∙_}
 use lib.IntN.{pos}
+use lib.ListN.{length}
 use mir.Syntax.{w16}
 use mir.Val.{toZ}
 use mir.Facts.{toZ-pos}
 use Rattle.split.specs.declared.boxes.BoxWords.{BoxWords}
 use Rattle.records.specs.Quantise.{quantiseOf}
-use Rattle.bvh.specs.Decode.{rowAt}
-use Rattle.bvh.specs.Output.{nodeOf}
+use Rattle.bvh.specs.Output.{idOf, nodeOf}
+use Rattle.bvh.specs.Rows.{Row}
+use Rattle.bvh.specs.steps.Table.{rowAt}
 
-mul-box-from : tie.Need-mul-box-from
-mul-box-from c = search needs
+-- the entry of the function from where the item's id is known, and the row
+abbrev start : tie.After-item-id → tie.Start
+start c = c .before .before .before .before .before .before
 
-box-from-requires : tie.Need-box-from-requires
-box-from-requires c κs = search needs
+abbrev row : tie.After-item-id → Row
+row c = rowAt (start c .args .rows .now) (start c .args .i)
 
-mul-items : tie.Need-mul-items
-mul-items c = search needs
+id-is : (c : tie.After-item-id) → c .item-id .result ≡ idOf (start c .args .threshold) (start c .args .leaf-order .now) (row c)
+id-is c =
+    c .item-id .ensures (row c .box)
+    ∙ (λ j. idOf (start c .args .threshold) (start c .args .leaf-order .now) (record { box = row c .box; head = c .before .row-head .ensures j; count = c .before .before .row-count .ensures j }))
 
-shared-slice-read-items : tie.Need-shared-slice-read-items
-shared-slice-read-items c = search needs
+row-box-requires : tie.Need-row-box-requires
+row-box-requires c κs = search needs
 
-mul-item-id : tie.Need-mul-item-id
-mul-item-id c = search needs
+row-count-requires : tie.Need-row-count-requires
+row-count-requires c κs = search needs
 
-shared-slice-read-item-id : tie.Need-shared-slice-read-item-id
-shared-slice-read-item-id c = search needs
+row-head-requires : tie.Need-row-head-requires
+row-head-requires c κs = search needs
 
 item-id-requires : tie.Need-item-id-requires
-item-id-requires c κs = c .before .before .before .before .before .before .before .pre .3 .inside
+item-id-requires c κs =
+    let leaves = length (c .before .before .before .before .before .args .leaf-order .now) in
+    λ some. subst (λ (h : ℕ). h < leaves) (sym (c .row-head .ensures)) (c .before .before .before .before .before .pre .1 .inside (subst (λ (n : ℕ). 0 < n) (c .before .row-count .ensures) some))
 
 quantise-requires : tie.Need-quantise-requires
 quantise-requires c κs = search needs
@@ -40,46 +47,36 @@ quantise-requires c κs = search needs
 quantise-requires-2 : tie.Need-quantise-requires-2
 quantise-requires-2 c κs = search needs
 
-cast-t17 : tie.Need-cast-t17
-cast-t17 c =
-    let g = c .before .before .before .before .before .before .before .before .before .before in
-    let a = g .args in
-    let r = rowAt (a .first .now) (a .count .now) (a .boxes .now) (a .i) in
-    let id = c .before .before .item-id in
-    let small : id .result < 32768 = subst (λ (n : ℕ). n < 32768) (sym (id .ensures (r .box))) (g .pre .3 .id) in
+cast-t12 : tie.Need-cast-t12
+cast-t12 c =
+    let small : c .before .before .item-id .result < 32768 = subst (λ (n : ℕ). n < 32768) (sym (id-is (c .before .before))) (start (c .before .before) .pre .1 .id) in
     search needs
 
-cast-t18 : tie.Need-cast-t18
-cast-t18 c = search needs
+cast-t13 : tie.Need-cast-t13
+cast-t13 c = search needs
 
 returns : tie.Need-returns
 unfolding nodeOf
 returns c =
-    let g = c .before .before .before .before .before .before .before .before .before .before in
-    let a = g .args in
-    let s = a .scale in
-    let r = rowAt (a .first .now) (a .count .now) (a .boxes .now) (a .i) in
-    let small = g .pre .3 in
-    let corners = c .before .before .before .before .before .box-from .ensures in
+    let s = start (c .before .before) .args .scale in
+    let small = start (c .before .before) .pre .1 in
+    let corners = c .before .before .before .before .before .row-box .ensures in
     let min = c .before .quantise .ensures ∙ ap (λ (b : BoxWords). quantiseOf (b .min) (s .cen) (s .inverse)) corners in
     let max = c .quantise2 .ensures ∙ ap (λ (b : BoxWords). quantiseOf (b .max) (s .cen) (s .inverse)) corners in
-    let id = ap (toZ w16) (c .before .before .item-id .ensures (r .box)) ∙ toZ-pos w16 (small .id) in
-    let items : toZ w16 (r .count) ≡ pos (r .count) = toZ-pos w16 (small .items) in
+    let id = ap (toZ w16) (id-is (c .before .before)) ∙ toZ-pos w16 (small .id) in
+    let items = ap (toZ w16) (c .before .before .before .before .row-count .ensures) ∙ toZ-pos w16 (small .items) in
     λ j. record { min = min j; max = max j; «item_id» = id j; «item_count» = items j }
 
 pub row-node-spec : {M : Type 1} → statement M
 row-node-spec =
     tie.close
     (tie.spec
-    mul-box-from
-    box-from-requires
-    mul-items
-    shared-slice-read-items
-    mul-item-id
-    shared-slice-read-item-id
+    row-box-requires
+    row-count-requires
+    row-head-requires
     item-id-requires
     quantise-requires
     quantise-requires-2
-    cast-t17
-    cast-t18
+    cast-t12
+    cast-t13
     returns)

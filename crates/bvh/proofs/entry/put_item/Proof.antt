@@ -13,14 +13,14 @@ use native.Mathlib.Omega.{arith}
 mul-at : tie.Need-mul-at
 mul-at c = search needs
 
-cast-words : tie.Need-cast-words
-cast-words c = search needs
+cast-entries : tie.Need-cast-entries
+cast-entries c = search needs
 
-mul-words : tie.Need-mul-words
-mul-words c = search needs
+mul-entries : tie.Need-mul-entries
+mul-entries c = search needs
 
-slice-write-words : tie.Need-slice-write-words
-slice-write-words c = search needs
+slice-write-entries : tie.Need-slice-write-entries
+slice-write-entries c = search needs
 
 add-put-box : tie.Need-add-put-box
 add-put-box c = search needs
@@ -34,16 +34,16 @@ same-length c = c .before .before .put-box .kept .0 ∙ simp length-set
 returns : tie.Need-returns
 returns c =
     let a = c .before .before .before .before .before .before .before .before .args in
-    c .before .before .put-box .ensures ∙ rw (← mark-is (a .item .present)) (mark-then-box (a .words .now) (boxWords (itemBox (a .item))) (7 * a .i) _ (omega arith))
+    c .before .before .put-box .ensures ∙ rw (← mark-is (a .item .present)) (mark-then-box (a .entries .now) (boxWords (itemBox (a .item))) (7 * a .i) _ (omega arith))
 
 pub put-item-spec : {M : Type 1} → statement M
 put-item-spec =
     tie.close
     (tie.spec
     mul-at
-    cast-words
-    mul-words
-    slice-write-words
+    cast-entries
+    mul-entries
+    slice-write-entries
     add-put-box
     put-box-requires
     same-length

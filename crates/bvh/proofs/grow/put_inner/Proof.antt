@@ -6,8 +6,8 @@ use Rattle.bvh.proofs.grow.put_inner.Tie as tie
 divide-requires : tie.Need-divide-requires
 divide-requires c κs = search needs
 
-set-row-requires : tie.Need-set-row-requires
-set-row-requires c κs = search needs
+put-row-requires : tie.Need-put-row-requires
+put-row-requires c κs = search needs
 
 same-length : tie.Need-same-length
 same-length c = search needs
@@ -18,18 +18,11 @@ same-length-2 c = search needs
 same-length-3 : tie.Need-same-length-3
 same-length-3 c = search needs
 
-same-length-4 : tie.Need-same-length-4
-same-length-4 c = search needs
-
-same-length-5 : tie.Need-same-length-5
-same-length-5 c = search needs
-
 returns : tie.Need-returns
 returns c =
-    let d = c .before .before .before .before .before .before .before .before .before .before .before .before .before .before .before .divide .ensures in
-    let r = c .before .before .before .before .before .before .set-row .ensures in
+    let d = c .before .before .before .before .before .before .before .before .before .divide .ensures in
     record {
-      row-put = record { head-put = r .head-put; count-put = r .count-put; box-put = rw (d .1) at (r .box-put) };
+      row-put = rw (d .1) at (c .before .before .put-row .ensures);
       groups = d .0 .list;
       group-size = d .0 .count;
       some = d .0 .some;
@@ -39,12 +32,4 @@ returns c =
 pub put-inner-spec : {M : Type 1} → statement M
 put-inner-spec =
     tie.close
-    (tie.spec
-    divide-requires
-    set-row-requires
-    same-length
-    same-length-2
-    same-length-3
-    same-length-4
-    same-length-5
-    returns)
+    (tie.spec divide-requires put-row-requires same-length same-length-2 same-length-3 returns)

@@ -4,15 +4,15 @@ use Rattle.bvh.proofs.items.gather.Tie as tie
 use Prim.Native.Nat.{ℕ, _+_, _-_, _*_}
 use mathlib.Core.Path.{subst, sym}
 use lib.ListN.{getD, set}
-use Rattle.bvh.specs.Decode.{isMarked}
+use Rattle.bvh.specs.Items.{isMarked}
 use Rattle.bvh.proofs.items.Gathering.{Gathering, begin, next, done, one-or-none}
 use native.Mathlib.Omega.{arith}
 
 abbrev Inv-loop : tie.InvT-loop
-Inv-loop words n places₀ k₀ p₀ places k p = Gathering n words places₀ places k p
+Inv-loop entries n places₀ k₀ p₀ places k p = Gathering n entries places₀ places k p
 
 abbrev μ-loop : tie.MeasureT-loop
-μ-loop words n places₀ k₀ p₀ places k p = n - p
+μ-loop entries n places₀ k₀ p₀ places k p = n - p
 
 loop-holds : tie.Need-loop-holds Inv-loop μ-loop
 loop-holds c = begin _ _ _
@@ -40,7 +40,7 @@ one-if-marked-requires c κs = tt
 
 add-k : tie.Need-add-k Inv-loop μ-loop
 add-k c =
-    let mark = getD (c .before .before .before .before .before .before .args .words .now) (7 * (c .before .before .before .loop .p)) 0 in
+    let mark = getD (c .before .before .before .before .before .before .args .entries .now) (7 * (c .before .before .before .loop .p)) 0 in
     omega (arith, one-or-none (isMarked mark), c .one-if-marked .ensures)
 
 add-p : tie.Need-add-p Inv-loop μ-loop
@@ -53,8 +53,8 @@ loop-again : tie.Need-loop-again Inv-loop μ-loop
 loop-again c =
     let l = c .before .before .before .loop in
     let a = c .before .before .before .before .before .before .args in
-    subst (λ (r : ℕ). Gathering (a .n) (a .words .now) (a .places .now) (set (l .places) (l .k) (l .p)) (l .k + r) (l .p + 1)) (sym (c .one-if-marked .ensures))
-    (next (a .n) (a .words .now) (a .places .now) (l .places) (l .k) (l .p) (l .inv) (omega arith) (omega arith))
+    subst (λ (r : ℕ). Gathering (a .n) (a .entries .now) (a .places .now) (set (l .places) (l .k) (l .p)) (l .k + r) (l .p + 1)) (sym (c .one-if-marked .ensures))
+    (next (a .n) (a .entries .now) (a .places .now) (l .places) (l .k) (l .p) (l .inv) (omega arith) (omega arith))
 
 same-length : tie.Need-same-length Inv-loop μ-loop
 same-length c = c .before .loop .inv .same

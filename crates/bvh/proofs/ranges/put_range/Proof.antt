@@ -2,7 +2,6 @@
 use borrow.Author.Needs.{needs}
 use Rattle.bvh.proofs.ranges.put_range.Statement.{statement}
 use Rattle.bvh.proofs.ranges.put_range.Tie as tie
-use Rattle.bvh.proofs.ranges.put_range.Reads as reads
 use Prim.Native.Nat.{ℕ, _+_, _<_}
 use mathlib.Core.List.{_++_}
 use mathlib.Core.Path.{_≡_, ap, _∙_}
@@ -21,7 +20,8 @@ use Rattle.bvh.specs.Output.{treeRecord}
 -- two corners quantised and two numbers are the range's record
 made : (s : Scale) (b d : BoxWords) (min max : BoundVertex) (first last : ℕ) → first < 32768 → last < 32768 → d ≡ b
     → min ≡ quantiseOf (d .min) (s .cen) (s .inverse) → max ≡ quantiseOf (d .max) (s .cen) (s .inverse)
-    → record { min = min; max = max; «node_index1» = toZ w16 first; «node_index2» = toZ w16 last } ≡ treeRecord s (record { box = b; first = first; last = last })
+    → record { min = min; max = max; «node_index1» = toZ w16 first; «node_index2» = toZ w16 last }
+    ≡ treeRecord s (record { box = b; first = first; last = last })
 unfolding treeRecord
 made s b d min max first last hf hl eb emin emax = rw (emin, emax, toZ-pos w16 {n = first} hf, toZ-pos w16 {n = last} hl, eb)
 
@@ -48,10 +48,12 @@ same-length c = search needs
 
 returns : tie.Need-returns
 returns c =
-    let a = c .before .before .before .before .before .before .before .before .before .args in
+    let s = c .before .before .before .before .before .before .before .before .before in
+    let a = s .args in
+    let bytes = a .tree-bytes .now in
     c .before .before .put-tree .ensures
-    ∙ ap (λ (t : BvhTree). take (a .at) (a .trees .now) ++ (treeBytes t ++ drop (a .at + 16) (a .trees .now)))
-    (made (a .scale) _ _ _ _ (a .first) (a .last) (c .before .before .before .before .before .before .before .before .before .pre .2) (c .before .before .before .before .before .before .before .before .before .pre .3) (c .before .before .before .before .before .before .row-box .ensures) (c .before .before .before .before .before .quantise .ensures) (c .before .before .before .before .quantise2 .ensures))
+    ∙ ap (λ (t : BvhTree). take (a .at) bytes ++ (treeBytes t ++ drop (a .at + 16) bytes))
+    (made (a .scale) _ _ _ _ (a .first) (a .last) (s .pre .2) (s .pre .3) (c .before .before .before .before .before .before .row-box .ensures) (c .before .before .before .before .before .quantise .ensures) (c .before .before .before .before .quantise2 .ensures))
 
 pub put-range-spec : {M : Type 1} → statement M
 put-range-spec =

@@ -1,32 +1,44 @@
--- `ranges::put_trees` meets its contract. The loop's invariant, for every tree whose rows the slices hold: after k records, at row i, the ranges yet to come are those of the rows from i on, and the others' records are written. The measure is what is left of the rows.
+-- `ranges::put_trees` meets its contract. The loop's invariant, for every tree whose rows the table holds: after k records, at row i, the
+-- ranges yet to come are those of the rows from i on, and the others' records are written. The measure is what is left of the rows.
 use Rattle.bvh.proofs.ranges.put_trees.Statement.{statement}
 use Rattle.bvh.proofs.ranges.put_trees.Tie as tie
-use Rattle.bvh.proofs.ranges.put_trees.Reads as reads
 use Prim.Native.Nat.{_-_}
-use lib.ListN.{length}
-use Rattle.bvh.proofs.ranges.Scanning.{Going, Turn, start, finish, counts-number, pass, turn, write}
+use Rattle.bvh.proofs.ranges.Scanning.{Going, Turn, start, finish, table-room, pass, turn, write}
 use native.Mathlib.Omega.{arith}
 
 abbrev Inv-loop : tie.InvT-loop
-Inv-loop trees₀ first count boxes scale i₀ k₀ trees i k = Going scale first count boxes trees₀ trees i k
+Inv-loop tree-bytes₀ rows m scale limit i₀ k₀ tree-bytes i k = Going limit scale m rows tree-bytes₀ tree-bytes i k
 
 abbrev μ-loop : tie.MeasureT-loop
-μ-loop trees₀ first count boxes scale i₀ k₀ trees i k = length first - i
+μ-loop tree-bytes₀ rows m scale limit i₀ k₀ tree-bytes i k = m - i
+
+-- the entry of the function that a turn is in, and the turn that a record's writing is in
+abbrev entry : tie.In-loop Inv-loop μ-loop → tie.Start Inv-loop μ-loop
+entry c = c .before .before .before .before
+
+abbrev writing : tie.After-put-range-arg Inv-loop μ-loop → tie.In-loop Inv-loop μ-loop
+writing c = c .before .before .before
 
 -- what is known before a record is written, and after it
-before-it : (c : tie.After-put-range-arg Inv-loop μ-loop) → Turn (c .before .before .before .before .before .before .before .before .before .args .boxes .now) (c .before .before .before .before .loop .trees) (c .before .before .before .before .loop .i) (c .before .before .before .before .loop .k) (c .before .before .tree-size .result)
-before-it c = turn _ _ _ _ _ _ _ _ _ (c .before .before .before .before .before .before .before .before .before .pre) (c .before .before .before .before .loop .inv) (c .before .before .before .loop-test .taken) (c .before .before .tree-size .ensures) (c .before .if1 .left)
+before-it : (c : tie.After-put-range-arg Inv-loop μ-loop)
+    → let l = writing c .before .loop in
+    Turn (entry (writing c) .args .rows .now) (l .tree-bytes) (l .i) (l .k) (c .before .before .tree-size .result)
+before-it c =
+    let i = writing c in
+    turn _ _ _ _ _ _ _ _ _ (entry i .pre) (i .before .loop .inv) (i .loop-test .taken) (c .before .before .tree-size .ensures) (c .before .if1 .left)
 
-after-it : (c : tie.After-slice-known2 Inv-loop μ-loop) → Turn (c .before .before .before .before .before .before .before .before .before .before .before .before .args .boxes .now) (c .before .before .before .before .before .before .before .loop .trees) (c .before .before .before .before .before .before .before .loop .i) (c .before .before .before .before .before .before .before .loop .k) (c .before .before .before .before .before .tree-size .result)
+after-it : (c : tie.After-slice-known2 Inv-loop μ-loop)
+    → let l = writing (c .before .before .before) .before .loop in
+    Turn (entry (writing (c .before .before .before)) .args .rows .now) (l .tree-bytes) (l .i) (l .k) (c .before .before .before .before .before .tree-size .result)
 after-it c = before-it (c .before .before .before)
 
 loop-holds : tie.Need-loop-holds Inv-loop μ-loop
 loop-holds c =
-    let a = c .before .before .before .before .args in
-    start (a .scale) (a .first .now) (a .count .now) (a .boxes .now) (a .trees .now)
+    let a = c .before .before .args in
+    start (a .limit) (a .scale) (a .m) (a .rows .now) (a .tree-bytes .now) (c .before .before .pre)
 
 tree-size-requires : tie.Need-tree-size-requires Inv-loop μ-loop
-tree-size-requires c κs = omega (arith, counts-number _ _ _ _ (c .before .before .before .before .before .before .pre))
+tree-size-requires c κs = omega (arith, table-room _ _ _ _ (entry c .pre))
 
 add-i : tie.Need-add-i Inv-loop μ-loop
 add-i c = omega arith
@@ -35,7 +47,9 @@ loop-less : tie.Need-loop-less Inv-loop μ-loop
 loop-less c = omega arith
 
 loop-again : tie.Need-loop-again Inv-loop μ-loop
-loop-again c = pass _ _ _ _ _ _ _ _ _ (c .before .before .before .before .before .before .before .before .pre) (c .before .before .before .loop .inv) (c .before .before .loop-test .taken) (c .before .tree-size .ensures) (c .if1 .taken)
+loop-again c =
+    let i = c .before .before in
+    pass _ _ _ _ _ _ _ _ _ (entry i .pre) (c .before .before .before .loop .inv) (i .loop-test .taken) (c .before .tree-size .ensures) (c .if1 .taken)
 
 mul-put-range : tie.Need-mul-put-range Inv-loop μ-loop
 mul-put-range c =
@@ -68,7 +82,10 @@ loop-less-2 c =
     omega arith
 
 loop-again-2 : tie.Need-loop-again-2 Inv-loop μ-loop
-loop-again-2 c = write _ _ _ _ _ _ _ _ _ (c .before .before .before .before .before .before .before .before .before .before .before .before .pre) (c .before .before .before .before .before .before .before .loop .inv) (c .before .before .before .before .before .before .loop-test .taken) (c .before .before .before .before .before .tree-size .ensures) (c .before .before .before .before .if1 .left) _ (c .before .before .put-range .kept .0) (c .before .before .put-range .ensures)
+loop-again-2 c =
+    let i = writing (c .before .before .before) in
+    let p = c .before .before .put-range in
+    write _ _ _ _ _ _ _ _ _ (entry i .pre) (i .before .loop .inv) (i .loop-test .taken) (c .before .before .before .before .before .tree-size .ensures) (c .before .before .before .before .if1 .left) _ (p .kept .0) (p .ensures)
 
 same-length : tie.Need-same-length Inv-loop μ-loop
 same-length c = c .before .loop .inv .same-length

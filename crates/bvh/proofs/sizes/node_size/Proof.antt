@@ -1,51 +1,50 @@
--- `sizes::node_size` meets its contract: a row of the list or none, a leaf or not.
+-- `sizes::node_size` meets its contract: a row of the table or none, a leaf or not.
 use borrow.Author.Needs.{needs}
 use Rattle.bvh.proofs.sizes.node_size.Statement.{statement}
 use Rattle.bvh.proofs.sizes.node_size.Tie as tie
-use native.Mathlib.Omega.{arith}
-use mathlib.Core.Path.{sym}
+use Prim.Native.Nat.{ℕ, _<_}
+use mathlib.Core.Bool.{cond}
+use mathlib.Core.List.{List}
+use mathlib.Core.Path.{_≡_, sym, ap, _∙_}
 use borrow.Author.Tests.{eq-eqb, ne-eqb}
+use lib.Dec.{eqb}
+use Rattle.bvh.specs.Rows.{Row}
+use Rattle.bvh.specs.steps.Sizes.{sizeAt}
+use Rattle.bvh.specs.steps.Table.{rowAt, rowsIn}
+use Rattle.bvh.proofs.TableLaws.{row-in, length-rows-in}
 use Rattle.bvh.proofs.sizes.Sizing.{size-in, size-out}
+use native.Mathlib.Omega.{arith}
 
-mul-if2 : tie.Need-mul-if2
-mul-if2 c = search needs
+at-row : (m j : ℕ) (table : List ℕ) → j < m → sizeAt (rowsIn m table) j ≡ cond (eqb (rowAt table j .count) 0) (rowAt table j .head) 1
+at-row m j table h =
+    size-in (rowsIn m table) j (rowAt table j) (omega (arith, length-rows-in m table))
+    ∙ ap (λ (r : Row). cond (eqb (r .count) 0) (r .head) 1) (row-in m table j (rowAt table j) h)
 
-shared-slice-read-if2 : tie.Need-shared-slice-read-if2
-shared-slice-read-if2 c = search needs
+row-count-requires : tie.Need-row-count-requires
+row-count-requires c κs = search needs
 
-mul-result : tie.Need-mul-result
-mul-result c = search needs
-
-shared-slice-read-result : tie.Need-shared-slice-read-result
-shared-slice-read-result c = search needs
+row-head-requires : tie.Need-row-head-requires
+row-head-requires c κs = search needs
 
 cast-result : tie.Need-cast-result
-cast-result c = omega (arith, c .shared-slice-known2 .given (c .before .before .before .before .args .j))
+cast-result c = search needs
 
 returns : tie.Need-returns
 returns c =
-    let a = c .before .before .before .before .args in
-    rw (size-in (a .count .now) (a .first .now) (a .j) (c .before .before .before .before .pre) (c .before .before .before .if1 .taken), eq-eqb _ _ (c .before .if2 .taken))
+    let a = c .before .before .before .before .before .args in
+    rw (at-row (a .m) (a .j) (a .rows .now) (c .before .before .before .if1 .taken), ← c .before .before .row-count .ensures, eq-eqb _ _ (c .before .if2 .taken)) (c .row-head .ensures)
 
 returns-2 : tie.Need-returns-2
 returns-2 c =
-    let a = c .before .before .before .args in
-    rw (size-in (a .count .now) (a .first .now) (a .j) (c .before .before .before .pre) (c .before .before .if1 .taken), ne-eqb _ _ (c .if2 .left))
+    let a = c .before .before .before .before .args in
+    rw (at-row (a .m) (a .j) (a .rows .now) (c .before .before .if1 .taken), ← c .before .row-count .ensures, ne-eqb _ _ (c .if2 .left))
 
 returns-3 : tie.Need-returns-3
 returns-3 c =
-    let a = c .before .args in
-    sym (size-out (a .count .now) (a .first .now) (a .j) (c .if1 .left))
+    let a = c .before .before .args in
+    sym (size-out (rowsIn (a .m) (a .rows .now)) (a .j) (omega (arith, length-rows-in (a .m) (a .rows .now), c .if1 .left)))
 
 pub node-size-spec : {M : Type 1} → statement M
 node-size-spec =
     tie.close
-    (tie.spec
-    mul-if2
-    shared-slice-read-if2
-    mul-result
-    shared-slice-read-result
-    cast-result
-    returns
-    returns-2
-    returns-3)
+    (tie.spec row-count-requires row-head-requires cast-result returns returns-2 returns-3)
