@@ -8,7 +8,7 @@ use mathlib.Core.Path.{_≡_, refl, sym, ap, _∙_}
 use lib.ListN.{length, getD, take, drop, length-append, List·getD-append, List·getD-eq-default}
 use lib.Seq.{take-at, getD-append-add}
 use Rattle.split.specs.Boxes.{boxWords, boxFrom}
-use Rattle.bvh.specs.Decode.{marked}
+use Rattle.bvh.specs.Items.{marked}
 use Rattle.bvh.specs.Entry.{entriesIn}
 use Rattle.bvh.specs.Numbers.{upFrom}
 use Rattle.bvh.specs.Output.{over}
