@@ -91,7 +91,14 @@ fn too_short(n: usize, l: Lengths) -> bool
 }
 
 // The records of m rows and, at threshold 1, the padding; how many records that is.
-fn write_nodes(node_bytes: &mut [u8], rows: &[u32], m: usize, leaf_order: &[u32], scale: Scale, task: Task) -> usize
+fn write_nodes(
+    node_bytes: &mut [u8],
+    rows: &[u32],
+    m: usize,
+    leaf_order: &[u32],
+    scale: Scale,
+    task: Task,
+) -> usize
     requires { ⌜ (RowsFit (task .threshold) m (now «leaf_order») (now rows) (now «node_bytes»)) × (task .n ≤ 32767) × (m ≤ 2 * task .n + 1)
         × (16 * (2 * task .n + 1) ≤ length (now «node_bytes»)) ⌝ }
     ensures { λ r. ⌜ NodesWritten scale task m (now («leaf_order» .entry)) (now (rows .entry)) (now («node_bytes» .entry))

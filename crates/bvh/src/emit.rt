@@ -63,14 +63,25 @@ fn row_node(rows: &[u32], leaf_order: &[u32], scale: Scale, threshold: usize, i:
 }
 
 // The records of m rows, from the start of the node buffer on.
-pub fn put_nodes(node_bytes: &mut [u8], rows: &[u32], m: usize, leaf_order: &[u32], scale: Scale, threshold: usize)
+pub fn put_nodes(
+    node_bytes: &mut [u8],
+    rows: &[u32],
+    m: usize,
+    leaf_order: &[u32],
+    scale: Scale,
+    threshold: usize,
+)
     requires { ⌜ RowsFit threshold m (now «leaf_order») (now rows) (now «node_bytes») ⌝ }
     ensures { λ _. ⌜ now («node_bytes» .exit) ≡ over (nodesBytes scale threshold (now («leaf_order» .entry)) (rowsIn m (now (rows .entry))))
         (now («node_bytes» .entry)) ⌝ }
 {
     let mut i = 0;
     while i < m {
-        records::put_node(node_bytes, 16 * i, row_node(rows, leaf_order, scale, threshold, i));
+        records::put_node(
+            node_bytes,
+            16 * i,
+            row_node(rows, leaf_order, scale, threshold, i),
+        );
         i += 1;
     }
 }

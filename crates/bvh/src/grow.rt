@@ -16,15 +16,25 @@ ghost use Rattle.bvh.specs.steps.Table.{withRow};
 fn put_leaf(rows: &mut [u32], m: usize, entries: &[u32], places: &[u32], lo: usize, plain: bool)
     requires { ⌜ (8 * m + 8 ≤ length (now rows)) × (Within (length (now entries)) (now places)) × (lo < 65536) × (length (now places) < 65536)
         × (Plain plain (now entries)) ⌝ }
-    ensures { λ _. ⌜ now (rows .exit) ≡ withRow m (record { box = foldBox (boxAt (now (entries .entry))) (now (places .entry)); head = lo;
-        count = length (now (places .entry)) }) (now (rows .entry)) ⌝ }
+    ensures { λ _. ⌜ now (rows .exit) ≡ withRow m (record {
+      box = foldBox (boxAt (now (entries .entry))) (now (places .entry));
+      head = lo;
+      count = length (now (places .entry));
+    }) (now (rows .entry)) ⌝ }
 {
     let around = split::fold::fold_box(entries, places, plain);
     put_row(rows, m, around, lo, places.len());
 }
 
 // Row m of an inner node, whose places are split. Their box is that of before the split, which permutes them: with a NaN the order decides.
-fn put_inner(places: &mut [u32], temp: &mut [u32], entries: &[u32], rows: &mut [u32], m: usize, plain: bool) -> usize
+fn put_inner(
+    places: &mut [u32],
+    temp: &mut [u32],
+    entries: &[u32],
+    rows: &mut [u32],
+    m: usize,
+    plain: bool,
+) -> usize
     requires { ⌜ (8 * m + 8 ≤ length (now rows)) × (2 ≤ length (now places)) × (length (now places) < 32768)
         × (length (now places) ≤ length (now temp)) × (Within (length (now entries)) (now places)) × (Plain plain (now entries)) ⌝ }
     ensures { λ r. ⌜ InnerPut (builder (boxAt (now (entries .entry)))) m (now (places .entry)) (now (places .exit)) (now (rows .entry))

@@ -18,7 +18,14 @@ ghost use Rattle.bvh.specs.steps.Table.{rowAt};
 pub const RANGE_LIMIT: usize = 127;
 
 // The record of the tree at row `first`, whose nodes end before `last`.
-fn put_range(tree_bytes: &mut [u8], at: usize, rows: &[u32], first: usize, last: usize, scale: Scale)
+fn put_range(
+    tree_bytes: &mut [u8],
+    at: usize,
+    rows: &[u32],
+    first: usize,
+    last: usize,
+    scale: Scale,
+)
     requires { ⌜ (at + 16 ≤ length (now «tree_bytes»)) × (8 * first + 8 ≤ length (now rows)) × (first < 32768) × (last < 32768) ⌝ }
     ensures { λ _. ⌜ now («tree_bytes» .exit) ≡ take at (now («tree_bytes» .entry))
         ++ (treeBytes (treeRecord scale (record { box = rowAt (now (rows .entry)) first .box; first = first; last = last }))

@@ -14,7 +14,11 @@ pub fn node_size(rows: &[u32], m: usize, j: usize) -> usize
     ensures { λ r. ⌜ r ≡ sizeAt (rowsIn m (now (rows .entry))) j ⌝ }
 {
     if j < m {
-        if row_count(rows, j) == 0 { row_head(rows, j) as usize } else { 1 }
+        if row_count(rows, j) == 0 {
+            row_head(rows, j) as usize
+        } else {
+            1
+        }
     } else {
         0
     }

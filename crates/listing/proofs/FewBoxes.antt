@@ -5,13 +5,11 @@ use native.Mathlib.Omega.{arith}
 use mathlib.Core.Bool.{false}
 use mathlib.Core.List.{List, [], _∷_, _++_}
 use mathlib.Core.Path.{_≡_, refl, sym, ap, ap₂, _∙_, subst}
-use types.Run.{OneOf, miss}
-use denote.Enum.Declared.{tagOf}
 use lib.ListN.{length}
 use borrow.Author.Tests.{le-ltb}
-use Rattle.bvh.proofs.core.Build.{the-type}
 use Rattle.bvh.specs.declared.core.Build.{Build}
-use Rattle.bvh.specs.declared.core.Build.the-variants.{Built}
+use Rattle.bvh.specs.declared.core.Build.the-variants.{Built, Refused}
+use Rattle.bvh.specs.declared.core.BuildRefusal.{BuildRefusal}
 use Rattle.bvh.specs.declared.core.BuiltTree.{BuiltTree}
 use Rattle.bvh.specs.declared.core.Lengths.{Lengths}
 use Rattle.bvh.specs.Build.{Entries, treeOf, builtOf, short, answerOf, kept, nodesWritten, treesWritten}
@@ -141,9 +139,10 @@ made {d} {e} {l} {r} {before} {after} same few room a =
     made-by e few room (subst (λ (x : Entries). Answered x 1 l r before after) same a)
 
 module _ (e : Entries) {r : Build} {before after : Outputs} (m : Made e r before after) where
-  -- It is no refusal.
-  pub made-only : OneOf (1 ∷ []) (tagOf the-type r) → ⊥
-  made-only k = miss (1 ∷ []) 0 tt (subst (λ (b : Build). OneOf (1 ∷ []) (tagOf the-type b)) (m .answer) k)
+  pub made-not : (w : BuildRefusal) → r ≡ Refused w → ⊥
+  made-not w is =
+      let z : _≡_ {A = ℕ} 0 1 = cc (m .answer) in
+      omega arith
 
   module _ (b : BuiltTree) (is : r ≡ Built b) where
     tree-is : b ≡ builtOf e 1 (treeOf e 1)

@@ -167,7 +167,7 @@ module _ (task : Task) (p : Planted) (entries places temp table : List ℕ) (o :
       → ((u : Node) → Flat u (p .nodes) table → TreesPut rangeLimit s u (o .trees) (o′ .trees) parts)
       → o′ .order ≡ over (orderOf th marks leaves) (o .order)
       → Written (entriesIn n entries) th
-        (record { nodes = p .nodes; capacity = cap; trees = parts; present = p .present; min = all .min; max = all .max; scale = s }) o o′
+      (record { nodes = p .nodes; capacity = cap; trees = parts; present = p .present; min = all .min; max = all .max; scale = s }) o o′
   unfolding entriesIn treeOf nodesWritten treesWritten orderWritten
   written all s cap parts o′ ea es wn wt wo =
       let box-is : all ≡ boxOf t = ea ∙ root-box in

@@ -178,7 +178,7 @@ module _ (b : Builder) (law : Lawful b) (th : ℕ) (entries : List ℕ) (s₀ : 
       pub leaf-turn : getD (s .stack) sp 0 ≤ th → (j : ℕ) (rows′ : List ℕ) → j ≡ getD (s .stack) sp 0 → rows′ ≡ leaf-row j
           → length rows′ ≡ length (s .rows)
           → Going b th entries s₀ (record { places = s .places; temp = s .temp; stack = s .stack; rows = rows′ })
-            (sp + 1) (lo + getD (s .stack) sp 0) (m + 1)
+          (sp + 1) (lo + getD (s .stack) sp 0) (m + 1)
       leaf-turn z j rows′ ej put lr =
           let k : ℕ = getD (s .stack) sp 0 in
           let ps : List ℕ = take k (drop lo (s .places)) in

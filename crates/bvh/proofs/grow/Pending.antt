@@ -57,7 +57,7 @@ module _ (b : Builder) (law : Lawful b) (th : ℕ) (pos : 0 < th) where
   module _ (t : Node) (n k : ℕ) (ks r order : List ℕ) (laid : List Row) (lo m : ℕ) (p : Pending b th t n (k ∷ ks) r order laid lo m) where
     pub leaf-step : k ≤ th
         → Pending b th t n ks (drop k r) (order ++ take k r)
-          (laid ++ (record { box = b .box (take k r); head = lo; count = length (take k r) } ∷ [])) (lo + k) (suc m)
+        (laid ++ (record { box = b .box (take k r); head = lo; count = length (take k r) } ∷ [])) (lo + k) (suc m)
     leaf-step h =
         let sp : k + sum ks ≡ length r = p .span in
         let l : length (take k r) ≡ k = length-take-le k r (omega arith) in

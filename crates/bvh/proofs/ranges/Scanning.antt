@@ -76,7 +76,7 @@ module _ (limit at lo : ℕ) (b : BoxWords) (l r : Node) (rest : List Row) where
   either : (q : Bool) → scan limit (at + 1) (size (inner b l r) - 1) (below ++ rest) ≡ scan limit (at + size (inner b l r)) 0 rest
       → scan limit (at + 1) 0 (below ++ rest) ≡ (ranges limit (at + 1) l ++ ranges limit (at + 1 + size l) r) ++ scan limit (at + size (inner b l r)) 0 rest
       → cond q (record { box = b; first = at; last = at + size (inner b l r) } ∷ scan limit (at + 1) (size (inner b l r) - 1) (below ++ rest))
-        (scan limit (at + 1) 0 (below ++ rest))
+      (scan limit (at + 1) 0 (below ++ rest))
       ≡ map rangeOf (cond q (record { number = at; root = inner b l r } ∷ []) (parts limit (at + 1) l ++ parts limit (at + 1 + size l) r))
       ++ scan limit (at + size (inner b l r)) 0 rest
   either true small large = ap (λ (xs : List Range). record { box = b; first = at; last = at + size (inner b l r) } ∷ xs) small

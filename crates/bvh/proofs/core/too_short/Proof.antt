@@ -46,9 +46,13 @@ returns-5 c =
     let c₃ = c₄ .before .before in
     let c₂ = c₃ .before .before in
     let c₁ = c₂ .before .before in
-    rw
-    (le-ltb _ _ (c₁ .if1 .left), le-ltb _ _ (c₂ .if2 .left),
-    le-ltb _ _ (c₃ .if3 .left), le-ltb _ _ (c₄ .if4 .left), lt-ltb _ _ (c .if5 .taken))
+    rw (
+      le-ltb _ _ (c₁ .if1 .left),
+      le-ltb _ _ (c₂ .if2 .left),
+      le-ltb _ _ (c₃ .if3 .left),
+      le-ltb _ _ (c₄ .if4 .left),
+      lt-ltb _ _ (c .if5 .taken),
+    )
 
 returns-6 : tie.Need-returns-6
 returns-6 c =
@@ -57,9 +61,14 @@ returns-6 c =
     let c₃ = c₄ .before .before in
     let c₂ = c₃ .before .before in
     let c₁ = c₂ .before .before in
-    rw
-    (le-ltb _ _ (c₁ .if1 .left), le-ltb _ _ (c₂ .if2 .left), le-ltb _ _ (c₃ .if3 .left),
-    le-ltb _ _ (c₄ .if4 .left), le-ltb _ _ (c₅ .if5 .left), lt-ltb _ _ (c .if6 .taken))
+    rw (
+      le-ltb _ _ (c₁ .if1 .left),
+      le-ltb _ _ (c₂ .if2 .left),
+      le-ltb _ _ (c₃ .if3 .left),
+      le-ltb _ _ (c₄ .if4 .left),
+      le-ltb _ _ (c₅ .if5 .left),
+      lt-ltb _ _ (c .if6 .taken),
+    )
 
 returns-7 : tie.Need-returns-7
 returns-7 c =
@@ -69,9 +78,15 @@ returns-7 c =
     let c₃ = c₄ .before .before in
     let c₂ = c₃ .before .before in
     let c₁ = c₂ .before .before in
-    rw
-    (le-ltb _ _ (c₁ .if1 .left), le-ltb _ _ (c₂ .if2 .left), le-ltb _ _ (c₃ .if3 .left),
-    le-ltb _ _ (c₄ .if4 .left), le-ltb _ _ (c₅ .if5 .left), le-ltb _ _ (c₆ .if6 .left), lt-ltb _ _ (c .if7 .taken))
+    rw (
+      le-ltb _ _ (c₁ .if1 .left),
+      le-ltb _ _ (c₂ .if2 .left),
+      le-ltb _ _ (c₃ .if3 .left),
+      le-ltb _ _ (c₄ .if4 .left),
+      le-ltb _ _ (c₅ .if5 .left),
+      le-ltb _ _ (c₆ .if6 .left),
+      lt-ltb _ _ (c .if7 .taken),
+    )
 
 mul-result : tie.Need-mul-result
 mul-result c = search needs
@@ -85,9 +100,15 @@ returns-8 c =
     let c₃ = c₄ .before .before in
     let c₂ = c₃ .before .before in
     let c₁ = c₂ .before .before in
-    rw
-    (le-ltb _ _ (c₁ .if1 .left), le-ltb _ _ (c₂ .if2 .left), le-ltb _ _ (c₃ .if3 .left),
-    le-ltb _ _ (c₄ .if4 .left), le-ltb _ _ (c₅ .if5 .left), le-ltb _ _ (c₆ .if6 .left), le-ltb _ _ (c₇ .if7 .left))
+    rw (
+      le-ltb _ _ (c₁ .if1 .left),
+      le-ltb _ _ (c₂ .if2 .left),
+      le-ltb _ _ (c₃ .if3 .left),
+      le-ltb _ _ (c₄ .if4 .left),
+      le-ltb _ _ (c₅ .if5 .left),
+      le-ltb _ _ (c₆ .if6 .left),
+      le-ltb _ _ (c₇ .if7 .left),
+    )
 
 pub too-short-spec : {M : Type 1} → statement M
 too-short-spec =

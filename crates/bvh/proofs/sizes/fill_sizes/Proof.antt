@@ -75,8 +75,7 @@ loop-less c = omega arith
 
 loop-again : tie.Need-loop-again Inv-loop μ-loop
 loop-again c =
-    let b = c .before .before .before .before in
-    (
+    let b = c .before .before .before .before in (
       rw (c .before .before .set-head .ensures)
           (inner-turn _ _ _ _ _ (many (turn b)) (c .before .before .before .before .before .before .before .before .before .before .before .before .loop .inv .0) (c .before .before .before .before .before .before .before .before .before .before .before .before .loop .i - 1) (omega (arith, c .before .before .before .before .before .before .before .before .before .before .before .loop-test .taken)) (rowAt (c .before .before .before .before .before .before .before .before .before .before .before .before .loop .rows) 0) _ _ (both b)
           (sym (c .before .before .before .before .before .before .before .before .before .row-count .ensures) ∙ c .before .before .before .before .before .before .before .before .if1 .taken)),
@@ -87,12 +86,11 @@ loop-less-2 : tie.Need-loop-less-2 Inv-loop μ-loop
 loop-less-2 c = omega arith
 
 loop-again-2 : tie.Need-loop-again-2 Inv-loop μ-loop
-loop-again-2 c =
-    (
-      leaf-turn _ _ _ _ _ (many (c .before .before .before)) (c .before .before .before .before .loop .inv .0) (c .before .before .before .before .loop .i - 1) (omega (arith, c .before .before .before .loop-test .taken)) (rowAt (c .before .before .before .before .loop .rows) 0)
-          (λ e. c .if1 .left (c .before .row-count .ensures ∙ e)),
-      c .before .before .before .before .loop .inv .1,
-    )
+loop-again-2 c = (
+  leaf-turn _ _ _ _ _ (many (c .before .before .before)) (c .before .before .before .before .loop .inv .0) (c .before .before .before .before .loop .i - 1) (omega (arith, c .before .before .before .loop-test .taken)) (rowAt (c .before .before .before .before .loop .rows) 0)
+      (λ e. c .if1 .left (c .before .row-count .ensures ∙ e)),
+  c .before .before .before .before .loop .inv .1,
+)
 
 same-length : tie.Need-same-length Inv-loop μ-loop
 same-length c = c .before .loop .inv .1
