@@ -11,14 +11,14 @@ use lib.ListN.{length, getD, take, drop}
 use lib.Seq.{take-at, getD-append-add}
 use borrow.Author.Tests.{lt-ltb, leb-true, leb-false}
 use Rattle.bvh.specs.declared.core.Build.{Build}
-use Rattle.bvh.specs.declared.core.Build.the-variants.{TooManyEntries, ThresholdOutside, BufferTooShort}
+use Rattle.bvh.specs.declared.core.Build.the-variants.{Refused}
+use Rattle.bvh.specs.declared.core.BuildRefusal.the-variants.{TooManyEntries, ThresholdOutside, BufferTooShort}
 use Rattle.bvh.specs.declared.core.Lengths.{Lengths}
 use Rattle.bvh.specs.declared.items.BvhItem.{BvhItem}
-use Rattle.bvh.specs.Build.{Entries, short, pickBuild, answerOf, kept, nodesWritten, treesWritten, orderWritten}
-use Rattle.bvh.specs.Decode.{marked}
+use Rattle.bvh.specs.Build.{Entries, short, answerOf, kept, nodesWritten, treesWritten, orderWritten}
 use Rattle.split.specs.Boxes.{boxFrom}
-use Rattle.bvh.specs.Entry.{entriesOf, entriesIn, takenOf, lengthsOf, Answered}
-use Rattle.bvh.specs.Items.{itemWords, wordsOf, boxIn, present}
+use Rattle.bvh.specs.Entry.{entriesOf, entriesIn, takenOf, Outputs, lent, lengthsOf, Answered}
+use Rattle.bvh.specs.Items.{itemWords, wordsOf, boxIn, present, marked}
 use Rattle.bvh.proofs.MarkedLaws.{marked-present}
 use Rattle.bvh.proofs.ItemWords.{length-words, apart, apart-all, length-apart}
 
@@ -47,12 +47,12 @@ entries-in items rest =
     (λ j. record { number = length items; at = λ p. box-is items p j; places = marks-are items j })
 
 -- ---- the build that is refused before it reads an entry
-short-words : (n : ℕ) (l : Lengths) → l .words < 7 * n → short n l ≡ true
-short-words n l few = simp (lt-ltb (l .words) (7 * n) few, or-true)
+short-words : (n : ℕ) (l : Lengths) → l .entries < 7 * n → short n l ≡ true
+short-words n l few = simp (lt-ltb (l .entries) (7 * n) few, or-true)
 
 -- the words are not read
 abbrev Unread : ℕ → Lengths → Type 0
-Unread n l = (32767 < n) ⊎ (l .words < 7 * n)
+Unread n l = (32767 < n) ⊎ (l .entries < 7 * n)
 
 unread-answer : (e e′ : Entries) (th : ℕ) (l : Lengths) → e .number ≡ e′ .number → Unread (e .number) l → answerOf e th l ≡ answerOf e′ th l
 unfolding answerOf
@@ -61,27 +61,29 @@ unread-answer e e′ th l same (inr few) = rw (← same, short-words (e .number)
 
 -- a refusal that comes before the nodes are counted
 abbrev early : Bool → Bool → Build
-early many outside = pickBuild many TooManyEntries (pickBuild outside ThresholdOutside BufferTooShort)
+early many outside = cond many (Refused TooManyEntries) (cond outside (Refused ThresholdOutside) (Refused BufferTooShort))
 
 early-keeps : (many outside : Bool) (w w′ before : List ℕ) → kept (early many outside) w before ≡ kept (early many outside) w′ before
 early-keeps true outside w w′ before = refl
 early-keeps false true w w′ before = refl
 early-keeps false false w w′ before = refl
 
-unread-kept : (e : Entries) (th : ℕ) (l : Lengths) → Unread (e .number) l → (w w′ before : List ℕ) → kept (answerOf e th l) w before ≡ kept (answerOf e th l) w′ before
+unread-kept : (e : Entries) (th : ℕ) (l : Lengths) → Unread (e .number) l → (w w′ before : List ℕ)
+    → kept (answerOf e th l) w before ≡ kept (answerOf e th l) w′ before
 unfolding answerOf
 unread-kept e th l (inl many) w w′ before = rw (lt-ltb 32767 (e .number) many)
-unread-kept e th l (inr few) w w′ before = rw (short-words (e .number) l few) (early-keeps (ltb 32767 (e .number)) (ltb th 1 || ltb 32767 th) w w′ before)
+unread-kept e th l (inr few) w w′ before =
+    rw (short-words (e .number) l few) (early-keeps (ltb 32767 (e .number)) (ltb th 1 || ltb 32767 th) w w′ before)
 
 -- so nothing hangs on the entries but their number
-unread-same : (e e′ : Entries) (th : ℕ) (l : Lengths) (r : Build) (nodes trees order nodes′ trees′ order′ : List ℕ) → e .number ≡ e′ .number → Unread (e .number) l
-    → Answered e th l r nodes trees order nodes′ trees′ order′ → Answered e′ th l r nodes trees order nodes′ trees′ order′
-unread-same e e′ th l r nodes trees order nodes′ trees′ order′ same unread a =
+unread-same : (e e′ : Entries) (th : ℕ) (l : Lengths) (r : Build) (o o′ : Outputs) → e .number ≡ e′ .number → Unread (e .number) l
+    → Answered e th l r o o′ → Answered e′ th l r o o′
+unread-same e e′ th l r o o′ same unread a =
     record {
       answer = a .answer ∙ unread-answer e e′ th l same unread;
-      nodes-are = a .nodes-are ∙ keeps (nodesWritten e th) (nodesWritten e′ th) nodes;
-      trees-are = a .trees-are ∙ keeps (treesWritten e th) (treesWritten e′ th) trees;
-      order-is = a .order-is ∙ keeps (orderWritten e th) (orderWritten e′ th) order;
+      nodes-are = a .nodes-are ∙ keeps (nodesWritten e th) (nodesWritten e′ th) (o .nodes);
+      trees-are = a .trees-are ∙ keeps (treesWritten e th) (treesWritten e′ th) (o .trees);
+      order-is = a .order-is ∙ keeps (orderWritten e th) (orderWritten e′ th) (o .order);
     }
   where
     keeps : (w w′ before : List ℕ) → kept r w before ≡ kept r w′ before
@@ -101,24 +103,24 @@ pub taken-fits : (n room : ℕ) → (takenOf n room ≤ n) × (7 * takenOf n roo
 taken-fits n room = ⊎-elim (λ all. omega arith) (λ none. omega arith) (taken-cases n room)
 
 -- What the core answers over the words, the entry point answers over the items.
-pub answers : (items : List BvhItem) (th : ℕ) (nodes trees order words places temp stack first count boxes : List ℕ) (r : Build) (nodes′ trees′ order′ : List ℕ)
+pub answers : (items : List BvhItem) (th : ℕ) (entries places temp stack rows : List ℕ) (r : Build) (o o′ : Outputs)
     → let n = length items in
-    let held = apart items words (takenOf n (length words)) in
-    Answered (entriesIn n (take (7 * n) held)) th (lengthsOf nodes trees order held places temp stack first count boxes) r nodes trees order nodes′ trees′ order′
-    → Answered (entriesOf items) th (lengthsOf nodes trees order words places temp stack first count boxes) r nodes trees order nodes′ trees′ order′
+    let held = apart items entries (takenOf n (length entries)) in
+    Answered (entriesIn n (take (7 * n) held)) th (lengthsOf o (lent held places temp stack rows)) r o o′
+    → Answered (entriesOf items) th (lengthsOf o (lent entries places temp stack rows)) r o o′
 unfolding entriesIn entriesOf
-answers items th nodes trees order words places temp stack first count boxes r nodes′ trees′ order′ a =
+answers items th entries places temp stack rows r o o′ a =
     let n = length items in
-    let k = takenOf n (length words) in
-    let fits = taken-fits n (length words) in
-    let same : length (apart items words k) ≡ length words = length-apart items words k (fits .0) (fits .1) in
-    let l = lengthsOf nodes trees order words places temp stack first count boxes in
-    let b : Answered (entriesIn n (take (7 * n) (apart items words k))) th l r nodes trees order nodes′ trees′ order′ = rw same at a in
+    let k = takenOf n (length entries) in
+    let fits = taken-fits n (length entries) in
+    let same : length (apart items entries k) ≡ length entries = length-apart items entries k (fits .0) (fits .1) in
+    let l = lengthsOf o (lent entries places temp stack rows) in
+    let b : Answered (entriesIn n (take (7 * n) (apart items entries k))) th l r o o′ = rw same at a in
     ⊎-elim
-    (λ all. subst (λ (e : Entries). Answered e th l r nodes trees order nodes′ trees′ order′) (whole (all .0)) b)
-    (λ none. unread-same (entriesIn n (take (7 * n) (apart items words k))) (entriesOf items) th l r nodes trees order nodes′ trees′ order′ refl (none .1) b)
-    (taken-cases n (length words))
+    (λ all. subst (λ (e : Entries). Answered e th l r o o′) (whole (all .0)) b)
+    (λ none. unread-same (entriesIn n (take (7 * n) (apart items entries k))) (entriesOf items) th l r o o′ refl (none .1) b)
+    (taken-cases n (length entries))
   where
-    whole : takenOf (length items) (length words) ≡ length items
-        → entriesIn (length items) (take (7 * length items) (apart items words (takenOf (length items) (length words)))) ≡ entriesOf items
-    whole all = rw (all, apart-all items words) (entries-in items (drop (7 * length items) words))
+    whole : takenOf (length items) (length entries) ≡ length items
+        → entriesIn (length items) (take (7 * length items) (apart items entries (takenOf (length items) (length entries)))) ≡ entriesOf items
+    whole all = rw (all, apart-all items entries) (entries-in items (drop (7 * length items) entries))
