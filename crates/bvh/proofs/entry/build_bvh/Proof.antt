@@ -30,11 +30,85 @@ use ghost.Atoms.{Atoms, sem}
 use contract.Lifetimes.{Lfts, Shares, toks}
 use contract.Monad.{Fun, fact}
 use contract.Running.{givenOf, tables, tablesOf}
-use types.Kit.{Given, Item, Sq, runs, passes, anyQ, atRet, ‵, raw, _⊛_, ⋆, some, given, later, _$_, _∵_, !, qed, by, move, keep, drop as let-go, use0, use1,
-    use2, use3, split, join, group, pick, learn, rewrite, fsplit, fjoin, feqL, feqI, suffices, frame, await, done}
+use types.Kit.{
+  Given,
+  Item,
+  Sq,
+  runs,
+  passes,
+  anyQ,
+  atRet,
+  ‵,
+  raw,
+  _⊛_,
+  ⋆,
+  some,
+  given,
+  later,
+  _$_,
+  _∵_,
+  !,
+  qed,
+  by,
+  move,
+  keep,
+  drop as let-go,
+  use0,
+  use1,
+  use2,
+  use3,
+  split,
+  join,
+  group,
+  pick,
+  learn,
+  rewrite,
+  fsplit,
+  fjoin,
+  feqL,
+  feqI,
+  suffices,
+  frame,
+  await,
+  done,
+}
 use types.Part.{agg, whole, sub, look-in}
-use types.Run.{look, look-raw, store, init, forget, stop, hop, fld, from, load, lit, addr, of-opd, and-then, no-more, bin, assigns, assigns-last, land,
-    first, blocks, stays, leaves-loop, exec, Below, again, loops, returns, enter, alloc1, alloc0, params1, pass1, pass0}
+use types.Run.{
+  look,
+  look-raw,
+  store,
+  init,
+  forget,
+  stop,
+  hop,
+  fld,
+  from,
+  load,
+  lit,
+  addr,
+  of-opd,
+  and-then,
+  no-more,
+  bin,
+  assigns,
+  assigns-last,
+  land,
+  first,
+  blocks,
+  stays,
+  leaves-loop,
+  exec,
+  Below,
+  again,
+  loops,
+  returns,
+  enter,
+  alloc1,
+  alloc0,
+  params1,
+  pass1,
+  pass0,
+}
 use types.Tokens.{lft-new, lft-end}
 use sound.WpLaws.{FmC, fmOf, WpFn-mono}
 use denote.RattleType.{RattleType, owns}
@@ -270,11 +344,23 @@ module _ {M : Type 1} (𝓤 : URA M) (H : Heap 𝓤) (A : Atoms 𝓤) (W : Given
   exits : (ν : ℕ) (δ : GName) (l : List ℕ) (r : Build) (w : Val) (us : Lasts core.ended (κc ν) (core-args ν δ l)) → l ≡ held k
       → length l ≡ length (entries .now) → Said ν δ l r us
       → ent 𝓤 (⋆ 𝓤 H A (‵ (flft κ q) ∷ ‵ tkN ∷ ‵ tkT ∷ ‵ tkO ∷ ‵ tkE ∷ raw tks ∷ ‵ (lasts core.ended (κc ν) (core-args ν δ l) us)
-        ∷ ‵ (finally u32 (entries .name) l) ∷ ‵ (B.the-row .own r (w ∷ [])) ∷ [])) (Post w)
+      ∷ ‵ (finally u32 (entries .name) l) ∷ ‵ (B.the-row .own r (w ∷ [])) ∷ [])) (Post w)
   exits ν δ l r w us all same e =
       qed W (‵ (flft κ q) ∷ ‵ tkN ∷ ‵ tkT ∷ ‵ tkO ∷ ‵ tkE ∷ raw tks ∷ ‵ (lasts core.ended (κc ν) (core-args ν δ l) us) ∷ ‵ (finally u32 (entries .name) l) ∷ ‵
-      (B.the-row .own r (w ∷ [])) ∷ []) ∵ suffices ! _ (ends-at 𝓤 H A f.ended stayed (f.clauses 𝓤 H A mem run) W bound w r (tt, (tt, (us .1 .1 .1 .0, (us .1
-      .1 .1 .1 .0, (us .1 .1 .1 .1 .1 .0, (l, us .1 .1 .1 .1 .1 .1)))))) (tt, (tt, (tt, (tt, (tt, (tt, (tt, (tt, (tt, (tt, tt))))))))))) $
+      (B.the-row .own r (w ∷ [])) ∷ []) ∵ suffices ! _ (ends-at 𝓤 H A f.ended stayed (f.clauses 𝓤 H A mem run) W bound w r (
+        tt,
+        (
+          tt,
+          (
+            us .1 .1 .1 .0,
+            (
+              us .1
+                  .1 .1 .1 .0,
+              (us .1 .1 .1 .1 .1 .0, (l, us .1 .1 .1 .1 .1 .1)),
+            ),
+          ),
+        ),
+      ) (tt, (tt, (tt, (tt, (tt, (tt, (tt, (tt, (tt, (tt, tt))))))))))) $
       says ! (answers (items .now) th (entries .now) (rest .0 .now) (rest .1 .0 .now) (rest .1 .1 .0 .now) (rest .1 .1 .1 .0 .now) r (outputs (nodes .now)
       (trees .now) (order .now)) (outputs (us .1 .1 .1 .0) (us .1 .1 .1 .1 .0) (us .1 .1 .1 .1 .1 .0)) (subst (λ (ws : List ℕ). Said ν δ ws r us) all e)) $
       move ! (6 ∷ []) $ fsplit ! $ move ! (1 ∷ []) $ fsplit ! $ move ! (1 ∷ []) $ fsplit ! $ move ! (1 ∷ []) $ fsplit ! $ move ! (1 ∷ []) $ fsplit ! $
@@ -318,13 +404,20 @@ module _ {M : Type 1} (𝓤 : URA M) (H : Heap 𝓤) (A : Atoms 𝓤) (W : Given
 
   -- ---- the call of `build_core`
   abbrev to-core : ℕ → GName → List ℕ → Core 𝓤 H A mem run .Ghost
-  to-core ν δ l =
-      ((κc ν, qc, tt, core-args ν δ l,
-        (vint w64 n ∷ [], (vint w32 th ∷ [], (slice-vals entries, (slice-vals nodes, (slice-vals trees, (slice-vals order, four-vals))))))), tt)
+  to-core ν δ l = (
+    (
+      κc ν,
+      qc,
+      tt,
+      core-args ν δ l,
+      (vint w64 n ∷ [], (vint w32 th ∷ [], (slice-vals entries, (slice-vals nodes, (slice-vals trees, (slice-vals order, four-vals)))))),
+    ),
+    tt,
+  )
 
   goes-core : (ν : ℕ) (δ : GName) (l : List ℕ) → length l ≡ length (entries .now)
       → ent 𝓤 (⋆ 𝓤 H A (‵ (flft (ν ∷ []) fullShare) ∷ ‵ tkN ∷ ‵ tkT ∷ ‵ tkO ∷ raw tks ∷ ‵ Th ∷ ‵ (Shared ν δ l) ∷ ‵ Nodes ∷ ‵ Trees ∷ ‵ Order
-        ∷ ‵ Rest ∷ [])) (Core 𝓤 H A mem run .pre (to-core ν δ l))
+      ∷ ‵ Rest ∷ [])) (Core 𝓤 H A mem run .pre (to-core ν δ l))
   goes-core ν δ l same =
       qed W
       (‵ (flft (ν ∷ []) fullShare) ∷ ‵ tkN ∷ ‵ tkT ∷ ‵ tkO ∷ raw tks ∷ ‵ Th ∷ ‵ (Shared ν δ l) ∷ ‵ Nodes ∷ ‵ Trees ∷ ‵ Order ∷ ‵ Rest ∷ []) ∵
@@ -358,11 +451,17 @@ module _ {M : Type 1} (𝓤 : URA M) (H : Heap 𝓤) (A : Atoms 𝓤) (W : Given
         : ℕ) where
       abbrev En : Env 𝓤 H
       En =
-          (B′.mir, l0) ∷ (items-ty, l1) ∷ (tyInt w32, l2) ∷ (part (named 1) w8, l3) ∷ (part (named 2) w8, l4) ∷ (part (named 3) w16, l5) ∷ (part (named 4)
-          w32, l6) ∷ (part (named 5) w32, l7) ∷ (part (named 6) w32, l8) ∷ (part (named 7) w32, l9) ∷ (part (named 8) w32, l10) ∷ (word, l11) ∷ (word, l12)
+          (B′.mir, l0) ∷ (items-ty, l1) ∷ (tyInt w32, l2) ∷ (part (named 1) w8, l3) ∷ (part (named 2) w8, l4) ∷ (part (named 3) w16, l5) ∷ (
+            part (named 4)
+                w32,
+            l6,
+          ) ∷ (part (named 5) w32, l7) ∷ (part (named 6) w32, l8) ∷ (part (named 7) w32, l9) ∷ (part (named 8) w32, l10) ∷ (word, l11) ∷ (word, l12)
           ∷ (word, l13) ∷ (word, l14) ∷ (tyBool, l15) ∷ (tyUnit, l16) ∷ (ref w32, l17) ∷ (part erased w32, l18) ∷ (word, l19) ∷ (tyPtr, l20) ∷ (T′.mir, l21)
-          ∷ (shared-ref, l22) ∷ (shared-part, l23) ∷ (ref w8, l24) ∷ (part erased w8, l25) ∷ (ref w8, l26) ∷ (part erased w8, l27) ∷ (ref w16, l28) ∷ (part
-          erased w16, l29) ∷ (ref w32, l30) ∷ (part erased w32, l31) ∷ (ref w32, l32) ∷ (part erased w32, l33) ∷ (ref w32, l34) ∷ (part erased w32, l35) ∷
+          ∷ (shared-ref, l22) ∷ (shared-part, l23) ∷ (ref w8, l24) ∷ (part erased w8, l25) ∷ (ref w8, l26) ∷ (part erased w8, l27) ∷ (ref w16, l28) ∷ (
+            part
+                erased w16,
+            l29,
+          ) ∷ (ref w32, l30) ∷ (part erased w32, l31) ∷ (ref w32, l32) ∷ (part erased w32, l33) ∷ (ref w32, l34) ∷ (part erased w32, l35) ∷
           (ref w32, l36) ∷ (part erased w32, l37) ∷ []
 
       -- the locals that only the call of the core fills
@@ -398,8 +497,11 @@ module _ {M : Type 1} (𝓤 : URA M) (H : Heap 𝓤) (A : Atoms 𝓤) (W : Given
       -- the rest of the body: the core is called
       last-call : (i : Upto) → k ≤ i .0 → Sq W (used i ++ aside) (runs C Λ En pieces.t-6 (atRet En Post))
       last-call i over =
-          assigns ! (of-opd ! (load ! (from ! (fld ! refl (stop !))) (look-in ! 20 (sub ! 1 refl (whole !))))) (from ! (stop !)) (init ! 60 refl (tt, record
-          { fits = yr .0 })) $ assigns ! (addr ! (from ! (fld ! refl (hop ! (look-in ! 18 (sub ! 0 refl (whole !))) (stop !))))) (from ! (stop !)) (init !
+          assigns ! (of-opd ! (load ! (from ! (fld ! refl (stop !))) (look-in ! 20 (sub ! 1 refl (whole !))))) (from ! (stop !)) (init ! 60 refl (
+            tt,
+            record
+                { fits = yr .0 },
+          )) $ assigns ! (addr ! (from ! (fld ! refl (hop ! (look-in ! 18 (sub ! 0 refl (whole !))) (stop !))))) (from ! (stop !)) (init !
           56 refl (tt, tt)) $ assigns ! (agg ! (and-then ! (load ! (from ! (stop !)) (look ! 56 refl)) (and-then ! (load ! (from ! (fld ! refl (stop !)))
           (look-in ! 18 (sub ! 1 refl (whole !)))) (no-more !)))) (from ! (stop !)) (init ! 54 refl (tt, (tt, (record { fits = er .0 }, tt)))) $
           assigns ! (addr ! (from ! (fld ! refl (hop ! (look-in ! 74 (sub ! 0 refl (whole !))) (stop !))))) (from ! (stop !)) (init ! 52 refl (tt, tt)) $
@@ -487,8 +589,12 @@ module _ {M : Type 1} (𝓤 : URA M) (H : Heap 𝓤) (A : Atoms 𝓤) (W : Given
           assigns ! (addr ! (from ! (fld ! refl (hop ! (look-in ! 18 (sub ! 0 refl (whole !))) (stop !))))) (from ! (stop !)) (init ! 8 refl (tt, tt)) $
           assigns ! (agg ! (and-then ! (load ! (from ! (stop !)) (look ! 8 refl)) (and-then ! (load ! (from ! (fld ! refl (stop !))) (look-in ! 18 (sub ! 1
           refl (whole !)))) (no-more !)))) (from ! (stop !)) (init ! 6 refl (tt, (tt, (record { fits = er .0 }, tt)))) $
-          assigns ! (bin ! (load ! (from ! (stop !)) (look ! 14 refl)) (lit ! tt) (record { fits = far })) (from ! (stop !)) (init ! 4 refl (tt, record {
-          fits = far })) $
+          assigns ! (bin ! (load ! (from ! (stop !)) (look ! 14 refl)) (lit ! tt) (record { fits = far })) (from ! (stop !)) (init ! 4 refl (
+            tt,
+            record {
+              fits = far;
+            },
+          )) $
           assigns ! (bin ! (load ! (from ! (fld ! refl (stop !))) (look-in ! 20 (sub ! 0 refl (whole !)))) (load ! (from ! (stop !)) (look ! 4 refl)) tt)
           (from ! (stop !)) (init ! 2 refl (tt, tt)) $
           rewrite ! 2 (λ (p : ℕ). ‵ (fat fullShare tyPtr l20 0 (vptr (items .ptr .0) p))) (sym (place-is 28 (items .ptr .1) (i .0))) refl $ move ! (24 ∷ []) $
@@ -574,8 +680,11 @@ module _ {M : Type 1} (𝓤 : URA M) (H : Heap 𝓤) (A : Atoms 𝓤) (W : Given
           pass1 ! (init ! 58 refl (tt, (tt, (record { fits = rr .1 .0 .0 }, tt)))) $
           pass1 ! (init ! 56 refl (tt, (tt, (record { fits = rr .1 .1 .0 .0 }, tt)))) $
           pass1 ! (init ! 54 refl (tt, (tt, (record { fits = rr .1 .1 .1 .0 .0 }, tt)))) $ pass0 ! $
-          assigns ! (of-opd ! (load ! (from ! (fld ! refl (stop !))) (look-in ! 72 (sub ! 1 refl (whole !))))) (from ! (stop !)) (init ! 48 refl (tt, record
-          { fits = yr .0 })) $ assigns ! (of-opd ! (load ! (from ! (fld ! refl (stop !))) (look-in ! 62 (sub ! 1 refl (whole !))))) (from ! (stop !)) (init
+          assigns ! (of-opd ! (load ! (from ! (fld ! refl (stop !))) (look-in ! 72 (sub ! 1 refl (whole !))))) (from ! (stop !)) (init ! 48 refl (
+            tt,
+            record
+                { fits = yr .0 },
+          )) $ assigns ! (of-opd ! (load ! (from ! (fld ! refl (stop !))) (look-in ! 62 (sub ! 1 refl (whole !))))) (from ! (stop !)) (init
           ! 46 refl (tt, record { fits = er .0 })) $ use0 W (raw (Taken 𝓤 H A mem run .pre to-taken)) goes-taken $
           calls-at ! fm (Taken 𝓤 H A mem run) known-taken to-taken (and-then ! (load ! (from ! (stop !)) (look ! 49 refl)) (and-then ! (load ! (from ! (stop
           !)) (look ! 47 refl)) (no-more !))) (λ w. use1 W (later (some (λ (r : ℕ). (‵ ftrue ⊛ ‵ (usize .own r (w ∷ []))) ⊛ raw (ensured 𝓤 H A taken.ended
@@ -610,18 +719,88 @@ module _ {M : Type 1} (𝓤 : URA M) (H : Heap 𝓤) (A : Atoms 𝓤) (W : Given
   build-walks : Walks 𝓤 H A f.ended stayed (WpFn 𝓤 H (𝓣 .C) (𝓣 .Λ) code.function) (f.clauses 𝓤 H A mem run)
   build-walks =
       walked 𝓤 H A f.ended stayed (f.clauses 𝓤 H A mem run) (WpFn 𝓤 H (𝓣 .C) (𝓣 .Λ) code.function)
-      (λ κs. (slice-vals, (uint-vals w32, (slice-vals, (slice-vals, (slice-vals, (slice-vals, (slice-vals, (slice-vals, (slice-vals, (slice-vals,
-      tt)))))))))))
-      (λ κs. (shr-slice-tells (named 0) (κs .0) T.the-row, (uint-tells w32, (mut-slice-tells (named 1) (κs .1 .0) u8, (mut-slice-tells (named 2) (κs .1 .1
-      .0) u8, (mut-slice-tells (named 3) (κs .1 .1 .1 .0) u16, (mut-slice-tells (named 4) (κs .1 .1 .1 .1 .0) u32, (mut-slice-tells (named 5) (κs .1 .1 .1
-      .1 .1 .0) u32, (mut-slice-tells (named 6) (κs .1 .1 .1 .1 .1 .1 .0) u32, (mut-slice-tells (named 7) (κs .1 .1 .1 .1 .1 .1 .1 .0) u32, (mut-slice-tells
-      (named 8) (κs .1 .1 .1 .1 .1 .1 .1 .1 .0) u32, tt)))))))))))
+      (λ κs. (
+        slice-vals,
+        (
+          uint-vals w32,
+          (
+            slice-vals,
+            (
+              slice-vals,
+              (
+                slice-vals,
+                (
+                  slice-vals,
+                  (
+                    slice-vals,
+                    (
+                      slice-vals,
+                      (
+                        slice-vals,
+                        (
+                          slice-vals,
+                          tt,
+                        ),
+                      ),
+                    ),
+                  ),
+                ),
+              ),
+            ),
+          ),
+        ),
+      ))
+      (λ κs. (
+        shr-slice-tells (named 0) (κs .0) T.the-row,
+        (
+          uint-tells w32,
+          (
+            mut-slice-tells (named 1) (κs .1 .0) u8,
+            (
+              mut-slice-tells (named 2) (κs .1 .1
+                  .0) u8,
+              (
+                mut-slice-tells (named 3) (κs .1 .1 .1 .0) u16,
+                (
+                  mut-slice-tells (named 4) (κs .1 .1 .1 .1 .0) u32,
+                  (
+                    mut-slice-tells (named 5) (κs .1 .1 .1
+                        .1 .1 .0) u32,
+                    (
+                      mut-slice-tells (named 6) (κs .1 .1 .1 .1 .1 .1 .0) u32,
+                      (
+                        mut-slice-tells (named 7) (κs .1 .1 .1 .1 .1 .1 .1 .0) u32,
+                        (
+                          mut-slice-tells
+                              (named 8) (κs .1 .1 .1 .1 .1 .1 .1 .1 .0) u32,
+                          tt,
+                        ),
+                      ),
+                    ),
+                  ),
+                ),
+              ),
+            ),
+          ),
+        ),
+      ))
       (λ κs qs bounds a g are.
       via 𝓤 _ (fst∗ 𝓤 _ (emp 𝓤))
       (walk 𝓤 H A W mem run (κs .0) (κs .1) (qs .0) (qs .1) (a .0) (a .1 .0) (a .1 .1 .0) (a .1 .1 .1 .0) (a .1 .1 .1 .1 .0) (a .1 .1 .1 .1 .1 .0) (a .1 .1
-      .1 .1 .1 .1) (are .0 .0 .1) (are .1 .0 .1) (are .1 .1 .0 .0 .1) (are .1 .1 .1 .0 .0 .1) (are .1 .1 .1 .1 .0 .0 .1) (are .1 .1 .1 .1 .1 .0 .0 .1) (are
-      .1 .1 .1 .1 .1 .1 .0 .0 .1, (are .1 .1 .1 .1 .1 .1 .1 .0 .0 .1, (are .1 .1 .1 .1 .1 .1 .1 .1 .0 .0 .1, (are .1 .1 .1 .1 .1 .1 .1 .1 .1 .0 .0 .1,
-      tt)))) 𝓣 (fmOf 𝓤 H (W .laws) 𝓣) known-taken known-put known-core))
+      .1 .1 .1 .1) (are .0 .0 .1) (are .1 .0 .1) (are .1 .1 .0 .0 .1) (are .1 .1 .1 .0 .0 .1) (are .1 .1 .1 .1 .0 .0 .1) (are .1 .1 .1 .1 .1 .0 .0 .1) (
+        are
+            .1 .1 .1 .1 .1 .1 .0 .0 .1,
+        (
+          are .1 .1 .1 .1 .1 .1 .1 .0 .0 .1,
+          (
+            are .1 .1 .1 .1 .1 .1 .1 .1 .0 .0 .1,
+            (
+              are .1 .1 .1 .1 .1 .1 .1 .1 .1 .0 .0 .1,
+              tt,
+            ),
+          ),
+        ),
+      ) 𝓣 (fmOf 𝓤 H (W .laws) 𝓣) known-taken known-put known-core))
 
   build-meets : Meets 𝓤 H A f.signature (WpFn 𝓤 H (𝓣 .C) (𝓣 .Λ) code.function) (f.spec 𝓤 H A mem run)
   build-meets = walk-meets 𝓤 H A f.ended stayed W (all-go 𝓤 H A W (f.ended .signature .params) (f.ended .kept)) (f.clauses 𝓤 H A mem run)
