@@ -1,14 +1,15 @@
--- The ranges cut a tree as the request's point 3 asks, at every limit from 1 on: each is one subtree of at most `limit` nodes, they rise and do not overlap, and a node lies in exactly one of them, or in none where its subtree is larger. By induction over the two cases of `parts`.
+-- The ranges cut a tree as the request's point 3 asks, at every limit from 1 on: each is one subtree of at most `limit` nodes, they rise and do not overlap,
+-- and a node lies in exactly one of them, or in none where its subtree is larger. By induction over the two cases of `parts`.
 use Prim.Native.Nat.{ℕ, zero, suc, _+_, _-_, _≤_, _<_}
 use native.Mathlib.Omega.{arith}
 use native.Mathlib.Nat.{add-zero, zero-add, suc-add}
-use mathlib.Core.Bool.{Bool, true, false, cond, _&&_, and-false}
-use mathlib.Core.List.{List, [], _∷_, _++_, map, List·Memᴰ, List·Memᴰ·head, List·Memᴰ·tail, List·Memᴰ·cases-cons, List·Memᴰ·append-cases, List·Memᴰ·eq-of-singleton}
-use mathlib.Core.List.{Memᴰ·append-left, Memᴰ·append-right, append-assoc, append-nil, map-append}
+use mathlib.Core.Bool.{Bool, true, false, cond, and-false}
+use mathlib.Core.List.{List, [], _∷_, _++_, map, append-assoc, append-nil, map-append, Memᴰ·append-left, Memᴰ·append-right}
+use mathlib.Core.List.{List·Memᴰ, List·Memᴰ·head, List·Memᴰ·tail, List·Memᴰ·cases-cons, List·Memᴰ·append-cases, List·Memᴰ·eq-of-singleton}
 use mathlib.Core.Logic.{⊎-elim}
 use mathlib.Core.Path.{_≡_, refl, sym, ap, ap₂, _∙_, subst}
 use lib.Dec.{leb, ltb}
-use lib.ListN.{length, drop, length-append}
+use lib.ListN.{length, length-append}
 use lib.Seq.{drop-append-le, drop-append-add}
 use borrow.Author.Tests.{ltb-true, ltb-false, leb-true, leb-false, le-leb, lt-leb, lt-ltb, le-ltb}
 use Rattle.split.specs.declared.boxes.BoxWords.{BoxWords}
@@ -310,7 +311,8 @@ pub numbers-are : (at : ℕ) (t : Node) → map (λ s. s .number) (subtrees at t
 numbers-are at (leaf b ps) = refl
 numbers-are at (inner b l r) =
     let e : 1 + size l + size r ≡ suc (size l + size r) = omega arith in
-    rw (e, map-append (λ (s : Subtree). s .number) (subtrees (at + 1) l) (subtrees (at + 1 + size l) r), numbers-are (at + 1) l, numbers-are (at + 1 + size l) r)
+    let split = map-append (λ (s : Subtree). s .number) (subtrees (at + 1) l) (subtrees (at + 1 + size l) r) in
+    rw (e, split, numbers-are (at + 1) l, numbers-are (at + 1 + size l) r)
     (ap (λ (ns : List ℕ). at ∷ ns) (upFrom-append (at + 1) (size l) (size r)))
 
 -- in a list that goes on, and behind one that went before
@@ -330,7 +332,8 @@ one-more k t x xs p = record { position = p .position; rest = p .rest; rows-are 
 
 below-root : (at : ℕ) (b : BoxWords) (l r : Node) (s : Subtree) → List·Memᴰ s (subtrees (at + 1) l ++ subtrees (at + 1 + size l) r) → at < s .number
 below-root at b l r s m =
-    ⊎-elim (λ m₁. omega (arith, subtree-within (at + 1) l s m₁ .0)) (λ m₂. omega (arith, subtree-within (at + 1 + size l) r s m₂ .0)) (List·Memᴰ·append-cases (subtrees (at + 1) l) m)
+    ⊎-elim (λ m₁. omega (arith, subtree-within (at + 1) l s m₁ .0)) (λ m₂. omega (arith, subtree-within (at + 1 + size l) r s m₂ .0))
+    (List·Memᴰ·append-cases (subtrees (at + 1) l) m)
 
 subtree-rows-by : (at lo : ℕ) (t : Node) (s : Subtree) (k : ℕ) → at + k ≡ s .number → List·Memᴰ s (subtrees at t) → RowsFrom k (s .root) (rows lo t)
 subtree-rows-by at lo (leaf b ps) s k e m =

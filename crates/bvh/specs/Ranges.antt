@@ -17,7 +17,8 @@ pub record Subtree : Type 0 where
   pub number : ℕ
   pub root : Node
 
--- Rule R14 (01, Records and ranges; bvh.rs, gather_trees): from the root, whose number is at, a part over `limit` nodes is replaced by its two children's parts.
+-- Rule R14 (01, Records and ranges; bvh.rs, gather_trees): from the root, whose number is at,
+-- a part over `limit` nodes is replaced by its two children's parts.
 abbrev pub parts : ℕ → ℕ → Node → List Subtree
 parts limit at (leaf b ps) = record { number = at; root = leaf b ps } ∷ []
 parts limit at (inner b l r) =

@@ -2,22 +2,23 @@
 use Prim.Native.Nat.{ℕ, zero, suc, _+_, _*_, _≤_, _<_}
 use native.Mathlib.Omega.{arith}
 use native.Mathlib.Nat.{zero-add}
-use mathlib.Core.Bool.{Bool, true, false, _||_}
+use mathlib.Core.Bool.{Bool, true, false, cond, _||_}
 use mathlib.Core.List.{List, [], _∷_, _++_}
 use mathlib.Core.Path.{_≡_, refl, ap, subst}
 use borrow.Author.Tests.{ltb-false}
 use lib.Dec.{ltb, T}
 use lib.ListN.{length, getD}
-use Rattle.split.specs.Lists.{pick}
 use Rattle.bvh.specs.declared.core.Build.{Build}
-use Rattle.bvh.specs.declared.core.Build.the-variants.{Built, TooManyEntries, ThresholdOutside, BufferTooShort, TooManyNodes}
+use Rattle.bvh.specs.declared.core.Build.the-variants.{Built, Refused}
+use Rattle.bvh.specs.declared.core.BuildRefusal.{BuildRefusal}
+use Rattle.bvh.specs.declared.core.BuildRefusal.the-variants.{TooManyEntries, ThresholdOutside, BufferTooShort, TooManyNodes}
 use Rattle.bvh.specs.declared.core.BuiltTree.{BuiltTree}
 use Rattle.bvh.specs.declared.core.Lengths.{Lengths}
-use Rattle.bvh.specs.Build.{Entries, treeOf, builtOf, pickBuild, numberOf, short, answerOf}
+use Rattle.bvh.specs.Build.{Entries, treeOf, builtOf, refusalNumber, numberOf, short, answerOf}
 use Rattle.bvh.specs.declared.items.BvhItem.{BvhItem}
-use Rattle.bvh.specs.Decode.{isMarked, marked, Below, Rising}
+use Rattle.bvh.specs.steps.Decode.{Below, Rising}
 use Rattle.bvh.specs.Entry.{entriesIn, entriesOf}
-use Rattle.bvh.specs.Items.{wordsOf, present}
+use Rattle.bvh.specs.Items.{wordsOf, present, isMarked, marked}
 use Rattle.bvh.specs.Tree.{size}
 use Rattle.bvh.proofs.MarkedLaws.{marked-present, marked-below, marked-rising}
 use Rattle.tree.proofs.PairLaws.{Stands}
@@ -25,15 +26,18 @@ use Rattle.tree.proofs.PairLaws.{Stands}
 -- the values of an answer, or these where it is refused
 abbrev valuesOr : BuiltTree → Build → BuiltTree
 valuesOr d (Built b) = b
-valuesOr d TooManyEntries = d
-valuesOr d ThresholdOutside = d
-valuesOr d BufferTooShort = d
-valuesOr d TooManyNodes = d
+valuesOr d (Refused why) = d
+
+pub refusal-numbered : (why : BuildRefusal) → 0 < refusalNumber why
+refusal-numbered TooManyEntries = omega arith
+refusal-numbered ThresholdOutside = omega arith
+refusal-numbered BufferTooShort = omega arith
+refusal-numbered TooManyNodes = omega arith
 
 -- a test that was passed: it does not hold, and the answer is that of the tests behind it
-passed : (q : Bool) (refusal rest r : Build) → numberOf r ≡ 0 → 0 < numberOf refusal → r ≡ pickBuild q refusal rest → (q ≡ false) × (r ≡ rest)
-passed true refusal rest r z h e = absurd (let n : numberOf r ≡ numberOf refusal = ap numberOf e in omega arith)
-passed false refusal rest r z h e = (refl, e)
+passed : (q : Bool) (why : BuildRefusal) (rest : Build) (b : BuiltTree) → Built b ≡ cond q (Refused why) rest → (q ≡ false) × (Built b ≡ rest)
+passed true why rest b e = absurd (let n : 0 ≡ refusalNumber why = ap numberOf e in omega (arith, refusal-numbered why))
+passed false why rest b e = (refl, e)
 
 neither : (a b : Bool) → (a || b) ≡ false → (a ≡ false) × (b ≡ false)
 neither false b e = (refl, e)
@@ -49,10 +53,10 @@ pub built-passed : (e : Entries) (th : ℕ) (l : Lengths) (b : BuiltTree) → Bu
 unfolding answerOf
 built-passed e th l b a =
     let t = treeOf e th in
-    let c₁ = passed (ltb 32767 (e .number)) TooManyEntries _ (Built b) refl (omega arith) a in
-    let c₂ = passed (ltb th 1 || ltb 32767 th) ThresholdOutside _ (Built b) refl (omega arith) (c₁ .1) in
-    let c₃ = passed (short (e .number) l) BufferTooShort _ (Built b) refl (omega arith) (c₂ .1) in
-    let c₄ = passed (ltb 32767 (size t)) TooManyNodes (Built (builtOf e th t)) (Built b) refl (omega arith) (c₃ .1) in
+    let c₁ = passed (ltb 32767 (e .number)) TooManyEntries _ b a in
+    let c₂ = passed (ltb th 1 || ltb 32767 th) ThresholdOutside _ b (c₁ .1) in
+    let c₃ = passed (short (e .number) l) BufferTooShort _ b (c₂ .1) in
+    let c₄ = passed (ltb 32767 (size t)) TooManyNodes (Built (builtOf e th t)) b (c₃ .1) in
     record {
       few = ltb-false _ _ (c₁ .0);
       threshold = ltb-false th 1 (neither (ltb th 1) (ltb 32767 th) (c₂ .0) .0);
@@ -72,7 +76,7 @@ marked-few : (at n : ℕ) (ws : List ℕ) → length (marked at n ws) ≤ n
 marked-few at zero ws = omega arith
 marked-few at (suc n) ws = by (isMarked (getD ws (7 * at) 0)) (marked-few (at + 1) n ws)
   where
-    by : (q : Bool) → length (marked (at + 1) n ws) ≤ n → length (pick q (at ∷ marked (at + 1) n ws) (marked (at + 1) n ws)) ≤ suc n
+    by : (q : Bool) → length (marked (at + 1) n ws) ≤ n → length (cond q (at ∷ marked (at + 1) n ws) (marked (at + 1) n ws)) ≤ suc n
     by true h = omega arith
     by false h = omega arith
 
@@ -88,7 +92,11 @@ unfolding entriesOf entriesIn
 items-listed items =
     let l = words-listed (length items) (wordsOf items ++ []) in
     let same : marked 0 (length items) (wordsOf items ++ []) ≡ present 0 items = marked-present items [] in
-    record { rising = subst (Rising 0) same (l .rising); below = subst (Below (length items)) same (l .below); present = subst (λ (ps : List ℕ). length ps ≤ length items) same (l .present) }
+    record {
+      rising = subst (Rising 0) same (l .rising);
+      below = subst (Below (length items)) same (l .below);
+      present = subst (λ (ps : List ℕ). length ps ≤ length items) same (l .present);
+    }
 
 pub stands : (e : Entries) (th : ℕ) (b : BuiltTree) → Listed e → Passed e th b → Stands e th
 stands e th b l p = record { few = p .few; threshold = p .threshold; nodes-few = p .nodes-few; rising = l .rising; below = l .below; present = l .present }

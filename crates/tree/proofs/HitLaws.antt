@@ -1,4 +1,5 @@
--- Every node that holds an item is hit, where the fold of any places among which the item is, is hit: a node's box is the fold of the places below it. By induction over how a tree grows.
+-- Every node that holds an item is hit, where the fold of any places among which the item is, is hit: a node's box is the fold of the places below it.
+-- By induction over how a tree grows.
 use Prim.Native.Nat.{ℕ, _+_, _<_}
 use native.Mathlib.Omega.{arith}
 use mathlib.Core.Bool.{Bool, true}
@@ -38,7 +39,8 @@ module _ (at : ℕ → BoxWords) (th : ℕ) (some : 0 < th) (hit : BoxWords → 
   on-inner ps l r gl gr good =
       let fl = gl (λ x h. good x (omega (arith, halves ps x))) in
       let fr = gr (λ x h. good x (omega (arith, halves ps x))) in
-      let same : Permutes (leafOrder l ++ leafOrder r) ps = λ x. occurrences-append x (leafOrder l) (leafOrder r) ∙ ap₂ _+_ (fl .same x) (fr .same x) ∙ halves ps x in
+      let same : Permutes (leafOrder l ++ leafOrder r) ps =
+      λ x. occurrences-append x (leafOrder l) (leafOrder r) ∙ ap₂ _+_ (fl .same x) (fr .same x) ∙ halves ps x in
       record { same = same; hits = (λ h. fold-hits ps good (omega (arith, same p)), fl .hits, fr .hits) }
 
   grows : (ps : List ℕ) → Each Good ps → Grows hit p ps (grow b th ps)

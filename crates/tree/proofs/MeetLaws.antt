@@ -32,11 +32,13 @@ two-hold : (a b : Bool) → (a && b) ≡ true → (a ≡ true) × (b ≡ true)
 two-hold true b e = (refl, e)
 two-hold false b e = absurd (subst T (sym e) tt)
 
-overlaps : {A : Type 0} (atMost : A → A → Bool) (min max min′ max′ : A) → T (atMost min max′) → T (atMost min′ max) → overlap atMost min max min′ max′ ≡ true
+overlaps : {A : Type 0} (atMost : A → A → Bool) (min max min′ max′ : A) → T (atMost min max′) → T (atMost min′ max)
+    → overlap atMost min max min′ max′ ≡ true
 overlaps atMost min max min′ max′ h k = rw (is-true (atMost min max′) h, is-true (atMost min′ max) k)
 
 -- boxes that meet on each axis
-meets-by-axis : (q : Query) (min max : BoundVertex) → ((a : Axis) → T (leZ (unitOn a (q .min)) (unitOn a max)) × T (leZ (unitOn a min) (unitOn a (q .max)))) → meets q min max ≡ true
+meets-by-axis : (q : Query) (min max : BoundVertex)
+    → ((a : Axis) → T (leZ (unitOn a (q .min)) (unitOn a max)) × T (leZ (unitOn a min) (unitOn a (q .max)))) → meets q min max ≡ true
 unfolding meets
 meets-by-axis q min max h =
     let on : (a : Axis) → overlap leZ (unitOn a (q .min)) (unitOn a (q .max)) (unitOn a min) (unitOn a max) ≡ true =
@@ -49,14 +51,20 @@ onAxis b query a = overlap le (low a b) (high a b) (coordinate a (query .min)) (
 
 meets-on : (b : BoxWords) (query : Aabb) → meetsBox (boxValues b) query ≡ true → (a : Axis) → onAxis b query a ≡ true
 unfolding meetsBox
-meets-on b query e alongX = two-hold (onAxis b query alongX) (onAxis b query alongY && onAxis b query alongZ) e .0
-meets-on b query e alongY = two-hold (onAxis b query alongY) (onAxis b query alongZ) (two-hold (onAxis b query alongX) (onAxis b query alongY && onAxis b query alongZ) e .1) .0
-meets-on b query e alongZ = two-hold (onAxis b query alongY) (onAxis b query alongZ) (two-hold (onAxis b query alongX) (onAxis b query alongY && onAxis b query alongZ) e .1) .1
+meets-on b query e a =
+    let first = two-hold (onAxis b query alongX) (onAxis b query alongY && onAxis b query alongZ) e in
+    let others = two-hold (onAxis b query alongY) (onAxis b query alongZ) (first .1) in
+    elim a [
+      | alongX ↦ first .0
+      | alongY ↦ others .0
+      | alongZ ↦ others .1
+    ]
 
 holds : (b : Bool) → b ≡ true → T b
 holds b e = subst T (sym e) tt
 
-item-on-axis : (b : BoxWords) (query : Aabb) → meetsBox (boxValues b) query ≡ true → (a : Axis) → T (le (low a b) (coordinate a (query .max))) × T (le (coordinate a (query .min)) (high a b))
+item-on-axis : (b : BoxWords) (query : Aabb) → meetsBox (boxValues b) query ≡ true → (a : Axis)
+    → T (le (low a b) (coordinate a (query .max))) × T (le (coordinate a (query .min)) (high a b))
 item-on-axis b query e a =
     let h = two-hold (le (low a b) (coordinate a (query .max))) (le (coordinate a (query .min)) (high a b)) (meets-on b query e a) in
     (holds (le (low a b) (coordinate a (query .max))) (h .0), holds (le (coordinate a (query .min)) (high a b)) (h .1))
@@ -74,7 +82,8 @@ module _ (e : Entries) (ordinary : Ordinary e) (query : Aabb) (p : ℕ) (meets-i
   unfolding queryOf
   part-hit ps sub held =
       let some = some-held p (e .places) (sub p held) in
-      let measured : (a : Axis) → Measured (low a all) (high a all) = λ a. all-measured (e .at) a (e .places) (ordinary .proper a) some (ordinary .bounded a) (ordinary .extents a) in
+      let measured : (a : Axis) → Measured (low a all) (high a all) =
+      λ a. all-measured (e .at) a (e .places) (ordinary .proper a) some (ordinary .bounded a) (ordinary .extents a) in
       let on-axis = item-on-axis (e .at p) query meets-item in
       meets-by-axis _ _ _
       (λ a. (

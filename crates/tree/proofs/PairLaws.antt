@@ -1,8 +1,11 @@
--- Point 3 of the request: a walk over a build's records is refused only with 2, and otherwise hands out every present item that meets the query, none twice, none from a leaf that misses it, within the bound on the readings. The walk is the visit (MachineLaws), and the visit has these properties (VisitLaws, HitLaws, MeetLaws).
+-- Point 3 of the request: a walk over a build's records is refused only with 2, and otherwise hands out every present item that meets the query,
+-- none twice, none from a leaf that misses it, within the bound on the readings.
+-- The walk is the visit (MachineLaws), and the visit has these properties (VisitLaws, HitLaws, MeetLaws).
 use Prim.Native.Nat.{ℕ, _+_, _-_, _*_, _≤_, _<_}
 use native.Mathlib.Omega.{arith}
 use mathlib.Core.Bool.{Bool, true, false, cond}
-use mathlib.Core.List.{List, [], _∷_, _++_, map, append-assoc, append-nil, List·Memᴰ, List·Memᴰ·not-nil, List·Memᴰ·cases-cons, List·Memᴰ·append-cases, List·Memᴰ·eq-of-singleton}
+use mathlib.Core.List.{List, [], _∷_, _++_, map, append-assoc, append-nil}
+use mathlib.Core.List.{List·Memᴰ, List·Memᴰ·not-nil, List·Memᴰ·cases-cons, List·Memᴰ·append-cases, List·Memᴰ·eq-of-singleton}
 use mathlib.Core.Logic.{⊎-elim, inl, inr}
 use mathlib.Core.Path.{_≡_, refl, sym, ap, _∙_, subst}
 use borrow.Author.Tests.{le-ltb, ne-eqb, eqb-true}
@@ -16,11 +19,12 @@ use Rattle.split.specs.Folding.{foldBox}
 use Rattle.split.specs.Lists.{occurrences, Among}
 use Rattle.split.specs.declared.boxes.BoxWords.{BoxWords}
 use Rattle.bvh.specs.Build.{Entries, treeOf, scaleIn, nodesWritten, treesWritten}
-use Rattle.bvh.specs.Decode.{Below, Rising, Small, SmallRows}
-use Rattle.bvh.specs.Flat.{Full, Filled}
+use Rattle.bvh.specs.Entry.{outputs}
+use Rattle.bvh.specs.steps.Decode.{Below, Rising, Small, SmallRows}
+use Rattle.bvh.specs.steps.Flat.{Full, Filled}
 use Rattle.bvh.specs.Output.{over, nodesBytes, padBytes, treesBytes, capacityOf}
 use Rattle.bvh.specs.Promises.{itemAt}
-use Rattle.bvh.specs.Ranges.{ranges}
+use Rattle.bvh.specs.Ranges.{parts, ranges, rangeLimit}
 use Rattle.bvh.specs.Rows.{Row, rows}
 use Rattle.bvh.specs.Tree.{Node, leaf, inner, Builder, builder, grow, boxOf, leafOrder, size}
 use Rattle.bvh.proofs.EmitLaws.{length-nodes}
@@ -28,15 +32,16 @@ use Rattle.bvh.proofs.FlatLaws.{grow-filled, length-trees}
 use Rattle.bvh.proofs.Lawful.{Lawful, lawful}
 use Rattle.bvh.proofs.Promises.{rising-once, rising-at-most, rows-at-most}
 use Rattle.bvh.proofs.RangeLaws.{ranges-few}
-use Rattle.bvh.proofs.RowsInLaws.{small-rows}
+use Rattle.bvh.proofs.SmallLaws.{small-rows}
 use Rattle.bvh.proofs.TreeLaws.{AtMost, grow-induction, grow-at-most, grow-full, leaf-order-permutes, leaf-order-length, leaf-order-within, length-rows}
 use Rattle.bvh.proofs.WordLaws.{below-within, within-below, below-wider, below-at}
 use Rattle.walk.specs.Boxes.{queryOf, meetsBox}
 use Rattle.walk.specs.Step.{Lent, started}
-use Rattle.walk.specs.Walks.{Outcome, walkOf, walkFrom, ended, statusNumber, unread, pickOutcome}
+use Rattle.walk.specs.Walks.{Outcome, walkOf, walkFrom, ended, statusNumber, unread}
+use Rattle.walk.specs.declared.core.WalkRefusal.the-variants.{BufferTooShort}
 use Rattle.walk.specs.declared.state.Sizes.{Sizes}
-use Rattle.tree.specs.Pair.{sizesOf, outcomeOf, Ordinary, boxValues, hitIn, itemsHanded, Delivered}
-use Rattle.tree.specs.Visit.{visitParts, partReads, Hits}
+use Rattle.tree.specs.Pair.{itemCount, sizesOf, outcomeOf, Ordinary, boxValues, hitIn, itemsHanded, Delivered}
+use Rattle.tree.specs.Visit.{visitParts, partReads, Hits, FromHit}
 use Rattle.tree.proofs.HitLaws.{grown-hits}
 use Rattle.tree.proofs.MachineLaws.{Fit, Written, lent, Sound, Covers, walk-covers}
 use Rattle.tree.proofs.MeetLaws.{part-hit}
@@ -49,12 +54,14 @@ small-member th order [] r s m = absurd (List·Memᴰ·not-nil m)
 small-member th order (x ∷ rs) r s m = ⊎-elim (λ e. subst (Small th order) (sym e) (s .0)) (small-member th order rs r (s .1)) (List·Memᴰ·cases-cons m)
 
 -- a leaf's positions lie within the leaf order
-row-inside : (lo : ℕ) (t : Node) (r : Row) → List·Memᴰ r (rows lo t) → 0 < r .count → r .head + r .count ≤ lo + length (leafOrder t)
+pub row-inside : (lo : ℕ) (t : Node) (r : Row) → List·Memᴰ r (rows lo t) → 0 < r .count → r .head + r .count ≤ lo + length (leafOrder t)
 row-inside lo (leaf b ps) r m h = rw (List·Memᴰ·eq-of-singleton m) (omega arith)
 row-inside lo (inner b l r₂) r m h =
     let both = length-append (leafOrder l) (leafOrder r₂) in
     ⊎-elim (λ e. absurd (let z : r .count ≡ 0 = ap (λ (x : Row). x .count) e in omega arith))
-    (λ m′. ⊎-elim (λ m₁. omega (arith, row-inside lo l r m₁ h)) (λ m₂. omega (arith, row-inside (lo + length (leafOrder l)) r₂ r m₂ h)) (List·Memᴰ·append-cases (rows lo l) m′))
+    (λ m′.
+    ⊎-elim (λ m₁. omega (arith, row-inside lo l r m₁ h)) (λ m₂. omega (arith, row-inside (lo + length (leafOrder l)) r₂ r m₂ h))
+    (List·Memᴰ·append-cases (rows lo l) m′))
     (List·Memᴰ·cases-cons m)
 
 full-fit : (lo : ℕ) (t : Node) → Full t → Fit lo t
@@ -70,11 +77,20 @@ grow-box : (at : ℕ → BoxWords) (th : ℕ) → 0 < th → (ps : List ℕ) →
 grow-box at th some = grow-induction (builder at) (lawful at) th some (λ ps t. boxOf t ≡ foldBox at ps) (λ ps h. refl) (λ ps l r h el er. refl)
 
 -- within the limits a walk is refused only for its output
-walk-runs : (box : Aabb) (cen inverse : Vec3) (z : Sizes) (nodes trees : List ℕ) (room : ℕ) → z .nodes ≤ 65535 → z .trees ≤ 65535 → z .items ≤ 65535 → 16 * z .nodes ≤ length nodes → 16 * z .trees ≤ length trees
-    → walkOf box cen inverse z nodes trees room ≡ pickOutcome (ltb room (z .items)) (unread 2) (ended (walkFrom (record { query = queryOf box cen inverse; sizes = z; nodes = nodes; trees = trees }) started))
+walk-runs : (box : Aabb) (cen inverse : Vec3) (z : Sizes) (nodes trees : List ℕ) (room : ℕ)
+    → z .nodes ≤ 65535 → z .trees ≤ 65535 → z .items ≤ 65535 → 16 * z .nodes ≤ length nodes → 16 * z .trees ≤ length trees
+    → walkOf box cen inverse z nodes trees room
+    ≡ cond (ltb room (z .items)) (unread BufferTooShort)
+    (ended (walkFrom (record { query = queryOf box cen inverse; sizes = z; nodes = nodes; trees = trees }) started))
 unfolding walkOf
 walk-runs box cen inverse z nodes trees room h₁ h₂ h₃ h₄ h₅ =
-    rw (le-ltb 65535 (z .nodes) h₁, le-ltb 65535 (z .trees) h₂, le-ltb 65535 (z .items) h₃, le-ltb (length nodes) (16 * z .nodes) h₄, le-ltb (length trees) (16 * z .trees) h₅)
+    rw (
+      le-ltb 65535 (z .nodes) h₁,
+      le-ltb 65535 (z .trees) h₂,
+      le-ltb 65535 (z .items) h₃,
+      le-ltb (length nodes) (16 * z .nodes) h₄,
+      le-ltb (length trees) (16 * z .trees) h₅,
+    )
 
 -- What is known of a build that is not refused.
 pub record Stands (e : Entries) (th : ℕ) : Type 0 where
@@ -106,23 +122,35 @@ module _ (e : Entries) (th : ℕ) (stands : Stands e th) where
   order-long = leaf-order-length b law th (stands .threshold) (e .places)
 
   order-below : Below (e .number) order
-  order-below = within-below (e .number) order (leaf-order-within b law th (stands .threshold) (7 * e .number) (e .places) (below-within (e .number) (7 * e .number) (e .places) (omega arith) (stands .below)))
+  order-below =
+      within-below (e .number) order
+      (leaf-order-within b law th (stands .threshold) (7 * e .number) (e .places)
+      (below-within (e .number) (7 * e .number) (e .places) (omega arith) (stands .below)))
 
   at-most : AtMost th t
   at-most = grow-at-most b law th (stands .threshold) (e .places)
 
   rows-small : SmallRows th order (rows 0 t)
-  rows-small = small-rows th t (below-wider (e .number) 32768 order (omega (arith, stands .few)) order-below) (omega (arith, order-long, stands .present, stands .few)) (omega (arith, size-few))
+  rows-small =
+      small-rows th t (below-wider (e .number) 32768 order (omega (arith, stands .few)) order-below)
+      (omega (arith, order-long, stands .present, stands .few)) (omega (arith, size-few))
 
   inside-by : (q : Bool) → eqb th 1 ≡ q → (r : Row) → List·Memᴰ r (rows 0 t) → 0 < r .count
       → cond (eqb (r .count) 0) (r .head) (cond q (getD order (r .head) 0) (r .head)) + r .count ≤ cond q (e .number) (length (e .places))
   inside-by true one r m h =
       let some : eqb (r .count) 0 ≡ false = ne-eqb (r .count) 0 (λ z. omega arith) in
       let below = row-inside 0 t r m h in
-      rw some (omega (arith, below-at (e .number) order (r .head) order-below (omega (arith, order-long, stands .present)), rows-at-most th 0 t at-most r m, eqb-true th 1 one))
+      let place = below-at (e .number) order (r .head) order-below (omega (arith, order-long, stands .present)) in
+      rw some (omega (arith, place, rows-at-most th 0 t at-most r m, eqb-true th 1 one))
   inside-by false many r m h =
       let some : eqb (r .count) 0 ≡ false = ne-eqb (r .count) 0 (λ z. omega arith) in
       rw some (omega (arith, row-inside 0 t r m h, order-long))
+
+  -- A position of a leaf that is hit lies within the walk's item count; so above threshold 1 it is one of the order list's.
+  pub handed-inside : (hit : BoxWords → Bool) (i : ℕ) → FromHit hit th order (rows 0 t) i → i < itemCount e th
+  handed-inside hit i f =
+      let inside = inside-by (eqb th 1) refl (f .row) (f .within) (omega (arith, f .low, f .high)) in
+      omega (arith, f .low, f .high, inside)
 
   -- ---- the walk
 
@@ -143,17 +171,27 @@ module _ (e : Entries) (th : ℕ) (stands : Stands e th) where
           threshold = th;
           order = order;
           nodes = rows 0 t;
-          trees = ranges 0 t;
+          trees = ranges rangeLimit 0 t;
           after-nodes = padding ++ drop (length (nodesWritten e th)) nodes;
           after-trees = drop (length (treesWritten e th)) trees;
         }
 
-    lent-is : lent written ≡ record { query = queryOf query (scale .cen) (scale .inverse); sizes = sizesOf e th; nodes = over (nodesWritten e th) nodes; trees = over (treesWritten e th) trees }
+    -- the bytes as the walk gets them
+    abbrev bytes : Lent
+    bytes =
+        record {
+          query = queryOf query (scale .cen) (scale .inverse);
+          sizes = sizesOf e th;
+          nodes = over (nodesWritten e th) nodes;
+          trees = over (treesWritten e th) trees;
+        }
+
+    lent-is : lent written ≡ bytes
     unfolding treeOf nodesWritten treesWritten
     lent-is =
-        let bytes : nodesBytes scale th order (rows 0 t) ++ (padding ++ drop (length (nodesWritten e th)) nodes) ≡ over (nodesWritten e th) nodes =
+        let nodes-are : nodesBytes scale th order (rows 0 t) ++ (padding ++ drop (length (nodesWritten e th)) nodes) ≡ over (nodesWritten e th) nodes =
         sym (append-assoc (nodesBytes scale th order (rows 0 t)) padding (drop (length (nodesWritten e th)) nodes)) in
-        λ i. record { query = queryOf query (scale .cen) (scale .inverse); sizes = sizesOf e th; nodes = bytes i; trees = over (treesWritten e th) trees }
+        λ i. record { query = bytes .query; sizes = bytes .sizes; nodes = nodes-are i; trees = bytes .trees }
 
     sound : (r : Row) → List·Memᴰ r (rows 0 t) → Sound written r
     unfolding sizesOf
@@ -163,34 +201,55 @@ module _ (e : Entries) (th : ℕ) (stands : Stands e th) where
     items-enough true = omega (arith, order-long, stands .present)
     items-enough false = omega (arith, order-long)
 
-    covers : Covers written sound t
+    limit-some : 0 < rangeLimit
+    limit-some = omega arith
+
+    covers : Covers written sound (parts rangeLimit 0 t)
     unfolding sizesOf treeOf
     covers =
-        walk-covers written sound t (filled-fit t (grow-filled b th (e .places) (grow-full b law th (stands .threshold) (e .places)))) refl refl refl size-few refl
-        (items-enough (eqb th 1))
+        walk-covers written sound rangeLimit limit-some t
+        (record {
+          fit = filled-fit t (grow-filled b th (e .places) (grow-full b law th (stands .threshold) (e .places)));
+          nodes-are = refl;
+          trees-are = refl;
+          nodes-number = refl;
+          trees-number = refl;
+          few-nodes = size-few;
+          items-enough = items-enough (eqb th 1);
+        })
 
     -- what was handed out
     abbrev given : List ℕ
-    given = visitParts (hitIn query scale) th order 0 t
+    given = visitParts (hitIn query scale) th order 0 (parts rangeLimit 0 t)
 
     whole-order : drop 0 order ≡ order ++ []
     whole-order = sym (append-nil order)
 
     given-once : (p : ℕ) → occurrences p (map (itemAt th order) given) ≤ occurrences p (e .places)
-    given-once p = omega (arith, parts-at-most (hitIn query scale) th order p 0 t [] at-most whole-order, leaf-order-permutes b law th (stands .threshold) (e .places) p)
+    given-once p =
+        let most = parts-at-most (hitIn query scale) th order rangeLimit limit-some p 0 t 0 [] at-most whole-order in
+        omega (arith, most, leaf-order-permutes b law th (stands .threshold) (e .places) p)
 
-    given-all : Ordinary e → (p : ℕ) → meetsBox (boxValues (e .at p)) query ≡ true → occurrences p (e .places) ≤ occurrences p (map (itemAt th order) given)
+    given-all : Ordinary e → (p : ℕ) → meetsBox (boxValues (e .at p)) query ≡ true
+        → occurrences p (e .places) ≤ occurrences p (map (itemAt th order) given)
     given-all ordinary p meets =
         let all = foldBox (e .at) (e .places) in
         let box-is : all ≡ boxOf t = sym (grow-box (e .at) th (stands .threshold) (e .places)) in
-        let fold-hits : (ps : List ℕ) → ((x : ℕ) → 0 < occurrences x ps → Among x (e .places)) → 0 < occurrences p ps → hitIn query scale (foldBox (e .at) ps) ≡ true =
-        λ ps good held. subst (λ (c : BoxWords). hitIn query (scaleOfBox (c .min) (c .max)) (foldBox (e .at) ps) ≡ true) box-is (part-hit e ordinary query p meets ps good held) in
-        let hits : Hits (hitIn query scale) p t = grown-hits (e .at) th (stands .threshold) (hitIn query scale) p (λ x. Among x (e .places)) fold-hits (e .places) (λ x h. h) in
-        omega (arith, parts-all (hitIn query scale) th order p 0 t [] hits at-most whole-order, leaf-order-permutes b law th (stands .threshold) (e .places) p)
+        let fold-hits : (ps : List ℕ) → ((x : ℕ) → 0 < occurrences x ps → Among x (e .places)) → 0 < occurrences p ps
+        → hitIn query scale (foldBox (e .at) ps) ≡ true =
+        λ ps good held.
+        subst (λ (c : BoxWords). hitIn query (scaleOfBox (c .min) (c .max)) (foldBox (e .at) ps) ≡ true) box-is
+        (part-hit e ordinary query p meets ps good held) in
+        let hits : Hits (hitIn query scale) p t =
+        grown-hits (e .at) th (stands .threshold) (hitIn query scale) p (λ x. Among x (e .places)) fold-hits (e .places) (λ x h. h) in
+        let all-held = parts-all (hitIn query scale) th order rangeLimit limit-some p 0 t 0 [] hits at-most whole-order in
+        omega (arith, all-held, leaf-order-permutes b law th (stands .threshold) (e .places) p)
 
     -- ---- the promises
 
-    delivered-by : (o : Outcome) → o .number ≡ 0 → o .given ≡ given → o .counts .handed ≡ length given → o .counts .reads ≡ partReads (hitIn query scale) t → Delivered e th query o
+    delivered-by : (o : Outcome) → o .number ≡ 0 → o .given ≡ given → o .counts .handed ≡ length given
+        → o .counts .reads ≡ partReads (hitIn query scale) (parts rangeLimit 0 t)
+        → Delivered e th query o
     unfolding treeOf itemsHanded
     delivered-by o en eg eh er =
         record {
@@ -200,12 +259,12 @@ module _ (e : Entries) (th : ℕ) (stands : Stands e th) where
               rw eg (omega (arith, given-once p, given-all ordinary p meets, once));
           none-twice = λ p. rw eg (omega (arith, given-once p, rising-at-most 0 p (e .places) (stands .rising)));
           only-present = λ p. rw eg (given-once p);
-          from-leaves-that-meet = λ i m. parts-from (hitIn query scale) th order 0 t i (subst (List·Memᴰ i) eg m);
+          from-leaves-that-meet = λ i m. parts-from (hitIn query scale) th order rangeLimit limit-some 0 t 0 i (subst (List·Memᴰ i) eg m);
           count-is = eh ∙ ap length (sym eg);
-          reads-at-most = omega (arith, er, parts-reads (hitIn query scale) th order 0 t);
+          reads-at-most = omega (arith, er, parts-reads (hitIn query scale) th order rangeLimit limit-some 0 t);
         }
 
-    delivered-unread : Delivered e th query (unread 2)
+    delivered-unread : Delivered e th query (unread BufferTooShort)
     unfolding treeOf itemsHanded
     delivered-unread =
         record {
@@ -218,10 +277,6 @@ module _ (e : Entries) (th : ℕ) (stands : Stands e th) where
           reads-at-most = omega arith;
         }
 
-    -- the bytes as the walk gets them
-    abbrev bytes : Lent
-    bytes = record { query = queryOf query (scale .cen) (scale .inverse); sizes = sizesOf e th; nodes = over (nodesWritten e th) nodes; trees = over (treesWritten e th) trees }
-
     delivered-read : Delivered e th query (ended (walkFrom bytes started))
     delivered-read =
         delivered-by (ended (walkFrom bytes started))
@@ -230,7 +285,7 @@ module _ (e : Entries) (th : ℕ) (stands : Stands e th) where
         (ap (λ (l : Lent). walkFrom l started .state .handed) (sym lent-is) ∙ covers .handed-are)
         (ap (λ (l : Lent). walkFrom l started .state .reads) (sym lent-is) ∙ covers .reads-are)
 
-    either : (q : Bool) → Delivered e th query (pickOutcome q (unread 2) (ended (walkFrom bytes started)))
+    either : (q : Bool) → Delivered e th query (cond q (unread BufferTooShort) (ended (walkFrom bytes started)))
     either true = delivered-unread
     either false = delivered-read
 
@@ -242,17 +297,22 @@ module _ (e : Entries) (th : ℕ) (stands : Stands e th) where
     unfolding treeOf nodesWritten
     nodes-long =
         let written = nodesBytes scale th order (rows 0 t) in
-        omega (arith, length-append (written ++ padding) (drop (length (written ++ padding)) nodes), length-append written padding, length-nodes scale th order (rows 0 t), length-rows 0 t)
+        let all-long = length-append (written ++ padding) (drop (length (written ++ padding)) nodes) in
+        omega (arith, all-long, length-append written padding, length-nodes scale th order (rows 0 t), length-rows 0 t)
 
-    trees-long : 16 * length (ranges 0 t) ≤ length (over (treesWritten e th) trees)
+    trees-long : 16 * length (ranges rangeLimit 0 t) ≤ length (over (treesWritten e th) trees)
     unfolding treeOf treesWritten
     trees-long =
-        let written = treesBytes scale (ranges 0 t) in
-        omega (arith, length-append written (drop (length written) trees), length-trees scale (ranges 0 t))
+        let written = treesBytes scale (ranges rangeLimit 0 t) in
+        omega (arith, length-append written (drop (length written) trees), length-trees scale (ranges rangeLimit 0 t))
 
-    pub delivered : (room : ℕ) → Delivered e th query (outcomeOf e th query (over (nodesWritten e th) nodes) (over (treesWritten e th) trees) room)
+    pub delivered : (written-order : List ℕ) (room : ℕ)
+        → Delivered e th query (outcomeOf e th query (outputs (over (nodesWritten e th) nodes) (over (treesWritten e th) trees) written-order) room)
     unfolding treeOf outcomeOf sizesOf
-    delivered room =
-        subst (Delivered e th query)
-        (sym (walk-runs query (scale .cen) (scale .inverse) (sizesOf e th) (over (nodesWritten e th) nodes) (over (treesWritten e th) trees) room (omega (arith, size-few)) (omega (arith, size-few, ranges-few 0 t)) (items-few (eqb th 1)) nodes-long trees-long))
+    delivered written-order room =
+        let few-trees = ranges-few rangeLimit limit-some 0 t in
+        let runs =
+        walk-runs query (scale .cen) (scale .inverse) (sizesOf e th) (bytes .nodes) (bytes .trees) room
+        (omega (arith, size-few)) (omega (arith, size-few, few-trees)) (items-few (eqb th 1)) nodes-long trees-long in
+        subst (Delivered e th query) (sym runs)
         (either (ltb room (sizesOf e th .items)))

@@ -12,7 +12,7 @@ use Rattle.records.specs.declared.scale.Scale.{Scale}
 use Rattle.records.specs.Records.{nodeBytes, treeBytes, nodeAt, treeAt, NodeFits, TreeFits}
 use Rattle.records.proofs.Fitting.{quantise-fits}
 use Rattle.records.proofs.ReadBack.{node-back, tree-back}
-use Rattle.bvh.specs.Decode.{Small}
+use Rattle.bvh.specs.steps.Decode.{Small}
 use Rattle.bvh.specs.Output.{nodeOf, nodesBytes, treeRecord, treesBytes}
 use Rattle.bvh.specs.Ranges.{Range}
 use Rattle.bvh.specs.Rows.{Row}
@@ -25,12 +25,22 @@ small-signed n h = record { sfits = h }
 pub node-fits : (s : Scale) (th : ℕ) (order : List ℕ) (r : Row) → Small th order r → NodeFits (nodeOf s th order r)
 unfolding nodeOf
 node-fits s th order r small =
-    record { low = quantise-fits (r .box .min) (s .cen) (s .inverse); high = quantise-fits (r .box .max) (s .cen) (s .inverse); one = small-signed _ (small .id); two = small-signed _ (small .items) }
+    record {
+      low = quantise-fits (r .box .min) (s .cen) (s .inverse);
+      high = quantise-fits (r .box .max) (s .cen) (s .inverse);
+      one = small-signed _ (small .id);
+      two = small-signed _ (small .items);
+    }
 
 pub tree-fits : (s : Scale) (r : Range) → r .first < 32768 → r .last < 32768 → TreeFits (treeRecord s r)
 unfolding treeRecord
 tree-fits s r h k =
-    record { low = quantise-fits (r .box .min) (s .cen) (s .inverse); high = quantise-fits (r .box .max) (s .cen) (s .inverse); one = small-signed _ h; two = small-signed _ k }
+    record {
+      low = quantise-fits (r .box .min) (s .cen) (s .inverse);
+      high = quantise-fits (r .box .max) (s .cen) (s .inverse);
+      one = small-signed _ h;
+      two = small-signed _ k;
+    }
 
 -- what stands at a number, and what stands before it
 cut-at : {A : Type 0} (l : List A) (k : ℕ) (x : A) (xs : List A) → drop k l ≡ x ∷ xs → (l ≡ take k l ++ x ∷ xs) × (length (take k l) ≡ k)
@@ -49,7 +59,8 @@ node-read s th order rest rs k r qs e small =
     ∙ append-assoc before (nodesBytes s th order (r ∷ qs)) rest
     ∙ ap (λ (l : List ℕ). before ++ l) (append-assoc (nodeBytes (nodeOf s th order r)) (nodesBytes s th order qs) rest) in
     ap (λ (l : List ℕ). nodeAt l (16 * k)) bytes
-    ∙ node-back before (nodesBytes s th order qs ++ rest) (16 * k) (nodeOf s th order r) (length-nodes s th order (take k rs) ∙ ap (λ (n : ℕ). 16 * n) (c .1)) (node-fits s th order r small)
+    ∙ node-back before (nodesBytes s th order qs ++ rest) (16 * k) (nodeOf s th order r)
+    (length-nodes s th order (take k rs) ∙ ap (λ (n : ℕ). 16 * n) (c .1)) (node-fits s th order r small)
 
 pub tree-read : (s : Scale) (rest : List ℕ) (rs : List Range) (k : ℕ) (r : Range) (qs : List Range) → drop k rs ≡ r ∷ qs → r .first < 32768 → r .last < 32768
     → treeAt (treesBytes s rs ++ rest) (16 * k) ≡ treeRecord s r

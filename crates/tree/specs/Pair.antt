@@ -18,21 +18,19 @@ use Rattle.split.specs.Folding.{foldBox}
 use Rattle.split.specs.Lists.{occurrences}
 use Rattle.split.specs.declared.boxes.BoxWords.{BoxWords}
 use Rattle.bvh.specs.declared.core.Build.{Build}
-use Rattle.bvh.specs.declared.core.Build.the-variants.{Built, TooManyEntries, ThresholdOutside, BufferTooShort, TooManyNodes}
-use Rattle.bvh.specs.declared.core.Lengths.{Lengths}
+use Rattle.bvh.specs.declared.core.Build.the-variants.{Built, Refused}
 use Rattle.bvh.specs.Build.{Entries, treeOf, scaleIn, numberOf}
-use Rattle.bvh.specs.Entry.{Answered}
+use Rattle.bvh.specs.Entry.{Outputs, Lent, lengthsOf, Answered}
 use Rattle.bvh.specs.Promises.{itemAt, WellFormed}
-use Rattle.bvh.specs.Ranges.{ranges}
+use Rattle.bvh.specs.Ranges.{ranges, rangeLimit}
 use Rattle.bvh.specs.Rows.{rows}
 use Rattle.bvh.specs.Tree.{leafOrder, size}
 use Rattle.walk.specs.Boxes.{queryOf, meetsBox, meets}
-use Rattle.walk.specs.Walks.{Outcome, walkOf, unread, Promise}
-use Rattle.walk.specs.declared.core.Walk.{Walk}
-use Rattle.walk.specs.declared.core.Walk.the-variants.{Walked}
+use Rattle.walk.specs.Walks.{Outcome, walkOf, Promise}
 use Rattle.walk.specs.declared.boxes.Query.{Query}
 use Rattle.walk.specs.declared.state.Sizes.{Sizes}
 use Rattle.tree.specs.declared.pair.Found.{Found}
+use Rattle.tree.specs.declared.pair.Found.the-variants.{Unbuilt, Walked}
 use Rattle.tree.specs.Visit.{FromHit}
 
 -- ---- what the walk is given
@@ -46,11 +44,14 @@ itemCount e th = countFor th (e .number) (length (e .places))
 
 -- 01, Walk: the build's node and tree counts without padding.
 unfoldable pub sizesOf : Entries → ℕ → Sizes
-sizesOf e th = record { nodes = size (treeOf e th); trees = length (ranges 0 (treeOf e th)); items = itemCount e th }
+sizesOf e th = record { nodes = size (treeOf e th); trees = length (ranges rangeLimit 0 (treeOf e th)); items = itemCount e th }
 
--- Rule P3 (01, Walk: over a build the walk is given its node and tree bytes unchanged, its cen and inverse): what it comes to, with these bytes and an output of so many places.
-unfoldable pub outcomeOf : Entries → ℕ → Aabb → List ℕ → List ℕ → ℕ → Outcome
-outcomeOf e th query nodes trees room = walkOf query (scaleIn (treeOf e th) .cen) (scaleIn (treeOf e th) .inverse) (sizesOf e th) nodes trees room
+-- Rule P3 (01, Walk: over a build the walk is given its node and tree bytes unchanged, its cen and inverse): what it comes to,
+-- over what the build left, with an output of so many places.
+unfoldable pub outcomeOf : Entries → ℕ → Aabb → Outputs → ℕ → Outcome
+outcomeOf e th query left room =
+    let scale = scaleIn (treeOf e th) in
+    walkOf query (scale .cen) (scale .inverse) (sizesOf e th) (left .nodes) (left .trees) room
 
 -- ---- the premises
 
@@ -87,34 +88,35 @@ pub record Delivered (e : Entries) (th : ℕ) (query : Aabb) (o : Outcome) : Typ
   -- it is refused only with 2
   pub refused-only-with-2 : (o .number ≡ 0) ⊎ (o .number ≡ 2)
   -- otherwise it hands out every present item whose box meets the query as floats. A query with a NaN meets none, so nothing is asked of the query.
-  pub every-item-that-meets : Ordinary e → o .number ≡ 0 → (p : ℕ) → List·Memᴰ p (e .places) → meetsBox (boxValues (e .at p)) query ≡ true → occurrences p (itemsHanded e th (o .given)) ≡ 1
+  pub every-item-that-meets : Ordinary e → o .number ≡ 0 → (p : ℕ) → List·Memᴰ p (e .places) → meetsBox (boxValues (e .at p)) query ≡ true
+      → occurrences p (itemsHanded e th (o .given)) ≡ 1
   -- no item twice, and only present ones
   pub none-twice : (p : ℕ) → occurrences p (itemsHanded e th (o .given)) ≤ 1
   pub only-present : (p : ℕ) → occurrences p (itemsHanded e th (o .given)) ≤ occurrences p (e .places)
   -- none from a leaf record that misses the query
-  pub from-leaves-that-meet : (i : ℕ) → List·Memᴰ i (o .given) → FromHit (hitIn query (scaleIn (treeOf e th))) th (leafOrder (treeOf e th)) (rows 0 (treeOf e th)) i
+  pub from-leaves-that-meet : (i : ℕ) → List·Memᴰ i (o .given)
+      → FromHit (hitIn query (scaleIn (treeOf e th))) th (leafOrder (treeOf e th)) (rows 0 (treeOf e th)) i
   -- as many handed out as it says
   pub count-is : o .counts .handed ≡ length (o .given)
   -- its count of records read is at most nodes plus trees
-  pub reads-at-most : o .counts .reads ≤ size (treeOf e th) + length (ranges 0 (treeOf e th))
+  pub reads-at-most : o .counts .reads ≤ size (treeOf e th) + length (ranges rangeLimit 0 (treeOf e th))
 
 -- ---- the statement
 
--- a walk that did not take place: nothing read, nothing handed out
-abbrev pub unwalked : Walk
-unwalked = Walked (record { reads = 0; handed = 0 })
+-- the build that an answer tells of
+abbrev pub buildIn : Found → Build
+buildIn (Unbuilt why) = Refused why
+buildIn (Walked b w) = Built b
 
--- the walk after a build: none where it is refused
-abbrev pub walkAfter : Build → Outcome → Outcome
-walkAfter (Built b) o = o
-walkAfter TooManyEntries o = unread 0
-walkAfter ThresholdOutside o = unread 0
-walkAfter BufferTooShort o = unread 0
-walkAfter TooManyNodes o = unread 0
+-- Rule P5: a refused build is not walked, and the output keeps what it had; any other is walked, which comes to o.
+abbrev pub WalkAfter : Found → Outcome → List ℕ → List ℕ → Type 0
+WalkAfter (Unbuilt why) o out out′ = out′ ≡ out
+WalkAfter (Walked b w) o out out′ = Promise o out out′ w
 
--- Rule P5 (request, point 3), whole, of a build that answers r .build and the walk over its records: what each of the two is; and, if the build is not refused, that its tree is well formed whatever the boxes, and what the walk delivers.
-pub record Paired (e : Entries) (th : ℕ) (l : Lengths) (query : Aabb) (nodes trees order out nodes′ trees′ order′ out′ : List ℕ) (r : Found) : Type 0 where
-  pub build-is : Answered e th l (r .build) nodes trees order nodes′ trees′ order′
-  pub walk-is : Promise (walkAfter (r .build) (outcomeOf e th query nodes′ trees′ (length out))) out out′ (r .walk)
-  pub well-formed : numberOf (r .build) ≡ 0 → WellFormed e th
-  pub delivers : numberOf (r .build) ≡ 0 → Delivered e th query (outcomeOf e th query nodes′ trees′ (length out))
+-- Rule P5 (request, point 3), whole, of a build and the walk over its records: what each of the two is;
+-- and, if the build is not refused, that its tree is well formed whatever the boxes, and what the walk delivers.
+pub record Paired (e : Entries) (th : ℕ) (query : Aabb) (given : Lent) (before after : Outputs) (out out′ : List ℕ) (r : Found) : Type 0 where
+  pub build-is : Answered e th (lengthsOf before given) (buildIn r) before after
+  pub walk-is : WalkAfter r (outcomeOf e th query after (length out)) out out′
+  pub well-formed : numberOf (buildIn r) ≡ 0 → WellFormed e th
+  pub delivers : numberOf (buildIn r) ≡ 0 → Delivered e th query (outcomeOf e th query after (length out))

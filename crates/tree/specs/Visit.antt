@@ -3,40 +3,42 @@ use Prim.Native.Nat.{ℕ, _+_, _≤_, _<_}
 use mathlib.Core.Bool.{Bool, true, cond}
 use mathlib.Core.List.{List, [], _∷_, _++_, List·Memᴰ}
 use mathlib.Core.Path.{_≡_}
-use lib.Dec.{leb}
 use lib.ListN.{length}
-use Rattle.split.specs.Lists.{pick, occurrences}
+use Rattle.split.specs.Lists.{occurrences}
 use Rattle.split.specs.declared.boxes.BoxWords.{BoxWords}
 use Rattle.bvh.specs.Numbers.{upFrom}
 use Rattle.bvh.specs.Output.{idOf}
-use Rattle.bvh.specs.Rows.{Row, rows}
-use Rattle.bvh.specs.Tree.{Node, leaf, inner, boxOf, leafOrder, size}
+use Rattle.bvh.specs.Ranges.{Subtree}
+use Rattle.bvh.specs.Rows.{Row}
+use Rattle.bvh.specs.Tree.{Node, leaf, inner, boxOf, leafOrder}
 
--- Rule P1 (01, Walk): the positions handed out from a node on, where `hit` tells which boxes' records meet the query. None where the node misses; a leaf's by its record's id and count; an inner node's are its children's. The tree's first item stands at lo of the leaf order.
+-- Rule P1 (01, Walk): the positions handed out from a node on, where `hit` tells which boxes' records meet the query.
+-- None where the node misses; a leaf's by its record's id and count; an inner node's are its children's.
+-- The tree's first item stands at lo of the leaf order.
 abbrev pub visit : (BoxWords → Bool) → ℕ → List ℕ → ℕ → Node → List ℕ
-visit hit th order lo (leaf b ps) = pick (hit b) (upFrom (idOf th order (record { box = b; head = lo; count = length ps })) (length ps)) []
-visit hit th order lo (inner b l r) = pick (hit b) (visit hit th order lo l ++ visit hit th order (lo + length (leafOrder l)) r) []
+visit hit th order lo (leaf b ps) = cond (hit b) (upFrom (idOf th order (record { box = b; head = lo; count = length ps })) (length ps)) []
+visit hit th order lo (inner b l r) = cond (hit b) (visit hit th order lo l ++ visit hit th order (lo + length (leafOrder l)) r) []
 
 -- Rule P1: how many node records are read: below a node that misses, none.
 abbrev pub visitReads : (BoxWords → Bool) → Node → ℕ
 visitReads hit (leaf b ps) = 1
 visitReads hit (inner b l r) = 1 + cond (hit b) (visitReads hit l + visitReads hit r) 0
 
--- Rule P2 (01, Walk: take trees in order): over the ranges of a tree. A part over 127 nodes has no record; any other hands out what its root does.
-abbrev pub visitParts : (BoxWords → Bool) → ℕ → List ℕ → ℕ → Node → List ℕ
-visitParts hit th order lo (leaf b ps) = visit hit th order lo (leaf b ps)
-visitParts hit th order lo (inner b l r) =
-    pick (leb (size (inner b l r)) 127) (visit hit th order lo (inner b l r))
-    (visitParts hit th order lo l ++ visitParts hit th order (lo + length (leafOrder l)) r)
+-- Rule P2 (01, Walk: take trees in order): over the parts of a tree, at whatever limit they were cut (rule R14).
+-- Each has a tree record, and hands out what its root does. The first item of the first part stands at lo.
+abbrev pub visitParts : (BoxWords → Bool) → ℕ → List ℕ → ℕ → List Subtree → List ℕ
+visitParts hit th order lo [] = []
+visitParts hit th order lo (p ∷ ps) =
+    visit hit th order lo (p .root) ++ visitParts hit th order (lo + length (leafOrder (p .root))) ps
 
 -- the records of one range: the tree's, and its nodes' where it meets
 abbrev pub rangeReads : (BoxWords → Bool) → Node → ℕ
 rangeReads hit t = 1 + cond (hit (boxOf t)) (visitReads hit t) 0
 
 -- Rule P2: how many records are read, of trees and of nodes.
-abbrev pub partReads : (BoxWords → Bool) → Node → ℕ
-partReads hit (leaf b ps) = rangeReads hit (leaf b ps)
-partReads hit (inner b l r) = cond (leb (size (inner b l r)) 127) (rangeReads hit (inner b l r)) (partReads hit l + partReads hit r)
+abbrev pub partReads : (BoxWords → Bool) → List Subtree → ℕ
+partReads hit [] = 0
+partReads hit (p ∷ ps) = rangeReads hit (p .root) + partReads hit ps
 
 -- Every node that has item p below it is hit.
 abbrev pub Hits : (BoxWords → Bool) → ℕ → Node → Type 0

@@ -1,19 +1,25 @@
 // Builds a tree and walks it. The contract is what a server may rely on (point 3 of the request).
+use base::numbers::Place;
+use base::numbers::Position;
 use bvh::core::Build;
+use bvh::core::BuildRefusal;
+use bvh::core::BuiltTree;
 use math::aabb::Aabb;
-use walk::core::Counts;
 use walk::core::Walk;
 use walk::state::Sizes;
 ghost use mathlib.Core.Path.{_≡_};
-ghost use Prim.Native.Nat.{_*_};
+ghost use Prim.Native.Nat.{_*_, _<_};
 ghost use lib.ListN.{length, take};
-ghost use Rattle.bvh.specs.Entry.{entriesIn, lengthsOf};
-ghost use Rattle.tree.specs.Pair.{countFor, unwalked, Paired};
+ghost use lib.Dec.{eqb};
+ghost use mathlib.Core.Bool.{false};
+ghost use Rattle.bvh.specs.Entry.{entriesIn, outputs, lent};
+ghost use Rattle.bvh.specs.Promises.{itemAt};
+ghost use Rattle.tree.specs.Pair.{countFor, Paired};
 
-// How a build ended, and the walk over its records.
-pub struct Found {
-    pub build: Build,
-    pub walk: Walk,
+// A build that is refused leaves nothing to walk. Any other is walked: what was built, and how the walk over its records ended.
+pub enum Found {
+    Unbuilt(BuildRefusal),
+    Walked(BuiltTree, Walk),
 }
 
 // As item count the entries at threshold 1, else the present items.
@@ -23,17 +29,24 @@ fn item_count(threshold: u32, entries: usize, present: usize) -> usize
     if threshold == 1 { entries } else { present }
 }
 
-// A build that is refused leaves nothing to walk.
-fn not_walked(build: Build) -> Found
-    ensures { λ r. ⌜ (r .build ≡ build) × (r .walk ≡ unwalked) ⌝ }
+// A place as the order list holds it.
+fn place_of(stored: u16) -> Place
+    ensures { λ r. ⌜ r .0 ≡ stored ⌝ }
 {
-    Found {
-        build: build,
-        walk: Walk::Walked(Counts {
-            reads: 0,
-            handed: 0,
-        }),
+    Place(stored as u32)
+}
+
+// The place of the item at a position: the position itself at threshold 1, else the order list's entry.
+// What a walk over a build hands out lies below the walk's item count, so in the order list where that is asked.
+pub fn item_at(position: Position, threshold: u32, order: &[u16]) -> Place
+    requires { ⌜ (eqb threshold 1 ≡ false → position .0 < length (now order)) ⌝ }
+    ensures { λ r. ⌜ r .0 ≡ itemAt threshold (now (order .entry)) (position .0) ⌝ }
+{
+    if threshold == 1 {
+        return Place(position.0);
     }
+    let at = position.0 as usize;
+    place_of(order[at])
 }
 
 // The tree of the present ones among n entries, seven words each, and which positions of its order the query may meet, into the first places of `out`.
@@ -41,46 +54,53 @@ pub fn build_and_walk(
     n: usize,
     threshold: u32,
     query: Aabb,
-    nodes: &mut [u8],
-    trees: &mut [u8],
+    entries: &[u32],
+    node_bytes: &mut [u8],
+    tree_bytes: &mut [u8],
     order: &mut [u16],
-    words: &mut [u32],
     places: &mut [u32],
     temp: &mut [u32],
     stack: &mut [u32],
-    first: &mut [u32],
-    count: &mut [u32],
-    boxes: &mut [u32],
+    rows: &mut [u32],
     out: &mut [u16],
 ) -> Found
-    ensures { λ r. ⌜ Paired (entriesIn n (take (7 * n) (now (words .entry)))) threshold (lengthsOf (now (nodes .entry)) (now (trees .entry)) (now (order .entry)) (now (words .entry)) (now (places .entry)) (now (temp .entry)) (now (stack .entry)) (now (first .entry)) (now (count .entry)) (now (boxes .entry))) query (now (nodes .entry)) (now (trees .entry)) (now (order .entry)) (now (out .entry)) (now (nodes .exit)) (now (trees .exit)) (now (order .exit)) (now (out .exit)) r ⌝ }
+    ensures { λ r. ⌜ Paired (entriesIn n (take (7 * n) (now (entries .entry)))) threshold query
+        (lent (now (entries .entry)) (now (places .entry)) (now (temp .entry)) (now (stack .entry)) (now (rows .entry)))
+        (outputs (now («node_bytes» .entry)) (now («tree_bytes» .entry)) (now (order .entry)))
+        (outputs (now («node_bytes» .exit)) (now («tree_bytes» .exit)) (now (order .exit)))
+        (now (out .entry)) (now (out .exit)) r ⌝ }
 {
     let built = bvh::core::build_core(
         n,
         threshold,
-        nodes,
-        trees,
+        entries,
+        node_bytes,
+        tree_bytes,
         order,
-        words,
         places,
         temp,
         stack,
-        first,
-        count,
-        boxes,
+        rows,
     );
-    let Build::Built(tree) = built else {
-        return not_walked(built);
-    };
-    let sizes = Sizes {
-        nodes: tree.nodes,
-        trees: tree.trees,
-        items: item_count(threshold, n, tree.present),
-    };
-    let scale = tree.scale;
-    let walked = walk::entry::walk_bvh(query, scale.cen, scale.inverse, sizes, nodes, trees, out);
-    Found {
-        build: Build::Built(tree),
-        walk: walked,
+    match built {
+        Build::Refused(why) => Found::Unbuilt(why),
+        Build::Built(tree) => {
+            let sizes = Sizes {
+                nodes: tree.nodes,
+                trees: tree.trees,
+                items: item_count(threshold, n, tree.present),
+            };
+            let scale = tree.scale;
+            let walked = walk::entry::walk_bvh(
+                query,
+                scale.cen,
+                scale.inverse,
+                sizes,
+                node_bytes,
+                tree_bytes,
+                out,
+            );
+            Found::Walked(tree, walked)
+        }
     }
 }

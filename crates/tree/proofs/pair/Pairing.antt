@@ -1,71 +1,58 @@
 -- What `pair::build_and_walk` promises, from what the build and the walk do.
 use Prim.Native.Nat.{ℕ}
 use native.Mathlib.Omega.{arith}
-use mathlib.Core.List.{List, [], _∷_}
-use mathlib.Core.Path.{_≡_, refl, sym, ap, subst}
+use mathlib.Core.List.{List}
+use mathlib.Core.Path.{_≡_, refl, subst}
 use lib.ListN.{length}
-use types.Run.{OneOf, miss}
-use denote.Enum.Declared.{tagOf}
 use Rattle.math.specs.declared.aabb.Aabb.{Aabb}
 use Rattle.bvh.specs.declared.core.Build.{Build}
-use Rattle.bvh.specs.declared.core.Build.the-variants.{Built, TooManyEntries, ThresholdOutside, BufferTooShort, TooManyNodes}
+use Rattle.bvh.specs.declared.core.Build.the-variants.{Built, Refused}
+use Rattle.bvh.specs.declared.core.BuildRefusal.{BuildRefusal}
 use Rattle.bvh.specs.declared.core.BuiltTree.{BuiltTree}
-use Rattle.bvh.specs.declared.core.Lengths.{Lengths}
 use Rattle.bvh.specs.Build.{Entries}
-use Rattle.bvh.specs.Entry.{entriesIn, Answered}
-use Rattle.bvh.proofs.core.Build.{the-type}
-use Rattle.walk.specs.Walks.{walkOf, unread, Promise}
+use Rattle.bvh.specs.Entry.{entriesIn, Outputs, Lent, lengthsOf, Answered}
+use Rattle.walk.specs.Walks.{Outcome, walkOf, Promise}
 use Rattle.walk.specs.declared.core.Walk.{Walk}
-use Rattle.tree.specs.declared.pair.Found.{Found}
-use Rattle.tree.specs.Pair.{countFor, sizesOf, outcomeOf, unwalked, Paired}
-use Rattle.tree.proofs.AnswerLaws.{built-passed, words-listed}
-use Rattle.tree.proofs.PointThree.{tree-well-formed, walk-delivers}
+use Rattle.tree.specs.declared.pair.Found.the-variants.{Unbuilt, Walked}
+use Rattle.tree.specs.Pair.{countFor, Paired}
+use Rattle.tree.proofs.AnswerLaws.{refusal-numbered, words-listed}
+use Rattle.tree.proofs.PointThree.{tree-well-formed, walk-delivers, same-walk}
 
-module _ (n th : ℕ) (ws : List ℕ) (l : Lengths) (query : Aabb) (nodes trees order out nodes′ trees′ order′ : List ℕ) (b : BuiltTree)
-    (build : Answered (entriesIn n ws) th l (Built b) nodes trees order nodes′ trees′ order′) where
-  -- the walk that was run is the walk over the build's records
-  same-walk : walkOf query (b .scale .cen) (b .scale .inverse) (record { nodes = b .nodes; trees = b .trees; items = countFor th n (b .present) }) nodes′ trees′ (length out)
-      ≡ outcomeOf (entriesIn n ws) th query nodes′ trees′ (length out)
-  unfolding outcomeOf sizesOf entriesIn
-  same-walk =
-      let values = built-passed (entriesIn n ws) th l b (build .answer) .values in
-      ap (λ (x : BuiltTree). walkOf query (x .scale .cen) (x .scale .inverse) (record { nodes = x .nodes; trees = x .trees; items = countFor th n (x .present) }) nodes′ trees′ (length out)) values
+module _ (n th : ℕ) (ws : List ℕ) (query : Aabb) (given : Lent) (before after : Outputs) (out out′ : List ℕ) (b : BuiltTree) (w : Walk) where
+  abbrev e : Entries
+  e = entriesIn n ws
 
-  walked : (out′ : List ℕ) (w : Walk) → Promise (walkOf query (b .scale .cen) (b .scale .inverse) (record { nodes = b .nodes; trees = b .trees; items = countFor th n (b .present) }) nodes′ trees′ (length out)) out out′ w
-      → Paired (entriesIn n ws) th l query nodes trees order out nodes′ trees′ order′ out′ (record { build = Built b; walk = w })
-  walked out′ w walk =
+  -- the walk that was run, as it was given so many items
+  abbrev ran : ℕ → Outcome
+  ran items =
+      walkOf query (b .scale .cen) (b .scale .inverse) (record { nodes = b .nodes; trees = b .trees; items = items }) (after .nodes) (after .trees) (length out)
+
+  walked : Answered e th (lengthsOf before given) (Built b) before after → Promise (ran (countFor th n (b .present))) out out′ w
+      → Paired e th query given before after out out′ (Walked b w)
+  unfolding entriesIn
+  walked build walk =
+      let l = lengthsOf before given in
+      let listed = words-listed n ws in
       record {
         build-is = build;
-        walk-is = subst (λ o. Promise o out out′ w) same-walk walk;
-        well-formed = λ z. tree-well-formed (entriesIn n ws) (words-listed n ws) th l nodes trees order nodes′ trees′ order′ b build;
-        delivers = λ z. walk-delivers (entriesIn n ws) (words-listed n ws) th l nodes trees order nodes′ trees′ order′ b build query (length out);
+        walk-is = subst (λ (o : Outcome). Promise o out out′ w) (same-walk e listed th l before after b build query (length out)) walk;
+        well-formed = λ z. tree-well-formed e listed th l before after b build;
+        delivers = λ z. walk-delivers e listed th l before after b build query (length out);
       }
 
-pub paired : (n th : ℕ) (ws : List ℕ) (l : Lengths) (query : Aabb) (nodes trees order out nodes′ trees′ order′ out′ : List ℕ) (r : Build) (b : BuiltTree) (items : ℕ) (w : Walk)
-    → Answered (entriesIn n ws) th l r nodes trees order nodes′ trees′ order′ → r ≡ Built b → items ≡ countFor th n (b .present)
-    → Promise (walkOf query (b .scale .cen) (b .scale .inverse) (record { nodes = b .nodes; trees = b .trees; items = items }) nodes′ trees′ (length out)) out out′ w
-    → Paired (entriesIn n ws) th l query nodes trees order out nodes′ trees′ order′ out′ (record { build = Built b; walk = w })
-paired n th ws l query nodes trees order out nodes′ trees′ order′ out′ r b items w a built few walk =
-    walked n th ws l query nodes trees order out nodes′ trees′ order′ b (subst (λ (x : Build). Answered (entriesIn n ws) th l x nodes trees order nodes′ trees′ order′) built a) out′ w
-    (subst (λ (k : ℕ). Promise (walkOf query (b .scale .cen) (b .scale .inverse) (record { nodes = b .nodes; trees = b .trees; items = k }) nodes′ trees′ (length out)) out out′ w) few walk)
+  pub paired : (r : Build) (items : ℕ) → Answered e th (lengthsOf before given) r before after → r ≡ Built b → items ≡ countFor th n (b .present)
+      → Promise (ran items) out out′ w → Paired e th query given before after out out′ (Walked b w)
+  paired r items a built few walk =
+      walked (subst (λ (x : Build). Answered e th (lengthsOf before given) x before after) built a)
+      (subst (λ (k : ℕ). Promise (ran k) out out′ w) few walk)
 
--- ---- a refused build
-
-unwalked-is : (out : List ℕ) → Promise (unread 0) out out unwalked
-unwalked-is out = record { number-is = refl; counts-are = refl; output-is = refl }
-
-by-case : (e : Entries) (th : ℕ) (l : Lengths) (query : Aabb) (nodes trees order out nodes′ trees′ order′ : List ℕ) (r : Build) → OneOf (1 ∷ 2 ∷ 3 ∷ 4 ∷ []) (tagOf the-type r)
-    → Answered e th l r nodes trees order nodes′ trees′ order′
-    → Paired e th l query nodes trees order out nodes′ trees′ order′ out (record { build = r; walk = unwalked })
-by-case e th l query nodes trees order out nodes′ trees′ order′ (Built b) k a = absurd (miss (1 ∷ 2 ∷ 3 ∷ 4 ∷ []) 0 tt k)
-by-case e th l query nodes trees order out nodes′ trees′ order′ TooManyEntries k a = record { build-is = a; walk-is = unwalked-is out; well-formed = λ z. absurd (omega arith); delivers = λ z. absurd (omega arith) }
-by-case e th l query nodes trees order out nodes′ trees′ order′ ThresholdOutside k a = record { build-is = a; walk-is = unwalked-is out; well-formed = λ z. absurd (omega arith); delivers = λ z. absurd (omega arith) }
-by-case e th l query nodes trees order out nodes′ trees′ order′ BufferTooShort k a = record { build-is = a; walk-is = unwalked-is out; well-formed = λ z. absurd (omega arith); delivers = λ z. absurd (omega arith) }
-by-case e th l query nodes trees order out nodes′ trees′ order′ TooManyNodes k a = record { build-is = a; walk-is = unwalked-is out; well-formed = λ z. absurd (omega arith); delivers = λ z. absurd (omega arith) }
-
-pub unpaired : (e : Entries) (th : ℕ) (l : Lengths) (query : Aabb) (nodes trees order out nodes′ trees′ order′ : List ℕ) (r : Build) (f : Found) → OneOf (1 ∷ 2 ∷ 3 ∷ 4 ∷ []) (tagOf the-type r)
-    → Answered e th l r nodes trees order nodes′ trees′ order′ → (f .build ≡ r) × (f .walk ≡ unwalked)
-    → Paired e th l query nodes trees order out nodes′ trees′ order′ out f
-unpaired e th l query nodes trees order out nodes′ trees′ order′ r f k a is =
-    subst (Paired e th l query nodes trees order out nodes′ trees′ order′ out) (λ i. record { build = sym (is .0) i; walk = sym (is .1) i })
-    (by-case e th l query nodes trees order out nodes′ trees′ order′ r k a)
+-- a refused build is not walked
+pub unpaired : (e : Entries) (th : ℕ) (query : Aabb) (given : Lent) (before after : Outputs) (out : List ℕ) (r : Build) (why : BuildRefusal)
+    → Answered e th (lengthsOf before given) r before after → r ≡ Refused why → Paired e th query given before after out out (Unbuilt why)
+unpaired e th query given before after out r why a refused =
+    record {
+      build-is = subst (λ (x : Build). Answered e th (lengthsOf before given) x before after) refused a;
+      walk-is = refl;
+      well-formed = λ z. absurd (omega (arith, refusal-numbered why));
+      delivers = λ z. absurd (omega (arith, refusal-numbered why));
+    }
