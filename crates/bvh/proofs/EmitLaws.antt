@@ -37,9 +37,11 @@ over-one written before x i e h =
 pub length-nodes : (s : Scale) (th : ℕ) (order : List ℕ) (rs : List Row) → length (nodesBytes s th order rs) ≡ 16 * length rs
 length-nodes s th order [] = refl
 length-nodes s th order (r ∷ rs) =
-    omega (arith, length-append (nodeBytes (nodeOf s th order r)) (nodesBytes s th order rs), node-bytes (nodeOf s th order r) .size, length-nodes s th order rs)
+    let n = nodeOf s th order r in
+    omega (arith, length-append (nodeBytes n) (nodesBytes s th order rs), node-bytes n .size, length-nodes s th order rs)
 
-pub nodes-append : (s : Scale) (th : ℕ) (order : List ℕ) (rs qs : List Row) → nodesBytes s th order (rs ++ qs) ≡ nodesBytes s th order rs ++ nodesBytes s th order qs
+pub nodes-append : (s : Scale) (th : ℕ) (order : List ℕ) (rs qs : List Row)
+    → nodesBytes s th order (rs ++ qs) ≡ nodesBytes s th order rs ++ nodesBytes s th order qs
 nodes-append s th order [] qs = refl
 nodes-append s th order (r ∷ rs) qs =
     ap (λ (bs : List ℕ). nodeBytes (nodeOf s th order r) ++ bs) (nodes-append s th order rs qs)
@@ -58,7 +60,8 @@ pad-more k = rw add-one (go k)
 
 -- Padding that is put from `from` up to `upto`, behind `from` records that are written.
 pub padded : (written before : List ℕ) (from upto : ℕ) → length written ≡ 16 * from → from ≤ upto
-    → take (16 * from) (over written before) ++ (padBytes (upto - from) ++ drop (16 * upto) (over written before)) ≡ over (written ++ padBytes (upto - from)) before
+    → take (16 * from) (over written before) ++ (padBytes (upto - from) ++ drop (16 * upto) (over written before))
+    ≡ over (written ++ padBytes (upto - from)) before
 padded written before from upto e h =
     let k : 16 * upto ≡ 16 * from + 16 * (upto - from) = omega arith in
     rw k (over-more written (padBytes (upto - from)) before (16 * from) (16 * (upto - from)) e (length-pad (upto - from)))

@@ -8,7 +8,7 @@ use Rattle.records.specs.declared.scale.Scale.{Scale}
 use Rattle.records.specs.Records.{treeBytes}
 use Rattle.records.proofs.Sizes.{tree-bytes}
 use Rattle.bvh.specs.Tree.{Node, leaf, inner, Builder, growF, grow, size}
-use Rattle.bvh.specs.Ranges.{Range, ranges}
+use Rattle.bvh.specs.Ranges.{Range}
 use Rattle.bvh.specs.Output.{treeRecord, treesBytes}
 use Rattle.bvh.specs.steps.Flat.{Full, Filled, Flat, Scannable}
 use Rattle.bvh.specs.steps.Laid.{Grown}
@@ -24,7 +24,8 @@ length-trees s (r ∷ rs) =
 pub trees-append : (s : Scale) (xs ys : List Range) → treesBytes s (xs ++ ys) ≡ treesBytes s xs ++ treesBytes s ys
 trees-append s [] ys = refl
 trees-append s (x ∷ xs) ys =
-    ap (λ (l : List ℕ). treeBytes (treeRecord s x) ++ l) (trees-append s xs ys) ∙ sym (append-assoc (treeBytes (treeRecord s x)) (treesBytes s xs) (treesBytes s ys))
+    ap (λ (l : List ℕ). treeBytes (treeRecord s x) ++ l) (trees-append s xs ys)
+    ∙ sym (append-assoc (treeBytes (treeRecord s x)) (treesBytes s xs) (treesBytes s ys))
 
 -- ---- the builder's rows
 

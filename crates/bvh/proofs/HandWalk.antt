@@ -18,7 +18,8 @@ module _ {M : Type 1} {𝓤 : URA M} {H : Heap 𝓤} {A : Atoms 𝓤} {K : Type 
   pub packs : K → (Γ Δ : List (Item 𝓤)) → Step K W (Γ ++ (raw (⋆ 𝓤 H A Δ) ∷ [])) G (Γ ++ Δ) G
   packs t Γ Δ =
       step (λ s. record {
-        prf = via 𝓤 (sep 𝓤 (⋆ 𝓤 H A Γ) (⋆ 𝓤 H A Δ)) (⊢++ 𝓤 H A Γ Δ) (via 𝓤 (⋆ 𝓤 H A (Γ ++ (raw (⋆ 𝓤 H A Δ) ∷ []))) (++⊢ 𝓤 H A Γ (raw (⋆ 𝓤 H A Δ) ∷ [])) (s .prf));
+        prf = via 𝓤 (sep 𝓤 (⋆ 𝓤 H A Γ) (⋆ 𝓤 H A Δ)) (⊢++ 𝓤 H A Γ Δ)
+            (via 𝓤 (⋆ 𝓤 H A (Γ ++ (raw (⋆ 𝓤 H A Δ) ∷ []))) (++⊢ 𝓤 H A Γ (raw (⋆ 𝓤 H A Δ) ∷ [])) (s .prf));
       })
 
   pub unpacks : K → (Γ Δ : List (Item 𝓤)) → Step K W (Γ ++ Δ) G (Γ ++ (raw (⋆ 𝓤 H A Δ) ∷ [])) G
@@ -44,7 +45,8 @@ module _ {M : Type 1} (𝓤 : URA M) where
   env-of H (full τ l v ∷ cs) = (τ, l) ∷ env-of H cs
 
 -- they are freed, whatever they hold
-pub freed : {M : Type 1} {𝓤 : URA M} {H : Heap 𝓤} {A : Atoms 𝓤} {K : Type 0} {W : Given 𝓤 H A} {Γ : List (Item 𝓤)} {G : Goal 𝓤 H} → K → (cs : List Cell) → Step K W Γ G (cells 𝓤 cs Γ) (frees (env-of 𝓤 H cs) G)
+pub freed : {M : Type 1} {𝓤 : URA M} {H : Heap 𝓤} {A : Atoms 𝓤} {K : Type 0} {W : Given 𝓤 H A} {Γ : List (Item 𝓤)} {G : Goal 𝓤 H} → K
+    → (cs : List Cell) → Step K W Γ G (cells 𝓤 cs Γ) (frees (env-of 𝓤 H cs) G)
 freed t [] = free0 t
 freed t (room τ l ∷ cs) = step (λ s. free1 t $ freed t cs $ s)
 freed t (full τ l v ∷ cs) = step (λ s. forget t 0 refl $ free1 t $ freed t cs $ s)

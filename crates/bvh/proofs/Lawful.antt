@@ -1,4 +1,5 @@
--- What the tree's laws ask of a builder: its two groups hold the items, neither is empty, and both keep what holds of each place. The builder over boxes does so, by the laws of the split.
+-- What the tree's laws ask of a builder: its two groups hold the items, neither is empty, and both keep what holds of each place. The builder
+-- over boxes does so, by the laws of the split.
 use Prim.Native.Nat.{ℕ, _+_, _≤_, _<_}
 use mathlib.Core.List.{List, _++_}
 use mathlib.Core.Path.{_≡_}

@@ -1,12 +1,11 @@
 -- The places of the present entries: those that the entries' words mark are those of the entries; they rise, and each is one of the list's.
-use Prim.Native.Nat.{ℕ, zero, suc, _+_, _-_, _*_, _≤_, _<_}
+use Prim.Native.Nat.{ℕ, zero, suc, _+_, _-_, _*_, _<_}
 use native.Mathlib.Omega.{arith}
 use native.Mathlib.Numerals.{add-one}
 use mathlib.Core.Path.{_≡_, refl, sym, ap, ap₂, _∙_}
-use mathlib.Core.Bool.{Bool, true, false, not, cond}
+use mathlib.Core.Bool.{Bool, true, false, cond}
 use mathlib.Core.List.{List, [], _∷_, _++_, append-assoc}
-use lib.Dec.{eqb}
-use lib.ListN.{length, getD, take, drop, set, length-append}
+use lib.ListN.{length, getD, take, set, length-append}
 use lib.Seq.{getD-at, take-set-le, take-suc-set}
 use Rattle.split.specs.Lists.{pick, oneIf}
 use Rattle.bvh.specs.declared.items.BvhItem.{BvhItem}
@@ -35,7 +34,8 @@ pub marked-present : (is : List BvhItem) (rest : List ℕ) → marked 0 (length 
 marked-present is rest = marked-onto 0 [] is rest refl
 
 -- A place that is stored and counted if it is marked.
-pub kept-if : (b : Bool) (places rest : List ℕ) (k p : ℕ) → k < length places → take (k + oneIf b) (set places k p) ++ rest ≡ take k places ++ pick b (p ∷ rest) rest
+pub kept-if : (b : Bool) (places rest : List ℕ) (k p : ℕ) → k < length places
+    → take (k + oneIf b) (set places k p) ++ rest ≡ take k places ++ pick b (p ∷ rest) rest
 kept-if true places rest k p h =
     rw add-one (ap (λ (ps : List ℕ). ps ++ rest) (take-suc-set places k p h) ∙ append-assoc (take k places) (p ∷ []) rest)
 kept-if false places rest k p h =

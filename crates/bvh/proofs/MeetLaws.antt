@@ -1,4 +1,5 @@
--- A node that holds an item that meets the query meets the quantised query, on one axis: the box of all items keeps the pair's premises (split's FoldLaws), a node's box lies in it, the item's box in the node's, and node and query values are in the order of the floats (records' AxisLaws).
+-- A node that holds an item that meets the query meets the quantised query, on one axis: the box of all items keeps the pair's premises (split's
+-- FoldLaws), a node's box lies in it, the item's box in the node's, and node and query values are in the order of the floats (records' AxisLaws).
 use Prim.Native.Nat.{ℕ, _<_}
 use mathlib.Core.Logic.{_⊎_}
 use mathlib.Core.List.{List}
@@ -15,14 +16,15 @@ use Rattle.split.specs.Folding.{foldBox}
 use Rattle.split.specs.Lists.{Among}
 use Rattle.split.proofs.FoldLaws.{fold-below-each, fold-above-each, fold-proper, fold-bounded, fold-contains}
 use Rattle.records.specs.Axis.{extent, largest, smallest, nought, Measured}
-use Rattle.records.proofs.AxisLaws.{built, asked, Inside, built-below, built-above, built-mono}
+use Rattle.records.proofs.AxisLaws.{built, asked, Inside, built-below, built-above}
 
 module _ (at : ℕ → BoxWords) (a : Axis) (ps : List ℕ) (proper : Each at (Proper a) ps) where
   -- the box of all items
   abbrev all : BoxWords
   all = foldBox at ps
 
-  pub all-measured : 0 < length ps → Each at (Bounded largest a) ps → T (eq (extent (low a all) (high a all)) nought) ⊎ T (le smallest (extent (low a all) (high a all))) → Measured (low a all) (high a all)
+  pub all-measured : 0 < length ps → Each at (Bounded largest a) ps
+      → T (eq (extent (low a all) (high a all)) nought) ⊎ T (le smallest (extent (low a all) (high a all))) → Measured (low a all) (high a all)
   all-measured n bounded q =
       let p = fold-proper at a ps proper n in
       let b = fold-bounded at a ps proper largest bounded n in
@@ -54,16 +56,14 @@ module _ (at : ℕ → BoxWords) (a : Axis) (ps : List ℕ) (proper : Each at (P
         let c = fold-contains at a ps proper qs sub in
         (le-trans (low a all) (low a part) (high a part) (c .0) (part-proper n .in-order), c .1)
 
-    -- min at most max in units too
-    pub part-in-order : 0 < length qs → T (leZ (built a (all .min) (all .max) (part .min)) (built a (all .min) (all .max) (part .max)))
-    part-in-order n = built-mono a (all .min) (all .max) m (part .min) (part .max) (min-inside n) (max-inside n) (part-proper n .in-order)
-
-    pub part-below : (p : ℕ) (w : Vec3) → 0 < length qs → Among p qs → T (le (low a (at p)) (coordinate a w)) → T (leZ (built a (all .min) (all .max) (part .min)) (asked a (all .min) (all .max) w))
+    pub part-below : (p : ℕ) (w : Vec3) → 0 < length qs → Among p qs → T (le (low a (at p)) (coordinate a w))
+        → T (leZ (built a (all .min) (all .max) (part .min)) (asked a (all .min) (all .max) w))
     part-below p w n i h =
         built-below a (all .min) (all .max) m (part .min) w (min-inside n)
         (le-trans (low a part) (low a (at p)) (coordinate a w) (fold-below-each at a qs (λ q j. proper q (sub q j)) p i) h)
 
-    pub part-above : (p : ℕ) (w : Vec3) → 0 < length qs → Among p qs → T (le (coordinate a w) (high a (at p))) → T (leZ (asked a (all .min) (all .max) w) (built a (all .min) (all .max) (part .max)))
+    pub part-above : (p : ℕ) (w : Vec3) → 0 < length qs → Among p qs → T (le (coordinate a w) (high a (at p)))
+        → T (leZ (asked a (all .min) (all .max) w) (built a (all .min) (all .max) (part .max)))
     part-above p w n i h =
         built-above a (all .min) (all .max) m (part .max) w (max-inside n)
         (le-trans (coordinate a w) (high a (at p)) (high a part) h (fold-above-each at a qs (λ q j. proper q (sub q j)) p i))

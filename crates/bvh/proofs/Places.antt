@@ -15,4 +15,5 @@ one-more false x xs ys zs e = e
 
 pub occurrences-append : (p : ℕ) (xs ys : List ℕ) → occurrences p (xs ++ ys) ≡ occurrences p xs + occurrences p ys
 occurrences-append p [] ys = omega arith
-occurrences-append p (x ∷ xs) ys = one-more (eqb x p) x (sift (λ q. eqb q p) xs) (sift (λ q. eqb q p) ys) (sift (λ q. eqb q p) (xs ++ ys)) (occurrences-append p xs ys)
+occurrences-append p (x ∷ xs) ys =
+    one-more (eqb x p) x (sift (λ q. eqb q p) xs) (sift (λ q. eqb q p) ys) (sift (λ q. eqb q p) (xs ++ ys)) (occurrences-append p xs ys)

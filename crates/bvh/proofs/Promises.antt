@@ -1,9 +1,11 @@
--- Every build keeps the promises of the request's point 3 that hold whatever its boxes. The leaves' items, read by the records' ids and counts, are the leaf order, and that is the present places in another order.
+-- Every build keeps the promises of the request's point 3 that hold whatever its boxes. The leaves' items, read by the records' ids and counts,
+-- are the leaf order, and that is the present places in another order.
 use Prim.Native.Nat.{ℕ, suc, _+_, _≤_, _<_}
 use native.Mathlib.Omega.{arith}
 use native.Mathlib.Nat.{add-zero}
 use mathlib.Core.Bool.{Bool, true, false, cond}
-use mathlib.Core.List.{List, [], _∷_, _++_, map, append-assoc, append-nil, List·Memᴰ, List·Memᴰ·not-nil, List·Memᴰ·cases-cons, List·Memᴰ·append-cases, List·Memᴰ·eq-of-singleton}
+use mathlib.Core.List.{List, [], _∷_, _++_, map, append-assoc, append-nil}
+use mathlib.Core.List.{List·Memᴰ, List·Memᴰ·not-nil, List·Memᴰ·cases-cons, List·Memᴰ·append-cases, List·Memᴰ·eq-of-singleton}
 use mathlib.Core.Logic.{⊎-elim}
 use mathlib.Core.Path.{_≡_, refl, sym, ap, ap₂, _∙_, subst}
 use borrow.Author.Tests.{eq-eqb, ne-eqb, eqb-true}
@@ -79,14 +81,19 @@ leaf-items th order lo b ps rest most e = items-by (eqb th 1) th order lo ps res
 
 items-append : (th : ℕ) (order : List ℕ) (xs ys : List Row) → itemsOf th order (xs ++ ys) ≡ itemsOf th order xs ++ itemsOf th order ys
 items-append th order [] ys = refl
-items-append th order (x ∷ xs) ys = ap (λ (l : List ℕ). itemsIn th order x ++ l) (items-append th order xs ys) ∙ sym (append-assoc (itemsIn th order x) (itemsOf th order xs) (itemsOf th order ys))
+items-append th order (x ∷ xs) ys =
+    ap (λ (l : List ℕ). itemsIn th order x ++ l) (items-append th order xs ys)
+    ∙ sym (append-assoc (itemsIn th order x) (itemsOf th order xs) (itemsOf th order ys))
 
 -- the leaves' items, by the rows of a tree whose first item stands at lo, are its leaf order
-rows-items : (th : ℕ) (order : List ℕ) (lo : ℕ) (t : Node) (rest : List ℕ) → AtMost th t → drop lo order ≡ leafOrder t ++ rest → itemsOf th order (rows lo t) ≡ leafOrder t
+rows-items : (th : ℕ) (order : List ℕ) (lo : ℕ) (t : Node) (rest : List ℕ) → AtMost th t → drop lo order ≡ leafOrder t ++ rest
+    → itemsOf th order (rows lo t) ≡ leafOrder t
 rows-items th order lo (leaf b ps) rest most e = append-nil _ ∙ leaf-items th order lo b ps rest most e
 rows-items th order lo (inner b l r) rest most e =
     let first : drop lo order ≡ leafOrder l ++ (leafOrder r ++ rest) = e ∙ append-assoc (leafOrder l) (leafOrder r) rest in
-    let second : drop (lo + length (leafOrder l)) order ≡ leafOrder r ++ rest = sym (drop-drop (length (leafOrder l)) lo order) ∙ ap (drop (length (leafOrder l))) first ∙ drop-at (leafOrder l) (leafOrder r ++ rest) (length (leafOrder l)) refl in
+    let n : ℕ = length (leafOrder l) in
+    let second : drop (lo + n) order ≡ leafOrder r ++ rest =
+    sym (drop-drop n lo order) ∙ ap (drop n) first ∙ drop-at (leafOrder l) (leafOrder r ++ rest) n refl in
     items-append th order (rows lo l) (rows (lo + length (leafOrder l)) r)
     ∙ ap₂ _++_ (rows-items th order lo l (leafOrder r ++ rest) (most .0) first) (rows-items th order (lo + length (leafOrder l)) r rest (most .1) second)
 
@@ -109,7 +116,8 @@ well-formed e th some rising =
     let t = grow b th (e .places) in
     let most = grow-at-most b law th some (e .places) in
     let items : itemsOf th (leafOrder t) (rows 0 t) ≡ leafOrder t = rows-items th (leafOrder t) 0 t [] most (sym (append-nil (leafOrder t))) in
-    let same : (p : ℕ) → occurrences p (itemsOf th (leafOrder t) (rows 0 t)) ≡ occurrences p (e .places) = λ p. ap (occurrences p) items ∙ leaf-order-permutes b law th some (e .places) p in
+    let same : (p : ℕ) → occurrences p (itemsOf th (leafOrder t) (rows 0 t)) ≡ occurrences p (e .places) =
+    λ p. ap (occurrences p) items ∙ leaf-order-permutes b law th some (e .places) p in
     record {
       present-once = λ p m. same p ∙ rising-once 0 p (e .places) rising m;
       only-present = same;

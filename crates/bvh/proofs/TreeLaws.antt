@@ -1,18 +1,15 @@
 -- Laws of the tree that a lawful builder grows: how `grow` unfolds whatever the fuel, what its leaves hold, and how its rows lie.
 use Prim.Native.Nat.{ℕ, zero, suc, _+_, _*_, _≤_, _<_}
 use native.Mathlib.Omega.{arith}
-use mathlib.Core.Bool.{Bool, true, false, _&&_}
-use mathlib.Core.List.{List, [], _∷_, _++_}
-use mathlib.Core.Path.{_≡_, refl, sym, ap, ap₂, _∙_, subst}
-use lib.Dec.{leb, ltb}
-use lib.ListN.{length, take, drop, length-append}
-use lib.Seq.{take-at, drop-at}
-use native.Mathlib.Decide.{decLe}
-use borrow.Author.Tests.{leb-true, leb-false, le-leb, lt-leb, lt-ltb, le-ltb}
-use Rattle.split.specs.declared.boxes.BoxWords.{BoxWords}
+use mathlib.Core.Bool.{Bool, true, false}
+use mathlib.Core.List.{List}
+use mathlib.Core.Path.{_≡_, refl, sym, ap₂, _∙_}
+use lib.Dec.{leb}
+use lib.ListN.{length, length-append}
+use borrow.Author.Tests.{leb-true, leb-false, le-leb, lt-leb}
 use Rattle.split.specs.Lists.{Within, Permutes}
 use Rattle.bvh.specs.steps.Flat.{Full}
-use Rattle.bvh.specs.Rows.{Row, rows}
+use Rattle.bvh.specs.Rows.{rows}
 use Rattle.bvh.specs.Tree.{Node, leaf, inner, Builder, growF, grow, leafOrder, size}
 use Rattle.split.proofs.WithinLaws.{within-append}
 use Rattle.bvh.proofs.Places.{occurrences-append}
@@ -72,15 +69,20 @@ module _ (b : Builder) (law : Lawful b) where
   grow-inner th ps p h = inner-by th (length ps) ps refl p h
 
 -- what holds of each leaf, and of each inner node over trees of which it holds, holds of the tree that grows
-module _ (b : Builder) (law : Lawful b) (th : ℕ) (pos : 0 < th) (P : List ℕ → Node → Type 0) (on-leaf : (ps : List ℕ) → length ps ≤ th → P ps (leaf (b .box ps) ps)) (on-inner : (ps : List ℕ) (l r : Node) → th < length ps → P (b .first ps) l → P (b .second ps) r → P ps (inner (b .box ps) l r)) where
-  induction-by : (k : ℕ) (ps : List ℕ) (t : Bool) → leb (length ps) th ≡ t → length ps ≤ suc k → ((qs : List ℕ) → length qs ≤ k → P qs (growF b th k qs)) → P ps (growF b th (suc k) ps)
+module _ (b : Builder) (law : Lawful b) (th : ℕ) (pos : 0 < th) (P : List ℕ → Node → Type 0)
+    (on-leaf : (ps : List ℕ) → length ps ≤ th → P ps (leaf (b .box ps) ps))
+    (on-inner : (ps : List ℕ) (l r : Node) → th < length ps → P (b .first ps) l → P (b .second ps) r → P ps (inner (b .box ps) l r)) where
+  induction-by : (k : ℕ) (ps : List ℕ) (t : Bool) → leb (length ps) th ≡ t → length ps ≤ suc k
+      → ((qs : List ℕ) → length qs ≤ k → P qs (growF b th k qs)) → P ps (growF b th (suc k) ps)
   induction-by k ps true e h below = rw (growF-leaf b th (suc k) ps (leb-true _ _ e)) (on-leaf ps (leb-true _ _ e))
   induction-by k ps false e h below =
       let big : th < length ps = leb-false _ _ e in
       let t = law .total ps in
       let s₁ = law .some-first ps (omega arith) in
       let s₂ = law .some-second ps (omega arith) in
-      rw (growF-inner b th k ps big) (on-inner ps (growF b th k (b .first ps)) (growF b th k (b .second ps)) big (below (b .first ps) (omega arith)) (below (b .second ps) (omega arith)))
+      rw (growF-inner b th k ps big)
+      (on-inner ps (growF b th k (b .first ps)) (growF b th k (b .second ps)) big (below (b .first ps) (omega arith))
+      (below (b .second ps) (omega arith)))
 
   inductionF : (k : ℕ) (ps : List ℕ) → length ps ≤ k → P ps (growF b th k ps)
   inductionF zero ps h = rw (growF-leaf b th zero ps (omega arith)) (on-leaf ps (omega arith))
@@ -106,7 +108,8 @@ module _ (b : Builder) (law : Lawful b) (th : ℕ) (pos : 0 < th) where
   pub leaf-order-permutes : (ps : List ℕ) → Permutes (leafOrder (grow b th ps)) ps
   leaf-order-permutes = grow-induction b law th pos (λ ps t. Permutes (leafOrder t) ps)
       (λ ps h p. refl)
-      (λ ps l r h el er p. occurrences-append p (leafOrder l) (leafOrder r) ∙ ap₂ _+_ (el p) (er p) ∙ sym (occurrences-append p (b .first ps) (b .second ps)) ∙ law .permutes ps p)
+      (λ ps l r h el er p. occurrences-append p (leafOrder l) (leafOrder r) ∙ ap₂ _+_ (el p) (er p)
+      ∙ sym (occurrences-append p (b .first ps) (b .second ps)) ∙ law .permutes ps p)
 
   pub leaf-order-length : (ps : List ℕ) → length (leafOrder (grow b th ps)) ≡ length ps
   leaf-order-length = grow-induction b law th pos (λ ps t. length (leafOrder t) ≡ length ps)
@@ -138,90 +141,3 @@ pub length-rows : (lo : ℕ) (t : Node) → length (rows lo t) ≡ size t
 length-rows lo (leaf b ps) = refl
 length-rows lo (inner b l r) =
     omega (arith, length-append (rows lo l) (rows (lo + length (leafOrder l)) r), length-rows lo l, length-rows (lo + length (leafOrder l)) r)
-
--- An inner row is followed by as many rows as its first child has nodes, which are that child's, and then by the second child's.
-pub first-rows : (lo : ℕ) (b : BoxWords) (l r : Node) → take (size l) (drop 1 (rows lo (inner b l r))) ≡ rows lo l
-first-rows lo b l r = take-at (rows lo l) (rows (lo + length (leafOrder l)) r) (size l) (length-rows lo l)
-
-pub second-rows : (lo : ℕ) (b : BoxWords) (l r : Node) → drop (suc (size l)) (rows lo (inner b l r)) ≡ rows (lo + length (leafOrder l)) r
-second-rows lo b l r = drop-at (rows lo l) (rows (lo + length (leafOrder l)) r) (size l) (length-rows lo l)
-
--- The rows that have items have the positions from lo to hi, each where the one before ends.
-abbrev pub Running : ℕ → ℕ → List Row → Type 0
-Running lo hi [] = lo ≡ hi
-Running lo hi (r ∷ rs) = (0 < r .count → r .head ≡ lo) × Running (lo + r .count) hi rs
-
-running-append : (lo mid hi : ℕ) (xs ys : List Row) → Running lo mid xs → Running mid hi ys → Running lo hi (xs ++ ys)
-running-append lo mid hi [] ys p q = subst (λ (at : ℕ). Running at hi ys) (sym p) q
-running-append lo mid hi (x ∷ xs) ys p q = (p .0, running-append (lo + x .count) mid hi xs ys (p .1) q)
-
-pub rows-running : (lo : ℕ) (t : Node) → Running lo (lo + length (leafOrder t)) (rows lo t)
-rows-running lo (leaf b ps) = (λ h. refl, refl)
-rows-running lo (inner b l r) =
-    let mid : ℕ = lo + length (leafOrder l) in
-    let hi : ℕ = lo + length (leafOrder l ++ leafOrder r) in
-    let e : mid + length (leafOrder r) ≡ hi = omega (arith, length-append (leafOrder l) (leafOrder r)) in (
-      λ h. absurd (omega arith),
-      subst (λ (at : ℕ). Running at hi (rows lo l ++ rows mid r)) (omega arith)
-          (running-append lo mid hi (rows lo l) (rows mid r) (rows-running lo l) (subst (λ (at : ℕ). Running mid at (rows mid r)) e (rows-running mid r))),
-    )
-
--- n positions from lo on have i among them
-abbrev pub holds : ℕ → ℕ → ℕ → Bool
-holds lo n i = leb lo i && ltb i (lo + n)
-
-abbrev pub tally : Bool → ℕ
-tally true = 1
-tally false = 0
-
--- how many of the rows have the position i among theirs: an inner row has none
-abbrev pub holders : ℕ → List Row → ℕ
-holders i [] = 0
-holders i (r ∷ rs) = tally (holds (r .head) (r .count) i) + holders i rs
-
-holders-append : (i : ℕ) (xs ys : List Row) → holders i (xs ++ ys) ≡ holders i xs + holders i ys
-holders-append i [] ys = omega arith
-holders-append i (x ∷ xs) ys = omega (arith, holders-append i xs ys)
-
-holds-in : (lo n i : ℕ) → lo ≤ i → i < lo + n → holds lo n i ≡ true
-holds-in lo n i h h′ = rw (le-leb lo i h, lt-ltb i (lo + n) h′)
-
-holds-before : (lo n i : ℕ) → i < lo → holds lo n i ≡ false
-holds-before lo n i h = rw (lt-leb lo i h)
-
-holds-behind : (lo n i : ℕ) → lo + n ≤ i → holds lo n i ≡ false
-holds-behind lo n i h = rw (le-leb lo i (omega arith), le-ltb i (lo + n) h)
-
-holds-none : (lo i : ℕ) → Dec (lo ≤ i) → holds lo 0 i ≡ false
-holds-none lo i (yes d) = holds-behind lo 0 i (omega arith)
-holds-none lo i (no d) = holds-before lo 0 i (omega arith)
-
-module _ (i : ℕ) where
-  inner-holders : (lo : ℕ) (b : BoxWords) (l r : Node) → holders i (rows lo (inner b l r)) ≡ holders i (rows lo l) + holders i (rows (lo + length (leafOrder l)) r)
-  inner-holders lo b l r = omega (arith, ap tally (holds-none (size (inner b l r)) i (decLe (size (inner b l r)) i)), holders-append i (rows lo l) (rows (lo + length (leafOrder l)) r))
-
-  -- a position before the tree's, or behind them, is in no leaf
-  pub held-before : (lo : ℕ) (t : Node) → i < lo → holders i (rows lo t) ≡ 0
-  held-before lo (leaf b ps) h = omega (arith, ap tally (holds-before lo (length ps) i h))
-  held-before lo (inner b l r) h = omega (arith, inner-holders lo b l r, held-before lo l h, held-before (lo + length (leafOrder l)) r (omega arith))
-
-  pub held-behind : (lo : ℕ) (t : Node) → lo + length (leafOrder t) ≤ i → holders i (rows lo t) ≡ 0
-  held-behind lo (leaf b ps) h = omega (arith, ap tally (holds-behind lo (length ps) i h))
-  held-behind lo (inner b l r) h =
-      let n = length-append (leafOrder l) (leafOrder r) in
-      omega (arith, inner-holders lo b l r, held-behind lo l (omega arith), held-behind (lo + length (leafOrder l)) r (omega arith))
-
-  held-by : (lo : ℕ) (l r : Node) → lo ≤ i → i < lo + (length (leafOrder l) + length (leafOrder r)) → Dec (lo + length (leafOrder l) ≤ i)
-      → (i < lo + length (leafOrder l) → holders i (rows lo l) ≡ 1)
-      → (lo + length (leafOrder l) ≤ i → i < lo + length (leafOrder l) + length (leafOrder r) → holders i (rows (lo + length (leafOrder l)) r) ≡ 1)
-      → holders i (rows lo l) + holders i (rows (lo + length (leafOrder l)) r) ≡ 1
-  held-by lo l r h h′ (yes d) left right = omega (arith, held-behind lo l d, right d (omega arith))
-  held-by lo l r h h′ (no d) left right = omega (arith, left (omega arith), held-before (lo + length (leafOrder l)) r (omega arith))
-
-  -- and each of its positions is in exactly one
-  pub held-once : (lo : ℕ) (t : Node) → lo ≤ i → i < lo + length (leafOrder t) → holders i (rows lo t) ≡ 1
-  held-once lo (leaf b ps) h h′ = omega (arith, ap tally (holds-in lo (length ps) i h h′))
-  held-once lo (inner b l r) h h′ =
-      inner-holders lo b l r
-      ∙ held-by lo l r h (omega (arith, length-append (leafOrder l) (leafOrder r))) (decLe (lo + length (leafOrder l)) i)
-      (λ d. held-once lo l h d) (λ d d′. held-once (lo + length (leafOrder l)) r d d′)

@@ -13,7 +13,8 @@ use Rattle.bvh.specs.Ranges.{ranges, rangeLimit}
 use Rattle.bvh.specs.Rows.{Row, rows}
 use Rattle.bvh.specs.Tree.{leafOrder}
 
--- Rule R16 (01, Records and ranges: threshold 1, positions are list places; above 1, positions number the items leaf after leaf, and the order list holds their places): the item at a position.
+-- Rule R16 (01, Records and ranges: threshold 1, positions are list places; above 1, positions number the items leaf after leaf, and the order
+-- list holds their places): the item at a position.
 abbrev pub itemAt : ℕ → List ℕ → ℕ → ℕ
 itemAt th order i = cond (eqb th 1) i (getD order i 0)
 

@@ -47,30 +47,36 @@ outcome number reads handed given = record { number = number; counts = record { 
 
 -- The query touches the second leaf alone: the tree and three nodes are read.
 pub one-leaf : over (query (pos 10) (pos 12)) 1 range ≡ outcome 0 4 2 (1 ∷ 2 ∷ [])
-unfolding nodeBytes treeBytes boxedBytes vertexBytes shortBytes littleEndian shortAt meets badRange badNode atTree atNode handing stepOf readOn rangeNodes walkFrom
+unfolding nodeBytes treeBytes boxedBytes vertexBytes shortBytes littleEndian shortAt meets badRange badNode
+    atTree atNode handing stepOf readOn rangeNodes walkFrom
 one-leaf = refl
 
 -- It misses the tree.
 pub no-tree : over (query (pos 11) (pos 12)) 1 range ≡ outcome 0 1 0 []
-unfolding nodeBytes treeBytes boxedBytes vertexBytes shortBytes littleEndian shortAt meets badRange badNode atTree atNode handing stepOf readOn rangeNodes walkFrom
+unfolding nodeBytes treeBytes boxedBytes vertexBytes shortBytes littleEndian shortAt meets badRange badNode
+    atTree atNode handing stepOf readOn rangeNodes walkFrom
 no-tree = refl
 
 -- It meets a tree whose only node with nodes below it misses: those are passed.
 pub passed : over (query (pos 11) (pos 12)) 1 (treeBytes (tree (negsuc 9) (pos 99) (pos 1) (pos 4))) ≡ outcome 0 2 0 []
-unfolding nodeBytes treeBytes boxedBytes vertexBytes shortBytes littleEndian shortAt meets badRange badNode atTree atNode handing stepOf readOn rangeNodes walkFrom
+unfolding nodeBytes treeBytes boxedBytes vertexBytes shortBytes littleEndian shortAt meets badRange badNode
+    atTree atNode handing stepOf readOn rangeNodes walkFrom
 passed = refl
 
 -- 9: the range ends past the nodes.
 pub range-refused : over (query (pos 0) (pos 0)) 1 (treeBytes (tree (pos 0) (pos 0) (pos 1) (pos 5))) ≡ outcome 9 1 0 []
-unfolding nodeBytes treeBytes boxedBytes vertexBytes shortBytes littleEndian shortAt meets badRange badNode atTree atNode handing stepOf readOn rangeNodes walkFrom
+unfolding nodeBytes treeBytes boxedBytes vertexBytes shortBytes littleEndian shortAt meets badRange badNode
+    atTree atNode handing stepOf readOn rangeNodes walkFrom
 range-refused = refl
 
 -- 10: node 1 has 3 nodes, the range 2.
 pub node-refused : over (query (pos 0) (pos 0)) 1 (treeBytes (tree (pos 0) (pos 0) (pos 1) (pos 3))) ≡ outcome 10 2 0 []
-unfolding nodeBytes treeBytes boxedBytes vertexBytes shortBytes littleEndian shortAt meets badRange badNode atTree atNode handing stepOf readOn rangeNodes walkFrom
+unfolding nodeBytes treeBytes boxedBytes vertexBytes shortBytes littleEndian shortAt meets badRange badNode
+    atTree atNode handing stepOf readOn rangeNodes walkFrom
 node-refused = refl
 
 -- 11: the second tree has the same range.
 pub all-handed-out : over (query (negsuc 9) (pos 9)) 2 (range ++ range) ≡ outcome 11 7 3 (0 ∷ 1 ∷ 2 ∷ [])
-unfolding nodeBytes treeBytes boxedBytes vertexBytes shortBytes littleEndian shortAt meets badRange badNode atTree atNode handing stepOf readOn rangeNodes walkFrom
+unfolding nodeBytes treeBytes boxedBytes vertexBytes shortBytes littleEndian shortAt meets badRange badNode
+    atTree atNode handing stepOf readOn rangeNodes walkFrom
 all-handed-out = refl

@@ -17,7 +17,8 @@ pub up-more : (id n : ℕ) → upFrom id (n + 1) ≡ upFrom id n ++ ((id + n) �
 up-more id zero = ap (λ (k : ℕ). k ∷ []) (sym (add-zero id))
 up-more id (suc n) =
     let e : id + 1 + n ≡ id + suc n = omega arith in
-    ap (upFrom id) (add-one (suc n)) ∙ ap (λ (l : List ℕ). id ∷ l) (ap (upFrom (id + 1)) (sym (add-one n)) ∙ up-more (id + 1) n ∙ ap (λ (k : ℕ). upFrom (id + 1) n ++ (k ∷ [])) e)
+    let rest = ap (upFrom (id + 1)) (sym (add-one n)) ∙ up-more (id + 1) n ∙ ap (λ (k : ℕ). upFrom (id + 1) n ++ (k ∷ [])) e in
+    ap (upFrom id) (add-one (suc n)) ∙ ap (λ (l : List ℕ). id ∷ l) rest
 
 -- one run after another is the run of both
 pub sets-append : {A : Type 0} (xs ys l : List A) (i k : ℕ) → i + length xs ≡ k → sets (sets l i xs) k ys ≡ sets l i (xs ++ ys)

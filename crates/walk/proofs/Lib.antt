@@ -1,10 +1,10 @@
 mod Answers
 mod Choices
 pub mod Examples
-mod Given
 pub mod Handing
 pub mod OutcomeLaws
 mod Running
+mod SameTurn
 mod Shorts
 pub mod StepLaws
 mod Truth

@@ -1,8 +1,9 @@
--- What holds of every walk's outcome, whatever the bytes: its reads are within what the trees allow, its count is that of its positions, there are no more of them than items, and a walk that was not refused has read everything that it had to.
+-- What holds of every walk's outcome, whatever the bytes: its reads are within what the trees allow, its count is that of its positions,
+-- there are no more of them than items, and a walk that was not refused has read everything that it had to.
 use mathlib.Core.Path.{_≡_, refl}
 use mathlib.Core.Bool.{Bool, true, false, cond, _||_}
 use mathlib.Core.List.{List}
-use Prim.Native.Nat.{ℕ, _+_, _-_, _≤_}
+use Prim.Native.Nat.{ℕ, _-_, _≤_}
 use native.Mathlib.Omega.{arith}
 use lib.Dec.{ltb}
 use lib.ListN.{length}

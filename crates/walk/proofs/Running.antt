@@ -8,7 +8,7 @@ use lib.ListN.{length, length-append}
 use lib.Seq.{sets, length-sets}
 use Rattle.walk.specs.Step.{Lent, Turn, upFrom, started, more, stepOf}
 use Rattle.walk.specs.Walks.{joined, left, walkFrom}
-use Rattle.walk.specs.steps.Contracts.{Steppable, turnOf, Stepped, Ran}
+use Rattle.walk.specs.steps.Contracts.{Steppable, Stepped, Ran}
 use Rattle.walk.specs.declared.state.Step.{Step}
 use Rattle.walk.specs.declared.state.WalkState.{WalkState}
 use Rattle.walk.proofs.Handing.{length-up, sets-append}

@@ -26,7 +26,8 @@ fitting h = record { sfits = h }
 pub same : (x : ℤ) → mag x < 32768 → seen x ≡ x
 same x h = toZ-ofZ (fitting h)
 
-pub same-overlap : {r : Bool} (a b c d : ℤ) → mag a < 32768 → mag b < 32768 → mag c < 32768 → mag d < 32768 → r ≡ overlap leZ (seen a) (seen b) (seen c) (seen d) → r ≡ overlap leZ a b c d
+pub same-overlap : {r : Bool} (a b c d : ℤ) → mag a < 32768 → mag b < 32768 → mag c < 32768 → mag d < 32768
+    → r ≡ overlap leZ (seen a) (seen b) (seen c) (seen d) → r ≡ overlap leZ a b c d
 same-overlap a b c d ha hb hc hd e = e ∙ ap₂ _&&_ (ap₂ leZ (same a ha) (same d hd)) (ap₂ leZ (same c hc) (same b hb))
 
 -- what a test of fields says is so of them

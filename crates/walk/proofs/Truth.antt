@@ -15,9 +15,6 @@ or-yes b h = rw h
 pub or-no : {a : Bool} (b : Bool) → a ≡ false → a || b ≡ b
 or-no b h = rw h
 
-pub both-yes : {a b : Bool} → a ≡ true → b ≡ true → a && b ≡ true
-both-yes {a} {b} h k = and-yes b h ∙ k
-
 pub both-first : (a b : Bool) → a && b ≡ true → a ≡ true
 both-first true b h = refl
 both-first false b h = h

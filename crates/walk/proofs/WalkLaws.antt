@@ -4,8 +4,8 @@ use mathlib.Core.Bool.{Bool, true, false, cond, _||_}
 use mathlib.Core.List.{_++_}
 use Prim.Native.Nat.{ℕ, zero, suc, _+_, _-_, _*_, _≤_, _<_, min, max}
 use native.Mathlib.Omega.{arith}
-use lib.Dec.{T, ltb, eqb}
-use lib.IntN.{ℤ, pos, negsuc}
+use lib.Dec.{ltb, eqb}
+use lib.IntN.{pos}
 use lib.Signed.{ltZ}
 use lib.ListN.{length, length-append}
 use borrow.Author.Tests.{ltb-true, ltb-false}
@@ -19,9 +19,10 @@ use Rattle.walk.specs.Walks.{joined, readOn, rangeNodes, allowance, left
 use Rattle.walk.specs.declared.core.WalkRefusal.the-variants.{TreeRange, NodeRecord, TooManyHandedOut}
 use Rattle.walk.specs.declared.state.Status.the-variants.{Going, Stopped}
 use Rattle.walk.specs.declared.state.WalkState.{WalkState}
-use Rattle.walk.proofs.Truth.{either-no-first, either-no-second}
+use Rattle.walk.proofs.Truth.{either-no-second}
 use Rattle.walk.proofs.Handing.{length-up}
-use Rattle.walk.proofs.StepLaws.{tree-refused, tree-entered, tree-passed, node-refused, node-handing, node-onward, step-node, step-tree, more-going, more-tree}
+use Rattle.walk.proofs.StepLaws.{tree-refused, tree-entered, tree-passed, node-refused, node-handing, node-onward}
+use Rattle.walk.proofs.StepLaws.{step-node, step-tree, more-going, more-tree}
 
 -- the records that a state is at
 abbrev pub treeOf : Lent → WalkState → BvhTree
@@ -33,11 +34,15 @@ nodeOf l s = nodeAt (l .nodes) (16 * s .at)
 -- What a reading from s leads to, by cases.
 pub data Reading (l : Lent) (s : WalkState) : Turn → Type 0 where
   refused-tree : s .last ≤ s .at → badRange (l .sizes .nodes) (treeOf l s) ≡ true → Reading l s (quiet (refused TreeRange s))
-  entered-tree : s .last ≤ s .at → badRange (l .sizes .nodes) (treeOf l s) ≡ false → meets (l .query) (treeOf l s .min) (treeOf l s .max) ≡ true → Reading l s (quiet (entering (treeOf l s) s))
-  passed-tree : s .last ≤ s .at → badRange (l .sizes .nodes) (treeOf l s) ≡ false → meets (l .query) (treeOf l s .min) (treeOf l s .max) ≡ false → Reading l s (quiet (passing s))
+  entered-tree : s .last ≤ s .at → badRange (l .sizes .nodes) (treeOf l s) ≡ false
+      → meets (l .query) (treeOf l s .min) (treeOf l s .max) ≡ true → Reading l s (quiet (entering (treeOf l s) s))
+  passed-tree : s .last ≤ s .at → badRange (l .sizes .nodes) (treeOf l s) ≡ false
+      → meets (l .query) (treeOf l s .min) (treeOf l s .max) ≡ false → Reading l s (quiet (passing s))
   refused-node : s .at < s .last → badNode (s .at) (s .last) (l .sizes .items) (nodeOf l s) ≡ true → Reading l s (quiet (refused NodeRecord s))
-  met-node : s .at < s .last → badNode (s .at) (s .last) (l .sizes .items) (nodeOf l s) ≡ false → meets (l .query) (nodeOf l s .min) (nodeOf l s .max) ≡ true → Reading l s (handing (l .sizes .items) (nodeOf l s) s)
-  missed-node : s .at < s .last → badNode (s .at) (s .last) (l .sizes .items) (nodeOf l s) ≡ false → meets (l .query) (nodeOf l s .min) (nodeOf l s .max) ≡ false → Reading l s (quiet (onward (strideOf (nodeOf l s)) s))
+  met-node : s .at < s .last → badNode (s .at) (s .last) (l .sizes .items) (nodeOf l s) ≡ false
+      → meets (l .query) (nodeOf l s .min) (nodeOf l s .max) ≡ true → Reading l s (handing (l .sizes .items) (nodeOf l s) s)
+  missed-node : s .at < s .last → badNode (s .at) (s .last) (l .sizes .items) (nodeOf l s) ≡ false
+      → meets (l .query) (nodeOf l s .min) (nodeOf l s .max) ≡ false → Reading l s (quiet (onward (strideOf (nodeOf l s)) s))
 
 module _ (l : Lent) (s : WalkState) where
   abbrev t : BvhTree
@@ -46,12 +51,14 @@ module _ (l : Lent) (s : WalkState) where
   abbrev n : BvhNode
   n = nodeOf l s
 
-  at-tree : s .last ≤ s .at → (b m : Bool) → badRange (l .sizes .nodes) t ≡ b → meets (l .query) (t .min) (t .max) ≡ m → Reading l s (quiet (atTree (l .query) (l .sizes .nodes) t s))
+  at-tree : s .last ≤ s .at → (b m : Bool) → badRange (l .sizes .nodes) t ≡ b → meets (l .query) (t .min) (t .max) ≡ m
+      → Reading l s (quiet (atTree (l .query) (l .sizes .nodes) t s))
   at-tree h true m e k = subst (λ (u : WalkState). Reading l s (quiet u)) (sym (tree-refused (l .query) (l .sizes .nodes) t s e)) (refused-tree h e)
   at-tree h false true e k = subst (λ (u : WalkState). Reading l s (quiet u)) (sym (tree-entered (l .query) (l .sizes .nodes) t s e k)) (entered-tree h e k)
   at-tree h false false e k = subst (λ (u : WalkState). Reading l s (quiet u)) (sym (tree-passed (l .query) (l .sizes .nodes) t s e k)) (passed-tree h e k)
 
-  at-node : s .at < s .last → (b m : Bool) → badNode (s .at) (s .last) (l .sizes .items) n ≡ b → meets (l .query) (n .min) (n .max) ≡ m → Reading l s (atNode (l .query) (l .sizes .items) n s)
+  at-node : s .at < s .last → (b m : Bool) → badNode (s .at) (s .last) (l .sizes .items) n ≡ b → meets (l .query) (n .min) (n .max) ≡ m
+      → Reading l s (atNode (l .query) (l .sizes .items) n s)
   at-node h true m e k = subst (Reading l s) (sym (node-refused (l .query) (l .sizes .items) n s e)) (refused-node h e)
   at-node h false true e k = subst (Reading l s) (sym (node-handing (l .query) (l .sizes .items) n s e k)) (met-node h e k)
   at-node h false false e k = subst (Reading l s) (sym (node-onward (l .query) (l .sizes .items) n s e k)) (missed-node h e k)
@@ -68,19 +75,6 @@ module _ (l : Lent) (s : WalkState) where
           subst (Reading l s) (sym (step-tree l s h)) (at-tree h _ _ refl refl)
 
 -- ---- a range that is not refused
-ordered : (a b : ℤ) → ltZ a (pos 0) ≡ false → ltZ b a ≡ false → whole a ≤ whole b
-ordered (pos a) (pos b) h k = ltb-false b a k
-ordered (pos a) (negsuc b) h k = absurd (subst T k tt)
-ordered (negsuc a) b h k = absurd (subst T h tt)
-
-pub range-ordered : (nodes : ℕ) (t : BvhTree) → badRange nodes t ≡ false → whole (t .«node_index1») ≤ whole (t .«node_index2»)
-unfolding badRange
-range-ordered nodes t e =
-    let k = either-no-first (ltZ (t .«node_index1») (pos 0) || ltZ (t .«node_index2») (t .«node_index1»)) (ltb nodes (whole (t .«node_index2»))) e in
-    ordered (t .«node_index1») (t .«node_index2»)
-    (either-no-first (ltZ (t .«node_index1») (pos 0)) (ltZ (t .«node_index2») (t .«node_index1»)) k)
-    (either-no-second (ltZ (t .«node_index1») (pos 0)) (ltZ (t .«node_index2») (t .«node_index1»)) k)
-
 pub range-within : (nodes : ℕ) (t : BvhTree) → badRange nodes t ≡ false → whole (t .«node_index2») ≤ nodes
 unfolding badRange
 range-within nodes t e =
@@ -110,7 +104,8 @@ stopped-or-on : (b : Bool) (x : ℕ) → cond (going (cond b (Stopped TooManyHan
 stopped-or-on true x = omega arith
 stopped-or-on false x = omega arith
 
-handing-left : (l : Lent) (items : ℕ) (n : BvhNode) (s : WalkState) → left l (handing items n s .state) ≤ s .last - (s .at + 1) + allowance l (s .tree) (l .sizes .trees - s .tree)
+handing-left : (l : Lent) (items : ℕ) (n : BvhNode) (s : WalkState)
+    → left l (handing items n s .state) ≤ s .last - (s .at + 1) + allowance l (s .tree) (l .sizes .trees - s .tree)
 unfolding handing
 handing-left l items n s = stopped-or-on (ltb (items - s .handed) (whole (n .«item_count»))) _
 
@@ -118,7 +113,7 @@ module _ (l : Lent) (s : WalkState) (g : more (l .sizes .trees) s ≡ true) wher
   left-going : left l s ≡ s .last - s .at + allowance l (s .tree) (l .sizes .trees - s .tree)
   left-going = rw (more-going (l .sizes .trees) s g)
 
-  left-some : 0 < left l s
+  pub left-some : 0 < left l s
   left-some = go (ltb (s .at) (s .last)) refl
     where
       go : (b : Bool) → ltb (s .at) (s .last) ≡ b → 0 < left l s
@@ -153,15 +148,15 @@ read-more : (k : ℕ) (l : Lent) (s : WalkState) → more (l .sizes .trees) s �
 unfolding readOn
 read-more k l s e = rw (e, readOn)
 
-none-left : (l : Lent) (s : WalkState) → left l s ≤ 0 → more (l .sizes .trees) s ≡ false
+pub none-left : (l : Lent) (s : WalkState) → left l s ≤ 0 → more (l .sizes .trees) s ≡ false
 none-left l s h = go (more (l .sizes .trees) s) refl
   where
     go : (b : Bool) → more (l .sizes .trees) s ≡ b → b ≡ false
     go true e = absurd (let z = left-some l s e in let o : ⊥ = omega arith in o)
     go false e = refl
 
--- as many readings as may be left are enough
-same-rest : (l : Lent) (k m : ℕ) (s : WalkState) → (left l (stepOf l s .state) ≤ k → left l (stepOf l s .state) ≤ m → readOn k l (stepOf l s .state) ≡ readOn m l (stepOf l s .state))
+same-rest : (l : Lent) (k m : ℕ) (s : WalkState)
+    → (left l (stepOf l s .state) ≤ k → left l (stepOf l s .state) ≤ m → readOn k l (stepOf l s .state) ≡ readOn m l (stepOf l s .state))
     → left l s ≤ suc k → left l s ≤ suc m → readOn (suc k) l s ≡ readOn (suc m) l s
 same-rest l k m s ih h j = go (more (l .sizes .trees) s) refl
   where
@@ -180,15 +175,18 @@ enough l (suc k) zero s h j =
     read-none (suc k) l s e ∙ sym (read-none 0 l s e)
 enough l (suc k) (suc m) s h j = same-rest l k m s (λ f g. enough l k m (stepOf l s .state) f g) h j
 
+-- As many readings as may be left are enough: more make the same walk.
+pub read-enough : (l : Lent) (k : ℕ) (s : WalkState) → left l s ≤ k → readOn k l s ≡ walkFrom l s
+unfolding walkFrom
+read-enough l k s h = enough l k (left l s) s h (omega arith)
+
 -- A walk is a reading and the rest of the walk, or nothing where no record is left.
 pub walk-more : (l : Lent) (s : WalkState) → more (l .sizes .trees) s ≡ true → walkFrom l s ≡ joined (stepOf l s) (walkFrom l (stepOf l s .state))
-unfolding walkFrom
 walk-more l s e =
-    let k = left l s - 1 in
-    let z = left-some l s e in
     let f = step-falls l s e in
-    let n : left l s ≡ suc k = omega arith in
-    ap (λ (j : ℕ). readOn j l s) n ∙ read-more k l s e ∙ ap (joined (stepOf l s)) (enough l k (left l (stepOf l s .state)) (stepOf l s .state) (omega arith) (omega arith))
+    let k = left l s - 1 in
+    let whole : readOn (suc k) l s ≡ walkFrom l s = read-enough l (suc k) s (omega arith) in
+    sym whole ∙ read-more k l s e ∙ ap (joined (stepOf l s)) (read-enough l k (stepOf l s .state) (omega arith))
 
 pub walk-none : (l : Lent) (s : WalkState) → more (l .sizes .trees) s ≡ false → walkFrom l s ≡ quiet s
 unfolding walkFrom
@@ -198,7 +196,8 @@ walk-none l s e = read-none (left l s) l s e
 module _ (l : Lent) (P : WalkState → Turn → Type 0)
     (none : (s : WalkState) → more (l .sizes .trees) s ≡ false → P s (quiet s))
     (turn : (s : WalkState) (u : Turn) → more (l .sizes .trees) s ≡ true → P (stepOf l s .state) u → P s (joined (stepOf l s) u)) where
-  one-turn : (k : ℕ) (s : WalkState) → (left l (stepOf l s .state) ≤ k → P (stepOf l s .state) (walkFrom l (stepOf l s .state))) → left l s ≤ suc k → P s (walkFrom l s)
+  one-turn : (k : ℕ) (s : WalkState) → (left l (stepOf l s .state) ≤ k → P (stepOf l s .state) (walkFrom l (stepOf l s .state)))
+      → left l s ≤ suc k → P s (walkFrom l s)
   one-turn k s ih h = go (more (l .sizes .trees) s) refl
     where
       go : (b : Bool) → more (l .sizes .trees) s ≡ b → P s (walkFrom l s)
@@ -236,7 +235,9 @@ module _ (l : Lent) (s : WalkState) where
   handed-by (entered-tree h e m) = omega arith
   handed-by (passed-tree h e m) = omega arith
   handed-by (refused-node h e) = omega arith
-  handed-by (met-node h e m) = unfold handing in ap (λ (k : ℕ). s .handed + k) (sym (length-up (whole (nodeOf l s .«item_id»)) (handedOf (l .sizes .items) (nodeOf l s) s)))
+  handed-by (met-node h e m) =
+      let count = length-up (whole (nodeOf l s .«item_id»)) (handedOf (l .sizes .items) (nodeOf l s) s) in
+      unfold handing in ap (λ (k : ℕ). s .handed + k) (sym count)
   handed-by (missed-node h e m) = omega arith
 
   -- so are the positions handed out
@@ -275,7 +276,8 @@ walk-reads l s = walk-ind l (λ (s : WalkState) (u : Turn). u .state .reads ≤ 
     none : (s : WalkState) → more (l .sizes .trees) s ≡ false → s .reads ≤ s .reads + left l s
     none s e = omega arith
 
-    turn : (s : WalkState) (u : Turn) → more (l .sizes .trees) s ≡ true → u .state .reads ≤ stepOf l s .state .reads + left l (stepOf l s .state) → u .state .reads ≤ s .reads + left l s
+    turn : (s : WalkState) (u : Turn) → more (l .sizes .trees) s ≡ true
+        → u .state .reads ≤ stepOf l s .state .reads + left l (stepOf l s .state) → u .state .reads ≤ s .reads + left l s
     turn s u e h = omega (arith, step-falls l s e, step-reads l s)
 
 -- Its count of positions is theirs.
@@ -285,12 +287,15 @@ walk-handed l s = walk-ind l (λ (s : WalkState) (u : Turn). u .state .handed �
     none : (s : WalkState) → more (l .sizes .trees) s ≡ false → s .handed ≡ s .handed + 0
     none s e = omega arith
 
-    turn : (s : WalkState) (u : Turn) → more (l .sizes .trees) s ≡ true → u .state .handed ≡ stepOf l s .state .handed + length (u .given) → u .state .handed ≡ s .handed + length (stepOf l s .given ++ u .given)
+    turn : (s : WalkState) (u : Turn) → more (l .sizes .trees) s ≡ true
+        → u .state .handed ≡ stepOf l s .state .handed + length (u .given) → u .state .handed ≡ s .handed + length (stepOf l s .given ++ u .given)
     turn s u e h = omega (arith, step-handed l s, length-append (stepOf l s .given) (u .given))
 
 -- It hands out no more than there are items.
 pub walk-within : (l : Lent) (s : WalkState) → s .handed ≤ l .sizes .items → walkFrom l s .state .handed ≤ l .sizes .items
-walk-within l s = walk-ind l (λ (s : WalkState) (u : Turn). s .handed ≤ l .sizes .items → u .state .handed ≤ l .sizes .items) (λ s e h. h) (λ s u e f h. f (step-handed-within l s h)) s
+walk-within l s =
+    walk-ind l (λ (s : WalkState) (u : Turn). s .handed ≤ l .sizes .items → u .state .handed ≤ l .sizes .items)
+    (λ s e h. h) (λ s u e f h. f (step-handed-within l s h)) s
 
 -- ---- what trees allow, by the number of nodes
 range-few : (l : Lent) (k : ℕ) → rangeNodes l k ≤ l .sizes .nodes

@@ -16,7 +16,8 @@ whole (negsuc n) = 0
 unfoldable pub badRange : ℕ → BvhTree → Bool
 badRange nodes t = ltZ (t .«node_index1») (pos 0) || ltZ (t .«node_index2») (t .«node_index1») || ltb nodes (whole (t .«node_index2»))
 
--- Rule W6 (01, Walk, 10: count negative; id negative; with count 0, at + max(id,1) past last; with count above 0, id + count past items), for the node at a number of a range.
+-- Rule W6 (01, Walk, 10: count negative; id negative; with count 0, at + max(id,1) past last; with count above 0, id + count past items),
+-- for the node at a number of a range.
 unfoldable pub badNode : ℕ → ℕ → ℕ → BvhNode → Bool
 badNode at last items n =
     ltZ (n .«item_count») (pos 0) || ltZ (n .«item_id») (pos 0)

@@ -88,6 +88,10 @@ onward by s =
 abbrev pub handedOf : ℕ → BvhNode → WalkState → ℕ
 handedOf items n s = min (whole (n .«item_count»)) (items - s .handed)
 
+-- 11 at the first that would pass the item count: what is behind a leaf of `count` positions, of which `room` are left
+abbrev pub leafStatus : ℕ → ℕ → Status
+leafStatus room count = cond (ltb room count) (Stopped TooManyHandedOut) Going
+
 -- Rule W7 (01: a meeting leaf hands out its positions one by one, 11 at the first that would pass the item count). A count-0 node has none.
 unfoldable pub handing : ℕ → BvhNode → WalkState → Turn
 handing items n s =
@@ -100,7 +104,7 @@ handing items n s =
             last = s .last;
             reads = s .reads + 1;
             handed = s .handed + m;
-            status = cond (ltb (items - s .handed) (whole (n .«item_count»))) (Stopped TooManyHandedOut) Going;
+            status = leafStatus (items - s .handed) (whole (n .«item_count»));
           };
       given = upFrom (whole (n .«item_id»)) m;
     }

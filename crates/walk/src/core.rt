@@ -72,7 +72,8 @@ pub fn run(
 ) -> WalkState
     requires { ⌜ Steppable sizes (now «node_bytes») (now «tree_bytes») started ⌝ }
     requires { ⌜ sizes .items ≤ length (now out) ⌝ }
-    ensures { λ r. ⌜ Ran (walkFrom (lentOf query sizes (now («node_bytes» .entry)) (now («tree_bytes» .entry))) started) (now (out .entry)) (now (out .exit)) r ⌝ }
+    ensures { λ r. ⌜ Ran (walkFrom (lentOf query sizes (now («node_bytes» .entry)) (now («tree_bytes» .entry))) started)
+        (now (out .entry)) (now (out .exit)) r ⌝ }
 {
     let mut s = WalkState::start();
     while s.unfinished(sizes.trees) {
@@ -121,7 +122,8 @@ pub fn walk_core(
     tree_bytes: &[u8],
     out: &mut [u16],
 ) -> Walk
-    ensures { λ r. ⌜ Promise (walkOf query cen inverse sizes (now («node_bytes» .entry)) (now («tree_bytes» .entry)) (length (now (out .entry)))) (now (out .entry)) (now (out .exit)) r ⌝ }
+    ensures { λ r. ⌜ Promise (walkOf query cen inverse sizes (now («node_bytes» .entry)) (now («tree_bytes» .entry)) (length (now (out .entry))))
+        (now (out .entry)) (now (out .exit)) r ⌝ }
 {
     if too_many(sizes) {
         return unread(WalkRefusal::TooMany);

@@ -17,7 +17,8 @@ pub fn walk_bvh(
     tree_bytes: &[u8],
     out: &mut [u16],
 ) -> Walk
-    ensures { λ r. ⌜ Promise (walkOf query cen inverse sizes (now («node_bytes» .entry)) (now («tree_bytes» .entry)) (length (now (out .entry)))) (now (out .entry)) (now (out .exit)) r ⌝ }
+    ensures { λ r. ⌜ Promise (walkOf query cen inverse sizes (now («node_bytes» .entry)) (now («tree_bytes» .entry)) (length (now (out .entry))))
+        (now (out .entry)) (now (out .exit)) r ⌝ }
 {
     NodeReader::new(node_bytes).walk(query, cen, inverse, sizes, tree_bytes, out)
 }

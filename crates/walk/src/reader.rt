@@ -39,7 +39,8 @@ impl<'a> NodeReader<'a> {
         tree_bytes: &[u8],
         out: &mut [u16],
     ) -> Walk
-        ensures { λ r. ⌜ Promise (walkOf query cen inverse sizes (now (self .entry .«node_bytes»)) (now («tree_bytes» .entry)) (length (now (out .entry)))) (now (out .entry)) (now (out .exit)) r ⌝ }
+        ensures { λ r. ⌜ Promise (walkOf query cen inverse sizes (now (self .entry .«node_bytes»)) (now («tree_bytes» .entry)) (length (now (out .entry))))
+            (now (out .entry)) (now (out .exit)) r ⌝ }
     {
         crate::core::walk_core(query, cen, inverse, sizes, self.node_bytes, tree_bytes, out)
     }

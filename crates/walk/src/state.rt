@@ -5,12 +5,11 @@ use crate::core::WalkRefusal;
 use base::numbers::Position;
 use records::BvhNode;
 ghost use mathlib.Core.Path.{_≡_};
-ghost use mathlib.Core.Bool.{true, false};
-ghost use Prim.Native.Nat.{_+_, _*_, _≤_, _<_};
-ghost use lib.Dec.{ltb};
+ghost use mathlib.Core.Bool.{true};
+ghost use Prim.Native.Nat.{_+_, _*_, _≤_, _<_, min};
 ghost use lib.ListN.{length};
 ghost use Rattle.records.specs.Records.{nodeAt, treeAt};
-ghost use Rattle.walk.specs.Step.{lentOf, quiet, refused, atTree, strideOf, handing, started, atNode, more, stepOf};
+ghost use Rattle.walk.specs.Step.{lentOf, quiet, refused, atTree, strideOf, leafStatus, handing, started, atNode, more, stepOf};
 ghost use Rattle.walk.specs.steps.Contracts.{Steppable, Stepped};
 
 // How many nodes, trees and items there are.
@@ -51,6 +50,23 @@ fn quiet(state: WalkState) -> Step
         state,
         first: Position(0),
         count: 0,
+    }
+}
+
+fn lesser(a: usize, b: usize) -> usize
+    ensures { λ r. ⌜ r ≡ min a b ⌝ }
+{
+    if b < a { b } else { a }
+}
+
+// Refusal 11, where a node has more positions than there is room for.
+fn leaf_status(room: usize, count: usize) -> Status
+    ensures { λ r. ⌜ r ≡ leafStatus room count ⌝ }
+{
+    if room < count {
+        Status::Stopped(WalkRefusal::TooManyHandedOut)
+    } else {
+        Status::Going
     }
 }
 
@@ -147,37 +163,26 @@ impl WalkState {
         let id = crate::refusals::number(n.item_id);
         let count = crate::refusals::number(n.item_count);
         let room = items - self.handed;
-        if room < count {
-            return Step {
-                state: WalkState {
-                    tree: self.tree,
-                    at: self.at + 1,
-                    last: self.last,
-                    reads: self.reads + 1,
-                    handed: self.handed + room,
-                    status: Status::Stopped(WalkRefusal::TooManyHandedOut),
-                },
-                first: Position(id as u32),
-                count: room,
-            };
-        }
+        let m = lesser(count, room);
+        let status = leaf_status(room, count);
         Step {
             state: WalkState {
                 tree: self.tree,
                 at: self.at + 1,
                 last: self.last,
                 reads: self.reads + 1,
-                handed: self.handed + count,
-                status: Status::Going,
+                handed: self.handed + m,
+                status,
             },
             first: Position(id as u32),
-            count,
+            count: m,
         }
     }
 
     // The next node record of the range is read.
     fn at_node(self, query: Query, items: usize, node_bytes: &[u8]) -> Step
-        requires { ⌜ (16 * self .at + 16 ≤ length (now «node_bytes»)) × (self .handed ≤ items) × (items ≤ 65535) × (self .at < 65535) × (self .reads < 4294967296) ⌝ }
+        requires { ⌜ (16 * self .at + 16 ≤ length (now «node_bytes»)) × (self .at < 65535) × (self .reads < 4294967296) ⌝ }
+        requires { ⌜ (self .handed ≤ items) × (items ≤ 65535) ⌝ }
         ensures { λ r. ⌜ Stepped (atNode query items (nodeAt (now («node_bytes» .entry)) (16 * self .at)) self) r ⌝ }
     {
         let n = crate::reader::node_numbered(node_bytes, self.at);

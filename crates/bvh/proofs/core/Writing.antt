@@ -19,7 +19,7 @@ use Rattle.bvh.specs.Entry.{Outputs, entriesIn}
 use Rattle.bvh.specs.Items.{marked}
 use Rattle.bvh.specs.Output.{over, nodesBytes, padBytes, capacityOf, treesBytes, orderOf}
 use Rattle.bvh.specs.Ranges.{ranges, rangeLimit}
-use Rattle.bvh.specs.Rows.{Row, rows}
+use Rattle.bvh.specs.Rows.{rows}
 use Rattle.bvh.specs.Tree.{Node, leaf, inner, Builder, builder, grow, boxOf, leafOrder, size}
 use Rattle.bvh.specs.steps.Core.{NodesWritten, OrderFits, Writable, Written}
 use Rattle.bvh.specs.steps.Decode.{Below, RowsFit, SmallRows}

@@ -2,10 +2,10 @@
 use Prim.Native.Nat.{ℕ, _+_, _-_, _*_, _≤_, _<_}
 use native.Mathlib.Omega.{arith}
 use native.Mathlib.Numerals.{add-one}
-use mathlib.Core.Path.{_≡_, refl, sym, ap, _∙_, subst}
+use mathlib.Core.Path.{_≡_, sym, ap, _∙_, subst}
 use mathlib.Core.List.{List, [], _∷_, _++_, append-assoc, append-nil}
-use lib.ListN.{length, getD, take, drop, set, length-append, length-set, length-drop, take-append-drop}
-use lib.Seq.{length-take-le, take-suc, take-length, take-all}
+use lib.ListN.{length, getD, take, drop, set, length-append, length-set, take-append-drop}
+use lib.Seq.{length-take-le, take-suc}
 use Rattle.records.specs.declared.BvhNode.{BvhNode}
 use Rattle.records.specs.declared.scale.Scale.{Scale}
 use Rattle.records.specs.Records.{nodeBytes}

@@ -1,4 +1,5 @@
--- The builder's steps on lists: the lengths ks of the segments that wait, the places r that they hold, and what is laid before them. What is laid, followed by what the waiting segments give, is the whole tree.
+-- The builder's steps on lists: the lengths ks of the segments that wait, the places r that they hold, and what is laid before them. What is
+-- laid, followed by what the waiting segments give, is the whole tree.
 use Prim.Native.Nat.{ℕ, suc, _+_, _-_, _*_, _≤_, _<_}
 use native.Mathlib.Omega.{arith}
 use mathlib.Core.List.{List, [], _∷_, _++_, append-assoc, append-nil}
@@ -102,7 +103,8 @@ module _ (b : Builder) (law : Lawful b) (th : ℕ) (pos : 0 < th) where
           order-is = rw (t₁, d₁, t₂, d₂, ← append-assoc (leafOrder (grow b th f)) (leafOrder (grow b th g)) (ordersOf b th ks u)) (rw e at (p .order-is));
           rows-are =
               append-assoc laid (record { box = b .box ps; head = 0; count = 0 } ∷ []) _
-              ∙ rw (t₁, d₁, t₂, d₂, lk, ← append-assoc (bareRows lo (grow b th f)) (bareRows (lo + a) (grow b th g)) (rowsOf b th (lo + k) ks u)) (rw (e, li) at (p .rows-are));
+              ∙ rw (t₁, d₁, t₂, d₂, lk, ← append-assoc (bareRows lo (grow b th f)) (bareRows (lo + a) (grow b th g)) (rowsOf b th (lo + k) ks u))
+              (rw (e, li) at (p .rows-are));
           span = omega arith;
           some = (omega arith, (omega arith, p .some .1));
           whole = omega (arith, p .whole);

@@ -3,7 +3,7 @@ use Prim.Native.Nat.{ℕ, zero, suc, _+_, _*_, _≤_, _<_}
 use native.Mathlib.Omega.{arith}
 use native.Mathlib.Nat.{add-zero}
 use mathlib.Core.List.{List, [], _∷_, _++_, append-assoc, append-nil}
-use mathlib.Core.Path.{_≡_, refl, sym, ap, ap₂, _∙_}
+use mathlib.Core.Path.{_≡_, sym, ap, ap₂, _∙_}
 use lib.ListN.{length, getD, set, take, drop, length-append, length-drop, drop-of-length-le, take-append-drop}
 use lib.Seq.{take-suc, drop-cons, length-take-le, take-all, take-at}
 use borrow.Author.Tests.{ne-eqb, eq-eqb}
@@ -46,9 +46,6 @@ module _ (rs : List Row) (rest table : List ℕ) (i m : ℕ) (many : length rs �
   number : length (sizedFrom i rs) ≡ m
   number =
       omega (arith, length-append (take i rs) (sized (drop i rs)), length-take-le i rs (g .within), length-sized (drop i rs), length-drop i rs, g .within)
-
-  pub room : 8 * m ≤ length table
-  room = omega (arith, ap length (g .held), length-append (tableOf (sizedFrom i rs)) rest, length-table (sizedFrom i rs), number)
 
   -- what is read at a row from i on
   size-read : (j : ℕ) → sizeAt (rowsIn m table) (i + j) ≡ sizeAt (sized (drop i rs)) j
@@ -103,7 +100,8 @@ module _ (rs : List Row) (rest table : List ℕ) (i m : ℕ) (many : length rs �
     inner-turn l r two z =
         let inner : row .count ≡ 0 = sym (ap (λ (x : Row). x .count) row-is) ∙ z in
         let v : ℕ = 1 + l + r in
-        let head : record { box = row .box; head = v; count = row .count } ≡ sizedRow row behind = rw (eq-eqb (row .count) 0 inner, ← two .left, ← two .right) in
+        let head : record { box = row .box; head = v; count = row .count } ≡ sizedRow row behind =
+        rw (eq-eqb (row .count) 0 inner, ← two .left, ← two .right) in
         record {
           within = omega (arith, below);
           held =

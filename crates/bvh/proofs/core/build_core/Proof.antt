@@ -8,15 +8,20 @@ use mathlib.Core.Path.{_≡_, sym, _∙_}
 use lib.Seq.{length-take-le}
 use Rattle.bvh.specs.Build.{short}
 use Rattle.bvh.specs.Entry.{Outputs, Lent, lengthsOf}
-use Rattle.bvh.proofs.core.Answering.{Enough, enough, work-room, writable, too-many-entries, threshold-below, threshold-above, buffer-too-short, too-many-nodes, built}
+use Rattle.bvh.proofs.core.Answering.{Enough, enough, work-room, writable}
+use Rattle.bvh.proofs.core.Answering.{too-many-entries, threshold-below, threshold-above, buffer-too-short, too-many-nodes, built}
 use native.Mathlib.Omega.{arith}
 
--- where the lengths are checked, from where the tree is planted, and that place from where its nodes are counted
+-- where the lengths are checked, from where the tree is planted; that place from where its nodes are counted; and this from where all is
+-- written
 abbrev checked : tie.After-plant → tie.Else4
 checked c = c .before .before .before .before .before .before
 
 abbrev grown : tie.Else5 → tie.After-plant
 grown c = c .before .before .before .before .before .before .before .before .before .before
+
+abbrev counted : tie.After-write-tree → tie.Else5
+counted c = c .before .before .before .before .before .before .before
 
 abbrev start : tie.Else4 → tie.Start
 start c = c .before .before .before .before .before .before .before .before .before .before .before .before .before
@@ -60,7 +65,9 @@ too-short-requires : tie.Need-too-short-requires
 too-short-requires c κs = search needs
 
 returns-4 : tie.Need-returns-4
-returns-4 c = buffer-too-short _ _ _ _ _ (c .before .before .before .before .if1 .left) (c .before .before .before .if2 .left) (c .before .before .if3 .left) (sym (c .before .too-short .ensures) ∙ c .if4 .taken)
+returns-4 c =
+    let short = sym (c .before .too-short .ensures) ∙ c .if4 .taken in
+    buffer-too-short _ _ _ _ _ (c .before .before .before .before .if1 .left) (c .before .before .before .if2 .left) (c .before .before .if3 .left) short
 
 mul-listed : tie.Need-mul-listed
 mul-listed c = search needs
@@ -93,10 +100,12 @@ returns-5 c =
 
 write-tree-requires : tie.Need-write-tree-requires
 write-tree-requires c κs =
-    let g = grown (c .before .before .before .before .before .before) in
+    let counted = c .before .before .before .before .before .before in
+    let g = grown counted in
     let p = checked g in
     let k = g .plant .kept in
-    writable _ _ (before p) (work p) (few p) (some p) (room p) _ _ _ _ (g .plant .ensures) (c .before .before .before .before .before .before .if5 .left) (k .1 .0) (k .1 .1 .0) (k .1 .1 .1 .1 .0)
+    writable _ _ (before p) (work p) (few p) (some p) (room p) _ _ _ _ (g .plant .ensures) (counted .if5 .left)
+    (k .1 .0) (k .1 .1 .0) (k .1 .1 .1 .1 .0)
 
 same-length-5 : tie.Need-same-length-5
 same-length-5 c = search needs
@@ -108,10 +117,14 @@ same-length-7 : tie.Need-same-length-7
 same-length-7 c = search needs
 
 same-length-8 : tie.Need-same-length-8
-same-length-8 c = grown (c .before .before .before .before .before .before .before .before .before .before .before .before .before .before .before) .plant .kept .1 .0
+same-length-8 c =
+    let w = c .before .before .before .before .before .before .before .before in
+    grown (counted w) .plant .kept .1 .0
 
 same-length-9 : tie.Need-same-length-9
-same-length-9 c = c .before .before .before .before .before .before .before .before .write-tree .kept .1 .1 .1 .1 .1 .0 ∙ grown (c .before .before .before .before .before .before .before .before .before .before .before .before .before .before .before) .plant .kept .1 .1 .0
+same-length-9 c =
+    let w = c .before .before .before .before .before .before .before .before in
+    w .write-tree .kept .1 .1 .1 .1 .1 .0 ∙ grown (counted w) .plant .kept .1 .1 .0
 
 same-length-10 : tie.Need-same-length-10
 same-length-10 c = search needs
@@ -121,10 +134,11 @@ same-length-11 c = search needs
 
 returns-6 : tie.Need-returns-6
 returns-6 c =
-    let g = grown (c .before .before .before .before .before .before .before .before .before .before .before .before .before .before .before) in
+    let w = c .before .before .before .before .before .before .before .before in
+    let g = grown (counted w) in
     let p = checked g in
-    built _ _ _ _ _ (few p) (some p) (most p) (long p) (omega (arith, c .before .before .before .before .before .before .before .before .before .before .before .before .before .before .before .if5 .left, g .plant .ensures .grown .size-is)) _ _
-    (c .before .before .before .before .before .before .before .before .write-tree .ensures)
+    built _ _ _ _ _ (few p) (some p) (most p) (long p) (omega (arith, counted w .if5 .left, g .plant .ensures .grown .size-is)) _ _
+    (w .write-tree .ensures)
 
 pub build-core-spec : {M : Type 1} → statement M
 build-core-spec =

@@ -21,8 +21,9 @@ same-length c = search needs
 
 returns : tie.Need-returns
 returns c =
-    let before = c .before .before .before .before .before in
-    nodes-padded _ _ _ _ _ _ _ (before .before .before .before .before .put-nodes .ensures) _ (before .if1 .taken) (before .before .before .before .before .before .before .before .before .before .pre .2) (c .before .before .pad-nodes .ensures)
+    let put = c .before .before .before .before .before .before .before .before .before in
+    let one = c .before .before .before .before .before .if1 .taken in
+    nodes-padded _ _ _ _ _ _ _ (put .put-nodes .ensures) _ one (put .before .before .before .before .before .pre .2) (c .before .before .pad-nodes .ensures)
 
 same-length-2 : tie.Need-same-length-2
 same-length-2 c = search needs

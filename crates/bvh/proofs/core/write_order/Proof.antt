@@ -2,7 +2,6 @@
 use borrow.Author.Needs.{needs}
 use Rattle.bvh.proofs.core.write_order.Statement.{statement}
 use Rattle.bvh.proofs.core.write_order.Tie as tie
-use Prim.Native.Nat.{_≤_}
 use mathlib.Core.Path.{_≡_, sym}
 use lib.ListN.{length, take}
 use Rattle.bvh.proofs.core.Planting.{gathered-below, gathered-long}

@@ -15,7 +15,9 @@ use Rattle.bvh.proofs.emit.Writing.{Writing, row-next}
 use native.Mathlib.Omega.{arith}
 
 abbrev Inv-loop : tie.InvT-loop
-Inv-loop node-bytes₀ rows m leaf-order scale threshold i₀ node-bytes i = Writing node-bytes₀ node-bytes (nodesBytes scale threshold leaf-order (take i (rowsIn m rows))) i m
+Inv-loop node-bytes₀ rows m leaf-order scale threshold i₀ node-bytes i =
+    let written = nodesBytes scale threshold leaf-order (take i (rowsIn m rows)) in
+    Writing node-bytes₀ node-bytes written i m
 
 abbrev μ-loop : tie.MeasureT-loop
 μ-loop node-bytes₀ rows m leaf-order scale threshold i₀ node-bytes i = m - i

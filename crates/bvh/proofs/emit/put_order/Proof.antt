@@ -27,7 +27,9 @@ shared-slice-read-order : tie.Need-shared-slice-read-order Inv-loop μ-loop
 shared-slice-read-order c = omega arith
 
 cast-order : tie.Need-cast-order Inv-loop μ-loop
-cast-order c = omega (arith, below-at 65536 (c .before .before .before .args .places .now) (c .before .before .loop .i) (c .before .before .before .pre .1) (omega arith))
+cast-order c =
+    let s = c .before .before .before in
+    omega (arith, below-at 65536 (s .args .places .now) (c .before .before .loop .i) (s .pre .1) (omega arith))
 
 mul-order-2 : tie.Need-mul-order-2 Inv-loop μ-loop
 mul-order-2 c = omega arith
@@ -44,7 +46,8 @@ loop-less c = omega arith
 loop-again : tie.Need-loop-again Inv-loop μ-loop
 loop-again c =
     let l = c .before .before .loop in
-    number-next (c .before .before .before .args .order .now) (l .order) (c .before .before .before .args .places .now) (l .i) (l .inv) (omega arith) (omega arith)
+    let a = c .before .before .before .args in
+    number-next (a .order .now) (l .order) (a .places .now) (l .i) (l .inv) (omega arith) (omega arith)
 
 same-length : tie.Need-same-length Inv-loop μ-loop
 same-length c = c .before .loop .inv .same

@@ -4,7 +4,6 @@ use Rattle.bvh.proofs.emit.row_node.Statement.{statement}
 use Rattle.bvh.proofs.emit.row_node.Tie as tie
 use Prim.Native.Nat.{ℕ, _<_}
 use mathlib.Core.Path.{_≡_, sym, ap, subst, _∙_}
-use lib.IntN.{pos}
 use lib.ListN.{length}
 use mir.Syntax.{w16}
 use mir.Val.{toZ}
@@ -24,8 +23,11 @@ row c = rowAt (start c .args .rows .now) (start c .args .i)
 
 id-is : (c : tie.After-item-id) → c .item-id .result ≡ idOf (start c .args .threshold) (start c .args .leaf-order .now) (row c)
 id-is c =
+    let a = start c .args in
+    let head = c .before .row-head .ensures in
+    let count = c .before .before .row-count .ensures in
     c .item-id .ensures (row c .box)
-    ∙ (λ j. idOf (start c .args .threshold) (start c .args .leaf-order .now) (record { box = row c .box; head = c .before .row-head .ensures j; count = c .before .before .row-count .ensures j }))
+    ∙ (λ j. idOf (a .threshold) (a .leaf-order .now) (record { box = row c .box; head = head j; count = count j }))
 
 row-box-requires : tie.Need-row-box-requires
 row-box-requires c κs = search needs
@@ -38,8 +40,10 @@ row-head-requires c κs = search needs
 
 item-id-requires : tie.Need-item-id-requires
 item-id-requires c κs =
-    let leaves = length (c .before .before .before .before .before .args .leaf-order .now) in
-    λ some. subst (λ (h : ℕ). h < leaves) (sym (c .row-head .ensures)) (c .before .before .before .before .before .pre .1 .inside (subst (λ (n : ℕ). 0 < n) (c .before .row-count .ensures) some))
+    let s = c .before .before .before .before .before in
+    let leaves = length (s .args .leaf-order .now) in
+    let count = c .before .row-count .ensures in
+    λ some. subst (λ (h : ℕ). h < leaves) (sym (c .row-head .ensures)) (s .pre .1 .inside (subst (λ (n : ℕ). 0 < n) count some))
 
 quantise-requires : tie.Need-quantise-requires
 quantise-requires c κs = search needs
@@ -49,7 +53,8 @@ quantise-requires-2 c κs = search needs
 
 cast-t12 : tie.Need-cast-t12
 cast-t12 c =
-    let small : c .before .before .item-id .result < 32768 = subst (λ (n : ℕ). n < 32768) (sym (id-is (c .before .before))) (start (c .before .before) .pre .1 .id) in
+    let i = c .before .before in
+    let small : i .item-id .result < 32768 = subst (λ (n : ℕ). n < 32768) (sym (id-is i)) (start i .pre .1 .id) in
     search needs
 
 cast-t13 : tie.Need-cast-t13

@@ -30,85 +30,12 @@ use ghost.Atoms.{Atoms, sem}
 use contract.Lifetimes.{Lfts, Shares, toks}
 use contract.Monad.{Fun, fact}
 use contract.Running.{givenOf, tables, tablesOf}
-use types.Kit.{
-  Given,
-  Item,
-  Sq,
-  runs,
-  passes,
-  anyQ,
-  atRet,
-  ‵,
-  raw,
-  _⊛_,
-  ⋆,
-  some,
-  given,
-  later,
-  _$_,
-  _∵_,
-  !,
-  qed,
-  by,
-  move,
-  keep,
-  drop as let-go,
-  use0,
-  use1,
-  use2,
-  use3,
-  split,
-  join,
-  group,
-  pick,
-  learn,
-  rewrite,
-  fsplit,
-  fjoin,
-  feqL,
-  feqI,
-  suffices,
-  frame,
-  await,
-  done,
-}
+use types.Kit.{Given, Item, Sq, runs, passes, anyQ, atRet, ‵, raw, _⊛_, ⋆, some, given, later, _$_, _∵_, !, qed, by, suffices}
+use types.Kit.{move, keep, drop as let-go, use0, use1, use2, use3, split, join, group, pick, learn, rewrite, fsplit, fjoin, feqI, frame, await, done}
 use types.Part.{agg, whole, sub, look-in}
-use types.Run.{
-  look,
-  look-raw,
-  store,
-  init,
-  forget,
-  stop,
-  hop,
-  fld,
-  from,
-  load,
-  lit,
-  addr,
-  of-opd,
-  and-then,
-  no-more,
-  bin,
-  assigns,
-  assigns-last,
-  land,
-  first,
-  blocks,
-  stays,
-  leaves-loop,
-  exec,
-  Below,
-  again,
-  loops,
-  returns,
-  enter,
-  alloc1,
-  alloc0,
-  params1,
-  pass1,
-  pass0,
-}
+use types.Run.{look, look-raw, store, init, forget, stop, hop, fld, from, load, lit, addr, of-opd, and-then, no-more, bin}
+use
+    types.Run.{assigns, assigns-last, land, first, blocks, stays, leaves-loop, exec, Below, again, loops, returns, enter, alloc1, alloc0, params1, pass1, pass0}
 use types.Tokens.{lft-new, lft-end}
 use sound.WpLaws.{FmC, fmOf, WpFn-mono}
 use denote.RattleType.{RattleType, owns}
@@ -122,7 +49,7 @@ use denote.Slice.{sliceTy, sliceVal, ShrSlice, MutSlice, Room, finally, slice-va
 use denote.Steps.{nothing, only, owned, heard, peeks, facts}
 use denote.Struct.Laws as LL
 use denote.Enum.Laws as EL
-use denote.Triple.Entry.{Args, Vals, alive, onEntry}
+use denote.Triple.Entry.{Args, Vals, onEntry}
 use denote.Triple.Spec.{Meets, tripleOf}
 use denote.Triple.Statement.{Contract, Triple}
 use denote.Triple.Call.{calls-at}
@@ -346,28 +273,17 @@ module _ {M : Type 1} (𝓤 : URA M) (H : Heap 𝓤) (A : Atoms 𝓤) (W : Given
       → ent 𝓤 (⋆ 𝓤 H A (‵ (flft κ q) ∷ ‵ tkN ∷ ‵ tkT ∷ ‵ tkO ∷ ‵ tkE ∷ raw tks ∷ ‵ (lasts core.ended (κc ν) (core-args ν δ l) us)
       ∷ ‵ (finally u32 (entries .name) l) ∷ ‵ (B.the-row .own r (w ∷ [])) ∷ [])) (Post w)
   exits ν δ l r w us all same e =
-      qed W (‵ (flft κ q) ∷ ‵ tkN ∷ ‵ tkT ∷ ‵ tkO ∷ ‵ tkE ∷ raw tks ∷ ‵ (lasts core.ended (κc ν) (core-args ν δ l) us) ∷ ‵ (finally u32 (entries .name) l) ∷ ‵
-      (B.the-row .own r (w ∷ [])) ∷ []) ∵ suffices ! _ (ends-at 𝓤 H A f.ended stayed (f.clauses 𝓤 H A mem run) W bound w r (
-        tt,
-        (
-          tt,
-          (
-            us .1 .1 .1 .0,
-            (
-              us .1
-                  .1 .1 .1 .0,
-              (us .1 .1 .1 .1 .1 .0, (l, us .1 .1 .1 .1 .1 .1)),
-            ),
-          ),
-        ),
-      ) (tt, (tt, (tt, (tt, (tt, (tt, (tt, (tt, (tt, (tt, tt))))))))))) $
+      qed W (‵ (flft κ q) ∷ ‵ tkN ∷ ‵ tkT ∷ ‵ tkO ∷ ‵ tkE ∷ raw tks ∷ ‵ (lasts core.ended (κc ν) (core-args ν δ l) us) ∷ ‵ (finally u32 (entries .name) l)
+      ∷ ‵ (B.the-row .own r (w ∷ [])) ∷ []) ∵ suffices ! _ (ends-at 𝓤 H A f.ended stayed (f.clauses 𝓤 H A mem run) W bound w r
+      (tt, (tt, (us .1 .1 .1 .0, (us .1 .1 .1 .1 .0, (us .1 .1 .1 .1 .1 .0, (l, us .1 .1 .1 .1 .1 .1))))))
+      (tt, (tt, (tt, (tt, (tt, (tt, (tt, (tt, (tt, (tt, tt))))))))))) $
       says ! (answers (items .now) th (entries .now) (rest .0 .now) (rest .1 .0 .now) (rest .1 .1 .0 .now) (rest .1 .1 .1 .0 .now) r (outputs (nodes .now)
       (trees .now) (order .now)) (outputs (us .1 .1 .1 .0) (us .1 .1 .1 .1 .0) (us .1 .1 .1 .1 .1 .0)) (subst (λ (ws : List ℕ). Said ν δ ws r us) all e)) $
       move ! (6 ∷ []) $ fsplit ! $ move ! (1 ∷ []) $ fsplit ! $ move ! (1 ∷ []) $ fsplit ! $ move ! (1 ∷ []) $ fsplit ! $ move ! (1 ∷ []) $ fsplit ! $
       move ! (1 ∷ []) $ fsplit ! $ feqI ! ℕ (length l) (length (entries .now)) same $ move ! (14 ∷ 0 ∷ []) $ fjoin ! $ move ! (0 ∷ 2 ∷ []) $ fjoin ! $
-      move ! (1 ∷ 0 ∷ []) $ fjoin ! $ move ! (1 ∷ 0 ∷ []) $ fjoin ! $ move ! (1 ∷ 0 ∷ []) $ fjoin ! $ move ! (1 ∷ 0 ∷ []) $ fjoin ! $
-      move ! (1 ∷ 0 ∷ []) $ fjoin ! $ move ! (1 ∷ []) $ let-go ! $ move ! (5 ∷ 6 ∷ []) $ join ! $ move ! (5 ∷ 0 ∷ []) $ join ! $ move ! (4 ∷ 0 ∷ []) $
-      join ! $ move ! (3 ∷ 0 ∷ []) $ join ! $ move ! (2 ∷ 0 ∷ []) $ join ! $ done !
+      move ! (1 ∷ 0 ∷ []) $ fjoin ! $ move ! (1 ∷ 0 ∷ []) $ fjoin ! $ move ! (1 ∷ 0 ∷ []) $ fjoin ! $ move ! (1 ∷ 0 ∷ []) $ fjoin ! $ move ! (1 ∷ 0 ∷ []) $
+      fjoin ! $ move ! (1 ∷ []) $ let-go ! $ move ! (5 ∷ 6 ∷ []) $ join ! $ move ! (5 ∷ 0 ∷ []) $ join ! $ move ! (4 ∷ 0 ∷ []) $ join ! $
+      move ! (3 ∷ 0 ∷ []) $ join ! $ move ! (2 ∷ 0 ∷ []) $ join ! $ done !
 
   -- ---- the call of `taken`
   abbrev to-taken : Taken 𝓤 H A mem run .Ghost
@@ -392,8 +308,8 @@ module _ {M : Type 1} (𝓤 : URA M) (H : Heap 𝓤) (A : Atoms 𝓤) (W : Given
   abbrev to-put : ℕ → GName → List ℕ → ℕ → Put 𝓤 H A mem run .Ghost
   to-put ν δ l i = (((ν ∷ [], tt), (fullShare, tt), tt, (entries-at δ l, (i, (elem i, tt))), (slice-vals entries, (vint w64 i ∷ [], (mach i ∷ [], tt)))), tt)
 
-  goes-put : (ν : ℕ) (δ : GName) (l : List ℕ) (i : ℕ) → length l ≡ length (entries .now) → i < 2 ^ 64 → Is T.the-row (elem i) (mach i ∷ []) → 7 * i + 7 ≤
-      length l
+  goes-put : (ν : ℕ) (δ : GName) (l : List ℕ) (i : ℕ) → length l ≡ length (entries .now) → i < 2 ^ 64 → Is T.the-row (elem i) (mach i
+      ∷ []) → 7 * i + 7 ≤ length l
       → ent 𝓤 (sep 𝓤 (A .lft (ν ∷ []) fullShare) (sem 𝓤 H A (Lent erased (ν ∷ []) u32 .own (entries-at δ l)))) (Put 𝓤 H A mem run .pre (to-put ν δ l i))
   goes-put ν δ l i same i-fits g within =
       qed W (‵ (flft (ν ∷ []) fullShare) ∷ ‵ (Lent erased (ν ∷ []) u32 .own (entries-at δ l)) ∷ []) ∵ says ! within $ move ! (1 ∷ []) $ fsplit ! $
@@ -439,8 +355,8 @@ module _ {M : Type 1} (𝓤 : URA M) (H : Heap 𝓤) (A : Atoms 𝓤) (W : Given
   same-length : (i : Upto) → length (held (i .0)) ≡ length (entries .now)
   same-length i = let fits = taken-fits n (length (entries .now)) in length-apart (items .now) (entries .now) (i .0) (omega arith) (omega arith)
 
-  module _ (𝓣 : Tables 𝓤 H) (fm : FmC 𝓤 H (W .laws) (𝓣 .C)) (known-taken : Triple 𝓤 (𝓣 .C #bvh·entry·taken) (Taken 𝓤 H A mem run)) (known-put : Triple 𝓤 (𝓣
-      .C #bvh·entry·put-item) (Put 𝓤 H A mem run)) (known-core : Triple 𝓤 (𝓣 .C #bvh·core·build-core) (Core 𝓤 H A mem run)) where
+  module _ (𝓣 : Tables 𝓤 H) (fm : FmC 𝓤 H (W .laws) (𝓣 .C)) (known-taken : Triple 𝓤 (𝓣 .C #bvh·entry·taken) (Taken 𝓤 H A mem run)) (known-put : Triple 𝓤
+      (𝓣 .C #bvh·entry·put-item) (Put 𝓤 H A mem run)) (known-core : Triple 𝓤 (𝓣 .C #bvh·core·build-core) (Core 𝓤 H A mem run)) where
     abbrev C : Calls 𝓤 H
     C = 𝓣 .C
 
@@ -451,113 +367,111 @@ module _ {M : Type 1} (𝓤 : URA M) (H : Heap 𝓤) (A : Atoms 𝓤) (W : Given
         : ℕ) where
       abbrev En : Env 𝓤 H
       En =
-          (B′.mir, l0) ∷ (items-ty, l1) ∷ (tyInt w32, l2) ∷ (part (named 1) w8, l3) ∷ (part (named 2) w8, l4) ∷ (part (named 3) w16, l5) ∷ (
-            part (named 4)
-                w32,
-            l6,
-          ) ∷ (part (named 5) w32, l7) ∷ (part (named 6) w32, l8) ∷ (part (named 7) w32, l9) ∷ (part (named 8) w32, l10) ∷ (word, l11) ∷ (word, l12)
-          ∷ (word, l13) ∷ (word, l14) ∷ (tyBool, l15) ∷ (tyUnit, l16) ∷ (ref w32, l17) ∷ (part erased w32, l18) ∷ (word, l19) ∷ (tyPtr, l20) ∷ (T′.mir, l21)
-          ∷ (shared-ref, l22) ∷ (shared-part, l23) ∷ (ref w8, l24) ∷ (part erased w8, l25) ∷ (ref w8, l26) ∷ (part erased w8, l27) ∷ (ref w16, l28) ∷ (
-            part
-                erased w16,
-            l29,
-          ) ∷ (ref w32, l30) ∷ (part erased w32, l31) ∷ (ref w32, l32) ∷ (part erased w32, l33) ∷ (ref w32, l34) ∷ (part erased w32, l35) ∷
-          (ref w32, l36) ∷ (part erased w32, l37) ∷ []
+          (B′.mir, l0) ∷ (items-ty, l1) ∷ (tyInt w32, l2) ∷ (part (named 1) w8, l3) ∷ (part (named 2) w8, l4) ∷ (part (named 3) w16, l5)
+          ∷ (part (named 4) w32, l6) ∷ (part (named 5) w32, l7) ∷ (part (named 6) w32, l8) ∷ (part (named 7) w32, l9) ∷ (part (named 8) w32, l10)
+          ∷ (word, l11) ∷ (word, l12) ∷ (word, l13) ∷ (word, l14) ∷ (tyBool, l15) ∷ (tyUnit, l16) ∷ (ref w32, l17) ∷ (part erased w32, l18) ∷ (word, l19)
+          ∷ (tyPtr, l20) ∷ (T′.mir, l21) ∷ (shared-ref, l22) ∷ (shared-part, l23) ∷ (ref w8, l24) ∷ (part erased w8, l25) ∷ (ref w8, l26)
+          ∷ (part erased w8, l27) ∷ (ref w16, l28) ∷ (part erased w16, l29) ∷ (ref w32, l30) ∷ (part erased w32, l31) ∷ (ref w32, l32)
+          ∷ (part erased w32, l33) ∷ (ref w32, l34) ∷ (part erased w32, l35) ∷ (ref w32, l36) ∷ (part erased w32, l37) ∷ []
 
       -- the locals that only the call of the core fills
       abbrev lent-again : List Cell
       lent-again =
-          room (part erased w32) l37 ∷ room (ref w32) l36 ∷ room (part erased w32) l35 ∷ room (ref w32) l34 ∷ room (part erased w32) l33 ∷ room (ref w32)
-          l32 ∷ room (part erased w32) l31 ∷ room (ref w32) l30 ∷ room (part erased w16) l29 ∷ room (ref w16) l28 ∷ room (part erased w8) l27 ∷ room (ref
-          w8) l26 ∷ room (part erased w8) l25 ∷ room (ref w8) l24 ∷ room shared-part l23 ∷ room shared-ref l22 ∷ []
+          room (part erased w32) l37 ∷ room (ref w32) l36 ∷ room (part erased w32) l35 ∷ room (ref w32) l34 ∷ room (part erased w32) l33
+          ∷ room (ref w32) l32 ∷ room (part erased w32) l31 ∷ room (ref w32) l30 ∷ room (part erased w16) l29 ∷ room (ref w16) l28
+          ∷ room (part erased w8) l27 ∷ room (ref w8) l26 ∷ room (part erased w8) l25 ∷ room (ref w8) l24 ∷ room shared-part l23 ∷ room shared-ref l22 ∷ []
 
       -- what a turn does not touch: the other locals, the other slices and their tokens
       abbrev aside : List (Item 𝓤)
       aside =
-          cells 𝓤 (lent-again ++ (room word l14 ∷ room word l13 ∷ full (part (named 8) w32) l10 (sl (rest .1 .1 .1 .0)) ∷ full (part (named 7) w32) l9 (sl
-          (rest .1 .1 .0)) ∷ full (part (named 6) w32) l8 (sl (rest .1 .0)) ∷ full (part (named 5) w32) l7 (sl (rest .0)) ∷ full (part (named 3) w16) l5 (sl
-          order) ∷ full (part (named 2) w8) l4 (sl trees) ∷ full (part (named 1) w8) l3 (sl nodes) ∷ full (tyInt w32) l2 (vint w32 th) ∷ room B′.mir l0 ∷
-          [])) (‵ tkN ∷ ‵ tkT ∷ ‵ tkO ∷ raw tks ∷ ‵ Th ∷ ‵ Nodes ∷ ‵ Trees ∷ ‵ Order ∷ ‵ Rest ∷ [])
+          cells 𝓤 (lent-again ++ (room word l14 ∷ room word l13 ∷ full (part (named 8) w32) l10 (sl (rest .1 .1 .1 .0))
+          ∷ full (part (named 7) w32) l9 (sl (rest .1 .1 .0)) ∷ full (part (named 6) w32) l8 (sl (rest .1 .0)) ∷ full (part (named 5) w32) l7 (sl (rest .0))
+          ∷ full (part (named 3) w16) l5 (sl order) ∷ full (part (named 2) w8) l4 (sl trees) ∷ full (part (named 1) w8) l3 (sl nodes)
+          ∷ full (tyInt w32) l2 (vint w32 th) ∷ room B′.mir l0 ∷ [])) (‵ tkN ∷ ‵ tkT ∷ ‵ tkO ∷ raw tks ∷ ‵ Th ∷ ‵ Nodes ∷ ‵ Trees ∷ ‵ Order ∷ ‵ Rest ∷ [])
 
       -- what it touches
       abbrev used : Upto → List (Item 𝓤)
       used i =
-          cells 𝓤 (room T′.mir l21 ∷ room tyPtr l20 ∷ room word l19 ∷ room (part erased w32) l18 ∷ room (ref w32) l17 ∷ room tyUnit l16 ∷ room tyBool l15 ∷
-          full word l12 (vint w64 (i .0)) ∷ full word l11 (vint w64 k) ∷ full (part (named 4) w32) l6 (ev (length (entries .now))) ∷ full items-ty l1
-          (sliceVal (items .ptr) n) ∷ []) (‵ (flft κ q) ∷ ‵ tkE ∷ ‵ Items ∷ ‵ (Entries (held (i .0))) ∷ [])
+          cells 𝓤 (room T′.mir l21 ∷ room tyPtr l20 ∷ room word l19 ∷ room (part erased w32) l18 ∷ room (ref w32) l17 ∷ room tyUnit l16 ∷ room tyBool l15
+          ∷ full word l12 (vint w64 (i .0)) ∷ full word l11 (vint w64 k) ∷ full (part (named 4) w32) l6 (ev (length (entries .now)))
+          ∷ full items-ty l1 (sliceVal (items .ptr) n) ∷ []) (‵ (flft κ q) ∷ ‵ tkE ∷ ‵ Items ∷ ‵ (Entries (held (i .0))) ∷ [])
 
       -- the invariant
       abbrev At : Upto → List (Item 𝓤)
       At i = used i ++ (raw (⋆ 𝓤 H A aside) ∷ [])
 
       abbrev Turned : Upto → Out → SProp 𝓤
-      Turned i = afterTurn 𝓤 H (Below 𝓤 H A Nearer At i) (afterBlock 𝓤 H (afterSeq 𝓤 H (Wp 𝓤 H C Λ En pieces.t-6 (atReturn 𝓤 H En Post)) (atReturn 𝓤 H En
-          Post)))
+      Turned i = afterTurn 𝓤 H (Below 𝓤 H A Nearer At i) (afterBlock 𝓤 H (afterSeq 𝓤 H (Wp 𝓤 H C Λ En pieces.t-6 (atReturn 𝓤 H En Post))
+          (atReturn 𝓤 H En Post)))
 
       -- the rest of the body: the core is called
       last-call : (i : Upto) → k ≤ i .0 → Sq W (used i ++ aside) (runs C Λ En pieces.t-6 (atRet En Post))
       last-call i over =
-          assigns ! (of-opd ! (load ! (from ! (fld ! refl (stop !))) (look-in ! 20 (sub ! 1 refl (whole !))))) (from ! (stop !)) (init ! 60 refl (
-            tt,
-            record
-                { fits = yr .0 },
-          )) $ assigns ! (addr ! (from ! (fld ! refl (hop ! (look-in ! 18 (sub ! 0 refl (whole !))) (stop !))))) (from ! (stop !)) (init !
-          56 refl (tt, tt)) $ assigns ! (agg ! (and-then ! (load ! (from ! (stop !)) (look ! 56 refl)) (and-then ! (load ! (from ! (fld ! refl (stop !)))
-          (look-in ! 18 (sub ! 1 refl (whole !)))) (no-more !)))) (from ! (stop !)) (init ! 54 refl (tt, (tt, (record { fits = er .0 }, tt)))) $
+          assigns ! (of-opd ! (load ! (from ! (fld ! refl (stop !))) (look-in ! 20 (sub ! 1 refl (whole !))))) (from ! (stop !)) (init ! 60 refl
+          (tt, record { fits = yr .0 })) $ assigns ! (addr ! (from ! (fld ! refl (hop ! (look-in ! 18 (sub ! 0 refl (whole !))) (stop !))))) (from !
+          (stop !)) (init ! 56 refl (tt, tt)) $
+          assigns ! (agg ! (and-then ! (load ! (from ! (stop !)) (look ! 56 refl)) (and-then ! (load ! (from ! (fld ! refl (stop !))) (look-in ! 18
+          (sub ! 1 refl (whole !)))) (no-more !)))) (from ! (stop !)) (init ! 54 refl (tt, (tt, (record { fits = er .0 }, tt)))) $
           assigns ! (addr ! (from ! (fld ! refl (hop ! (look-in ! 74 (sub ! 0 refl (whole !))) (stop !))))) (from ! (stop !)) (init ! 52 refl (tt, tt)) $
-          assigns ! (agg ! (and-then ! (load ! (from ! (stop !)) (look ! 52 refl)) (and-then ! (load ! (from ! (fld ! refl (stop !))) (look-in ! 74 (sub ! 1
-          refl (whole !)))) (no-more !)))) (from ! (stop !)) (init ! 50 refl (tt, (tt, (record { fits = nr .0 }, tt)))) $
+          assigns ! (agg ! (and-then ! (load ! (from ! (stop !)) (look ! 52 refl)) (and-then ! (load ! (from ! (fld ! refl (stop !))) (look-in ! 74
+          (sub ! 1 refl (whole !)))) (no-more !)))) (from ! (stop !)) (init ! 50 refl (tt, (tt, (record { fits = nr .0 }, tt)))) $
           assigns ! (addr ! (from ! (fld ! refl (hop ! (look-in ! 72 (sub ! 0 refl (whole !))) (stop !))))) (from ! (stop !)) (init ! 48 refl (tt, tt)) $
-          assigns ! (agg ! (and-then ! (load ! (from ! (stop !)) (look ! 48 refl)) (and-then ! (load ! (from ! (fld ! refl (stop !))) (look-in ! 72 (sub ! 1
-          refl (whole !)))) (no-more !)))) (from ! (stop !)) (init ! 46 refl (tt, (tt, (record { fits = tr .0 }, tt)))) $
+          assigns ! (agg ! (and-then ! (load ! (from ! (stop !)) (look ! 48 refl)) (and-then ! (load ! (from ! (fld ! refl (stop !))) (look-in ! 72
+          (sub ! 1 refl (whole !)))) (no-more !)))) (from ! (stop !)) (init ! 46 refl (tt, (tt, (record { fits = tr .0 }, tt)))) $
           assigns ! (addr ! (from ! (fld ! refl (hop ! (look-in ! 70 (sub ! 0 refl (whole !))) (stop !))))) (from ! (stop !)) (init ! 44 refl (tt, tt)) $
-          assigns ! (agg ! (and-then ! (load ! (from ! (stop !)) (look ! 44 refl)) (and-then ! (load ! (from ! (fld ! refl (stop !))) (look-in ! 70 (sub ! 1
-          refl (whole !)))) (no-more !)))) (from ! (stop !)) (init ! 42 refl (tt, (tt, (record { fits = or .0 }, tt)))) $
+          assigns ! (agg ! (and-then ! (load ! (from ! (stop !)) (look ! 44 refl)) (and-then ! (load ! (from ! (fld ! refl (stop !))) (look-in ! 70
+          (sub ! 1 refl (whole !)))) (no-more !)))) (from ! (stop !)) (init ! 42 refl (tt, (tt, (record { fits = or .0 }, tt)))) $
           assigns ! (addr ! (from ! (fld ! refl (hop ! (look-in ! 68 (sub ! 0 refl (whole !))) (stop !))))) (from ! (stop !)) (init ! 40 refl (tt, tt)) $
-          assigns ! (agg ! (and-then ! (load ! (from ! (stop !)) (look ! 40 refl)) (and-then ! (load ! (from ! (fld ! refl (stop !))) (look-in ! 68 (sub ! 1
-          refl (whole !)))) (no-more !)))) (from ! (stop !)) (init ! 38 refl (tt, (tt, (record { fits = rr .0 .0 }, tt)))) $
+          assigns ! (agg ! (and-then ! (load ! (from ! (stop !)) (look ! 40 refl)) (and-then ! (load ! (from ! (fld ! refl (stop !))) (look-in ! 68
+          (sub ! 1 refl (whole !)))) (no-more !)))) (from ! (stop !)) (init ! 38 refl (tt, (tt, (record { fits = rr .0 .0 }, tt)))) $
           assigns ! (addr ! (from ! (fld ! refl (hop ! (look-in ! 66 (sub ! 0 refl (whole !))) (stop !))))) (from ! (stop !)) (init ! 36 refl (tt, tt)) $
-          assigns ! (agg ! (and-then ! (load ! (from ! (stop !)) (look ! 36 refl)) (and-then ! (load ! (from ! (fld ! refl (stop !))) (look-in ! 66 (sub ! 1
-          refl (whole !)))) (no-more !)))) (from ! (stop !)) (init ! 34 refl (tt, (tt, (record { fits = rr .1 .0 .0 }, tt)))) $
+          assigns ! (agg ! (and-then ! (load ! (from ! (stop !)) (look ! 36 refl)) (and-then ! (load ! (from ! (fld ! refl (stop !))) (look-in ! 66
+          (sub ! 1 refl (whole !)))) (no-more !)))) (from ! (stop !)) (init ! 34 refl (tt, (tt, (record { fits = rr .1 .0 .0 }, tt)))) $
           assigns ! (addr ! (from ! (fld ! refl (hop ! (look-in ! 64 (sub ! 0 refl (whole !))) (stop !))))) (from ! (stop !)) (init ! 32 refl (tt, tt)) $
-          assigns ! (agg ! (and-then ! (load ! (from ! (stop !)) (look ! 32 refl)) (and-then ! (load ! (from ! (fld ! refl (stop !))) (look-in ! 64 (sub ! 1
-          refl (whole !)))) (no-more !)))) (from ! (stop !)) (init ! 30 refl (tt, (tt, (record { fits = rr .1 .1 .0 .0 }, tt)))) $
+          assigns ! (agg ! (and-then ! (load ! (from ! (stop !)) (look ! 32 refl)) (and-then ! (load ! (from ! (fld ! refl (stop !))) (look-in ! 64
+          (sub ! 1 refl (whole !)))) (no-more !)))) (from ! (stop !)) (init ! 30 refl (tt, (tt, (record { fits = rr .1 .1 .0 .0 }, tt)))) $
           assigns ! (addr ! (from ! (fld ! refl (hop ! (look-in ! 62 (sub ! 0 refl (whole !))) (stop !))))) (from ! (stop !)) (init ! 28 refl (tt, tt)) $
-          assigns ! (agg ! (and-then ! (load ! (from ! (stop !)) (look ! 28 refl)) (and-then ! (load ! (from ! (fld ! refl (stop !))) (look-in ! 62 (sub ! 1
-          refl (whole !)))) (no-more !)))) (from ! (stop !)) (init ! 26 refl (tt, (tt, (record { fits = rr .1 .1 .1 .0 .0 }, tt)))) $
+          assigns ! (agg ! (and-then ! (load ! (from ! (stop !)) (look ! 28 refl)) (and-then ! (load ! (from ! (fld ! refl (stop !))) (look-in ! 62
+          (sub ! 1 refl (whole !)))) (no-more !)))) (from ! (stop !)) (init ! 26 refl (tt, (tt, (record { fits = rr .1 .1 .1 .0 .0 }, tt)))) $
           lft-new ! tt (λ ν. move ! (26 ∷ 24 ∷ []) $ use2 W (later (some (λ (δ : GName). ‵ (Shared ν δ l) ⊛ ‵ (owed ν l)))) (sl-reshare 𝓤 H A W u32 κE qE (ν
           ∷ []) (entries .ptr .0) (entries .ptr .1) (entries .name) l) $ await ! tt $ pick ! (λ δ. split ! $
           move ! (2 ∷ 81 ∷ 82 ∷ 83 ∷ 84 ∷ 85 ∷ 0 ∷ 86 ∷ 87 ∷ 88 ∷ 89 ∷ []) $ group ! 11 $
           use1 W (raw (Core 𝓤 H A mem run .pre (to-core ν δ l))) (goes-core ν δ l same) $
           calls-at ! fm (Core 𝓤 H A mem run) known-core (to-core ν δ l) (and-then ! (load ! (from ! (stop !)) (look ! 60 refl)) (and-then ! (load ! (from !
           (stop !)) (look ! 76 refl)) (and-then ! (load ! (from ! (stop !)) (look ! 54 refl)) (and-then ! (load ! (from ! (stop !)) (look ! 50 refl))
-          (and-then ! (load ! (from ! (stop !)) (look ! 46 refl)) (and-then ! (load ! (from ! (stop !)) (look ! 42 refl)) (and-then ! (load ! (from ! (stop
-          !)) (look ! 38 refl)) (and-then ! (load ! (from ! (stop !)) (look ! 34 refl)) (and-then ! (load ! (from ! (stop !)) (look ! 30 refl)) (and-then !
-          (load ! (from ! (stop !)) (look ! 26 refl)) (no-more !))))))))))) (λ w. use1 W (later (some (λ (r : Build). ((‵ (flft (ν ∷ []) fullShare) ⊛ ‵ tkN
-          ⊛ ‵ tkT ⊛ ‵ tkO ⊛ raw tks) ⊛ ‵ (B.the-row .own r (w ∷ []))) ⊛ raw (ensured 𝓤 H A core.ended (core.clauses 𝓤 H A mem run) (κc ν) (core-args ν δ l)
-          tt r)))) (id⊢ 𝓤 _) $ await ! tt $ pick ! (λ r. split ! $ move ! (1 ∷ []) $
-          use1 W (some (λ (us : Lasts core.ended (κc ν) (core-args ν δ l)). ‵ (lasts core.ended (κc ν) (core-args ν δ l) us) ⊛ raw (fact 𝓤 (Said ν δ l r
-          us)))) (id⊢ 𝓤 _) $ pick ! (λ us. split ! $ move ! (1 ∷ []) $ heard ! (Said ν δ l r us) (λ e. move ! (1 ∷ []) $ split ! $ move ! (1 ∷ []) $
-          peeks ! B.the-row (Is B.the-row) (shows 𝓤 H A B.the-row) r (w ∷ []) (λ is. land ! (from ! (stop !)) (init ! 80 refl (EL.lawful B.the-type
-          B′.the-laws 𝓤 H A W tt .typed r _ is .0)) $ move ! (1 ∷ []) $ split ! $ lft-end ! tt $ move ! (0 ∷ 4 ∷ []) $
+          (and-then ! (load ! (from ! (stop !)) (look ! 46 refl)) (and-then ! (load ! (from ! (stop !)) (look ! 42 refl))
+          (and-then ! (load ! (from ! (stop !)) (look ! 38 refl)) (and-then ! (load ! (from ! (stop !)) (look ! 34 refl))
+          (and-then ! (load ! (from ! (stop !)) (look ! 30 refl)) (and-then ! (load ! (from ! (stop !)) (look ! 26 refl)) (no-more !))))))))))) (λ w. use1 W
+          (later (some (λ (r : Build). ((‵ (flft (ν ∷ []) fullShare) ⊛ ‵ tkN ⊛ ‵ tkT ⊛ ‵ tkO ⊛ raw tks) ⊛ ‵ (B.the-row .own r (w ∷ []))) ⊛ raw
+          (ensured 𝓤 H A core.ended (core.clauses 𝓤 H A mem run) (κc ν) (core-args ν δ l) tt r)))) (id⊢ 𝓤 _) $ await ! tt $ pick ! (λ r. split ! $
+          move ! (1 ∷ []) $ use1 W (some (λ (us : Lasts core.ended (κc ν) (core-args ν δ l)). ‵ (lasts core.ended (κc ν) (core-args ν δ l) us) ⊛ raw
+          (fact 𝓤 (Said ν δ l r us)))) (id⊢ 𝓤 _) $ pick ! (λ us. split ! $ move ! (1 ∷ []) $ heard ! (Said ν δ l r us) (λ e. move ! (1 ∷ []) $ split ! $
+          move ! (1 ∷ []) $
+          peeks ! B.the-row (Is B.the-row) (shows 𝓤 H A B.the-row) r (w
+          ∷ []) (λ is. land ! (from ! (stop !)) (init ! 80 refl (EL.lawful B.the-type B′.the-laws 𝓤 H A W tt .typed r _ is .0)) $ move ! (1 ∷ []) $
+          split ! $ lft-end ! tt $ move ! (0 ∷ 4 ∷ []) $
           use2 W (later (‵ (Entries l) ⊛ ‵ tkE)) (sl-reshare-back 𝓤 H A W u32 κE qE (ν ∷ []) (entries .ptr .0) (entries .ptr .1) (entries .name) l) $
-          await ! tt $ split ! $ use1 W (later (‵ (finally u32 (entries .name) l))) (mut-slice-lawful 𝓤 H A W erased κE u32 .drops (entries-at (entries .name) l))
-          $ await ! tt $ move ! (2 ∷ []) $ split ! $ move ! (1 ∷ []) $ split ! $ move ! (1 ∷ []) $ split ! $ returns ! (look ! 84 refl) $
+          await ! tt $ split ! $
+          use1 W (later (‵ (finally u32 (entries .name) l))) (mut-slice-lawful 𝓤 H A W erased κE u32 .drops (entries-at (entries .name) l)) $ await ! tt $
+          move ! (2 ∷ []) $ split ! $ move ! (1 ∷ []) $ split ! $ move ! (1 ∷ []) $ split ! $ returns ! (look ! 84 refl) $
           move ! (84 ∷ 85 ∷ 28 ∷ 29 ∷ 82 ∷ 83 ∷ 80 ∷ 81 ∷ 78 ∷ 79 ∷ 76 ∷ 77 ∷ 26 ∷ 27 ∷ 74 ∷ 75 ∷ 72 ∷ 73 ∷ 70 ∷ 71 ∷ 68 ∷ 69 ∷ 24 ∷ 25 ∷ 22 ∷ 23 ∷ 66 ∷ 67
-          ∷ 64 ∷ 65 ∷ 20 ∷ 21 ∷ 18 ∷ 19 ∷ 16 ∷ 17 ∷ 14 ∷ 15 ∷ 12 ∷ 13 ∷ 10 ∷ 11 ∷ 8 ∷ 9 ∷ 62 ∷ 63 ∷ 60 ∷ 61 ∷ 58 ∷ 59 ∷ 56 ∷ 57 ∷ 54 ∷ 55 ∷ 52 ∷ 53 ∷ 50 ∷
-          51 ∷ 48 ∷ 49 ∷ 46 ∷ 47 ∷ 44 ∷ 45 ∷ 42 ∷ 43 ∷ 40 ∷ 41 ∷ 38 ∷ 39 ∷ 36 ∷ 37 ∷ 34 ∷ 35 ∷ 32 ∷ 33 ∷ []) $
-          freed ! (full B′.mir l0 w ∷ full items-ty l1 (sliceVal (items .ptr) n) ∷ full (tyInt w32) l2 (vint w32 th) ∷ full (part (named 1) w8) l3 (sl
-          nodes) ∷ full (part (named 2) w8) l4 (sl trees) ∷ full (part (named 3) w16) l5 (sl order) ∷ full (part (named 4) w32) l6 (ev (length (entries
-          .now))) ∷ full (part (named 5) w32) l7 (sl (rest .0)) ∷ full (part (named 6) w32) l8 (sl (rest .1 .0)) ∷ full (part (named 7) w32) l9 (sl (rest .1
-          .1 .0)) ∷ full (part (named 8) w32) l10 (sl (rest .1 .1 .1 .0)) ∷ full word l11 (vint w64 k) ∷ full word l12 (vint w64 (i .0)) ∷ full word l13
-          (vint w64 n) ∷ room word l14 ∷ room tyBool l15 ∷ room tyUnit l16 ∷ room (ref w32) l17 ∷ room (part erased w32) l18 ∷ room word l19 ∷ room tyPtr
-          l20 ∷ room T′.mir l21 ∷ full shared-ref l22 (vptr (entries .ptr .0) (entries .ptr .1)) ∷ full shared-part l23 (sl entries) ∷ full (ref w8) l24 (vptr
-          (nodes .ptr .0) (nodes .ptr .1)) ∷ full (part erased w8) l25 (sl nodes) ∷ full (ref w8) l26 (vptr (trees .ptr .0) (trees .ptr .1)) ∷ full (part
-          erased w8) l27 (sl trees) ∷ full (ref w16) l28 (vptr (order .ptr .0) (order .ptr .1)) ∷ full (part erased w16) l29 (sl order) ∷ full (ref w32) l30
-          (vptr (rest .0 .ptr .0) (rest .0 .ptr .1)) ∷ full (part erased w32) l31 (sl (rest .0)) ∷ full (ref w32) l32 (vptr (rest .1 .0 .ptr .0) (rest .1 .0
-          .ptr .1)) ∷ full (part erased w32) l33 (sl (rest .1 .0)) ∷ full (ref w32) l34 (vptr (rest .1 .1 .0 .ptr .0) (rest .1 .1 .0 .ptr .1)) ∷ full (part
-          erased w32) l35 (sl (rest .1 .1 .0)) ∷ full (ref w32) l36 (vptr (rest .1 .1 .1 .0 .ptr .0) (rest .1 .1 .1 .0 .ptr .1)) ∷ full (part erased w32)
-          l37 (sl (rest .1 .1 .1 .0)) ∷ []) $ keep ! (8 ∷ 3 ∷ 2 ∷ 0 ∷ 5 ∷ 1 ∷ 7 ∷ 4 ∷ 6 ∷ []) $ by ! (exits ν δ l r w us held-all same e))))))))
+          ∷ 64 ∷ 65 ∷ 20 ∷ 21 ∷ 18 ∷ 19 ∷ 16 ∷ 17 ∷ 14 ∷ 15 ∷ 12 ∷ 13 ∷ 10 ∷ 11 ∷ 8 ∷ 9 ∷ 62 ∷ 63 ∷ 60 ∷ 61 ∷ 58 ∷ 59 ∷ 56 ∷ 57 ∷ 54 ∷ 55 ∷ 52 ∷ 53 ∷ 50
+          ∷ 51 ∷ 48 ∷ 49 ∷ 46 ∷ 47 ∷ 44 ∷ 45 ∷ 42 ∷ 43 ∷ 40 ∷ 41 ∷ 38 ∷ 39 ∷ 36 ∷ 37 ∷ 34 ∷ 35 ∷ 32 ∷ 33 ∷ []) $
+          freed ! (full B′.mir l0 w ∷ full items-ty l1 (sliceVal (items .ptr) n) ∷ full (tyInt w32) l2 (vint w32 th)
+          ∷ full (part (named 1) w8) l3 (sl nodes) ∷ full (part (named 2) w8) l4 (sl trees) ∷ full (part (named 3) w16) l5 (sl order)
+          ∷ full (part (named 4) w32) l6 (ev (length (entries .now))) ∷ full (part (named 5) w32) l7 (sl (rest .0))
+          ∷ full (part (named 6) w32) l8 (sl (rest .1 .0)) ∷ full (part (named 7) w32) l9 (sl (rest .1 .1 .0))
+          ∷ full (part (named 8) w32) l10 (sl (rest .1 .1 .1 .0)) ∷ full word l11 (vint w64 k) ∷ full word l12 (vint w64 (i .0))
+          ∷ full word l13 (vint w64 n) ∷ room word l14 ∷ room tyBool l15 ∷ room tyUnit l16 ∷ room (ref w32) l17 ∷ room (part erased w32) l18 ∷ room word l19
+          ∷ room tyPtr l20 ∷ room T′.mir l21 ∷ full shared-ref l22 (vptr (entries .ptr .0) (entries .ptr .1)) ∷ full shared-part l23 (sl entries)
+          ∷ full (ref w8) l24 (vptr (nodes .ptr .0) (nodes .ptr .1)) ∷ full (part erased w8) l25 (sl nodes)
+          ∷ full (ref w8) l26 (vptr (trees .ptr .0) (trees .ptr .1)) ∷ full (part erased w8) l27 (sl trees)
+          ∷ full (ref w16) l28 (vptr (order .ptr .0) (order .ptr .1)) ∷ full (part erased w16) l29 (sl order)
+          ∷ full (ref w32) l30 (vptr (rest .0 .ptr .0) (rest .0 .ptr .1)) ∷ full (part erased w32) l31 (sl (rest .0))
+          ∷ full (ref w32) l32 (vptr (rest .1 .0 .ptr .0) (rest .1 .0 .ptr .1)) ∷ full (part erased w32) l33 (sl (rest .1 .0))
+          ∷ full (ref w32) l34 (vptr (rest .1 .1 .0 .ptr .0) (rest .1 .1 .0 .ptr .1)) ∷ full (part erased w32) l35 (sl (rest .1 .1 .0))
+          ∷ full (ref w32) l36 (vptr (rest .1 .1 .1 .0 .ptr .0) (rest .1 .1 .1 .0 .ptr .1)) ∷ full (part erased w32) l37 (sl (rest .1 .1 .1 .0)) ∷ []) $
+          keep ! (8 ∷ 3 ∷ 2 ∷ 0 ∷ 5 ∷ 1 ∷ 7 ∷ 4 ∷ 6 ∷ []) $ by ! (exits ν δ l r w us held-all same e))))))))
         where
           l : List ℕ
           l = held (i .0)
@@ -587,14 +501,10 @@ module _ {M : Type 1} (𝓤 : URA M) (H : Heap 𝓤) (A : Atoms 𝓤) (W : Given
           rewrite ! 12 (λ (t : Bool). ‵ (fat fullShare tyBool l15 0 (vbool t))) (lt-ltb (i .0) k less) refl $
           stays ! (load ! (from ! (stop !)) (look ! 12 refl)) $
           assigns ! (addr ! (from ! (fld ! refl (hop ! (look-in ! 18 (sub ! 0 refl (whole !))) (stop !))))) (from ! (stop !)) (init ! 8 refl (tt, tt)) $
-          assigns ! (agg ! (and-then ! (load ! (from ! (stop !)) (look ! 8 refl)) (and-then ! (load ! (from ! (fld ! refl (stop !))) (look-in ! 18 (sub ! 1
-          refl (whole !)))) (no-more !)))) (from ! (stop !)) (init ! 6 refl (tt, (tt, (record { fits = er .0 }, tt)))) $
-          assigns ! (bin ! (load ! (from ! (stop !)) (look ! 14 refl)) (lit ! tt) (record { fits = far })) (from ! (stop !)) (init ! 4 refl (
-            tt,
-            record {
-              fits = far;
-            },
-          )) $
+          assigns ! (agg ! (and-then ! (load ! (from ! (stop !)) (look ! 8 refl)) (and-then ! (load ! (from ! (fld ! refl (stop !))) (look-in ! 18
+          (sub ! 1 refl (whole !)))) (no-more !)))) (from ! (stop !)) (init ! 6 refl (tt, (tt, (record { fits = er .0 }, tt)))) $
+          assigns ! (bin ! (load ! (from ! (stop !)) (look ! 14 refl)) (lit ! tt) (record { fits = far })) (from ! (stop !)) (init ! 4 refl
+          (tt, record { fits = far })) $
           assigns ! (bin ! (load ! (from ! (fld ! refl (stop !))) (look-in ! 20 (sub ! 0 refl (whole !)))) (load ! (from ! (stop !)) (look ! 4 refl)) tt)
           (from ! (stop !)) (init ! 2 refl (tt, tt)) $
           rewrite ! 2 (λ (p : ℕ). ‵ (fat fullShare tyPtr l20 0 (vptr (items .ptr .0) p))) (sym (place-is 28 (items .ptr .1) (i .0))) refl $ move ! (24 ∷ []) $
@@ -604,27 +514,28 @@ module _ {M : Type 1} (𝓤 : URA M) (H : Heap 𝓤) (A : Atoms 𝓤) (W : Given
           (items .now) (items .ptr .0) (items .ptr .1) (λ p.
           elem-out ! T.the-row (Is T.the-row) (shows 𝓤 H A T.the-row) vals (LL.tells T.the-type T′.the-laws) p (items .now) (i .0) absent (items .ptr .0)
           (items .ptr .1) inside (λ g.
-          assigns ! (of-opd ! (load ! (from ! (hop ! (look ! 8 refl) (stop !))) (look-raw ! 0 refl))) (from ! (stop !)) (init ! 6 refl (LL.lawful T.the-type
-          T′.the-laws 𝓤 H A W .typed (elem (i .0)) (mach (i .0) ∷ []) g .0)) $
+          assigns ! (of-opd ! (load ! (from ! (hop ! (look ! 8 refl) (stop !))) (look-raw ! 0 refl))) (from ! (stop !)) (init ! 6 refl
+          (LL.lawful T.the-type T′.the-laws 𝓤 H A W .typed (elem (i .0)) (mach (i .0) ∷ []) g .0)) $
           elem-back ! T.the-row p (items .now) (i .0) absent (mach (i .0) ∷ []) (items .ptr .0) (items .ptr .1) inside $
           shuts-slice ! tt T.the-row p (items .now) (items .ptr .0) (items .ptr .1) $
           move ! (1 ∷ []) $ let-go ! $ lft-new ! tt (λ ν. move ! (26 ∷ 25 ∷ []) $
-          use2 W (later (some (λ (δ : GName). ‵ (Lent erased (ν ∷ []) u32 .own (entries-at δ l)) ⊛ ‵ (away ν δ l)))) (sl-relend 𝓤 H A W u32 κE qE (ν ∷ [])
-          (entries .ptr .0) (entries .ptr .1) (entries .name) l) $ await ! tt $ pick ! (λ δ. split ! $
+          use2 W (later (some (λ (δ : GName). ‵ (Lent erased (ν ∷ []) u32 .own (entries-at δ l)) ⊛ ‵ (away ν δ l)))) (sl-relend 𝓤 H A W u32 κE qE (ν
+          ∷ []) (entries .ptr .0) (entries .ptr .1) (entries .name) l) $ await ! tt $ pick ! (λ δ. split ! $
           move ! (2 ∷ 0 ∷ []) $ use2 W (raw (Put 𝓤 H A mem run .pre (to-put ν δ l (i .0)))) (goes-put ν δ l (i .0) same i-fits g enough) $
           calls-at ! fm (Put 𝓤 H A mem run) known-put (to-put ν δ l (i .0)) (and-then ! (load ! (from ! (stop !)) (look ! 10 refl)) (and-then ! (load !
           (from ! (stop !)) (look ! 18 refl)) (and-then ! (load ! (from ! (stop !)) (look ! 4 refl)) (no-more !)))) (λ w.
-          use1 W (later (some (λ (r : Unit {0}). ((‵ (flft (ν ∷ []) fullShare) ⊛ ‵ ftrue) ⊛ ‵ (unit .own r (w ∷ []))) ⊛ raw (ensured 𝓤 H A put.ended
-          (put.clauses 𝓤 H A mem run) (ν ∷ [], tt) (entries-at δ l, (i .0, (elem (i .0), tt))) tt r)))) (id⊢ 𝓤 _) $ await ! tt $ pick ! (λ r. split ! $
+          use1 W (later (some (λ (r : Unit {0}). ((‵ (flft (ν ∷ []) fullShare) ⊛ ‵ ftrue) ⊛ ‵ (unit .own r (w
+          ∷ []))) ⊛ raw (ensured 𝓤 H A put.ended (put.clauses 𝓤 H A mem run) (ν ∷ [], tt) (entries-at δ l, (i .0, (elem (i .0), tt))) tt r)))) (id⊢ 𝓤 _) $
+          await ! tt $ pick ! (λ r. split ! $
           move ! (1 ∷ []) $
-          use1 W (some (λ (zs : List ℕ × (Unit {0} × (Unit {0} × Unit {0}))). ‵ (lasts put.ended (ν ∷ [], tt) (entries-at δ l, (i .0, (elem (i .0), tt))) zs)
-          ⊛ raw (fact 𝓤 (zs .0 ≡ put-in)))) (id⊢ 𝓤 _) $ pick ! (λ zs. split ! $
+          use1 W (some (λ (zs : List ℕ × (Unit {0} × (Unit {0} × Unit {0}))). ‵ (lasts put.ended (ν ∷ [], tt)
+          (entries-at δ l, (i .0, (elem (i .0), tt))) zs) ⊛ raw (fact 𝓤 (zs .0 ≡ put-in)))) (id⊢ 𝓤 _) $ pick ! (λ zs. split ! $
           move ! (1 ∷ []) $ heard ! (zs .0 ≡ put-in) (λ e. fsplit ! $ fsplit ! $ move ! (3 ∷ []) $ split ! $ move ! (1 ∷ []) $
           peeks ! unit (Is unit) (shows 𝓤 H A unit) r (w ∷ []) (λ is.
           land ! (from ! (stop !)) (init ! 18 refl (nothing-lawful 𝓤 H A W .typed r _ is .0)) $ forget ! 18 refl $ move ! (1 ∷ []) $ split ! $
           lft-end ! tt $ move ! (0 ∷ 6 ∷ 3 ∷ []) $
-          use3 W (later (given (length (zs .0) ≡ length l) (‵ (Entries (zs .0)) ⊛ ‵ tkE))) (sl-relent-backˡ 𝓤 H A W u32 κE qE (ν ∷ []) (entries .ptr .0) (entries
-          .ptr .1) (entries .name) δ l (zs .0)) $ await ! tt $ learn ! (λ _. split ! $
+          use3 W (later (given (length (zs .0) ≡ length l) (‵ (Entries (zs .0)) ⊛ ‵ tkE))) (sl-relent-backˡ 𝓤 H A W u32 κE qE (ν
+          ∷ []) (entries .ptr .0) (entries .ptr .1) (entries .name) δ l (zs .0)) $ await ! tt $ learn ! (λ _. split ! $
           rewrite ! 0 (λ (ws : List ℕ). ‵ (Entries ws)) (e ∙ apart-next (items .now) (entries .now) (i .0) inside) refl $
           assigns-last ! (bin ! (load ! (from ! (stop !)) (look ! 22 refl)) (lit ! tt) (record { fits = next-fits })) (from ! (stop !)) (store ! 22 refl
           (tt, record { fits = next-fits })) $
@@ -665,91 +576,61 @@ module _ {M : Type 1} (𝓤 : URA M) (H : Heap 𝓤) (A : Atoms 𝓤) (W : Given
       -- up to the loop
       abbrev entered-with : List (Item 𝓤)
       entered-with =
-          cells 𝓤 (lent-again ++ (room T′.mir l21 ∷ room tyPtr l20 ∷ room word l19 ∷ room (part erased w32) l18 ∷ room (ref w32) l17 ∷ room tyUnit l16 ∷
-          room tyBool l15 ∷ room word l14 ∷ room word l13 ∷ room word l12 ∷ room word l11 ∷ room (part (named 8) w32) l10 ∷ room (part (named 7) w32) l9 ∷
-          room (part (named 6) w32) l8 ∷ room (part (named 5) w32) l7 ∷ room (part (named 4) w32) l6 ∷ room (part (named 3) w16) l5 ∷ room (part (named 2)
-          w8) l4 ∷ room (part (named 1) w8) l3 ∷ room (tyInt w32) l2 ∷ room items-ty l1 ∷ room B′.mir l0 ∷ [])) ((‵ (flft κ q) ⊛ ‵ tkN ⊛ ‵ tkT ⊛ ‵ tkO ⊛ ‵
-          tkE ⊛ raw tks) ∷ ‵ Owned ∷ [])
+          cells 𝓤 (lent-again ++ (room T′.mir l21 ∷ room tyPtr l20 ∷ room word l19 ∷ room (part erased w32) l18 ∷ room (ref w32) l17 ∷ room tyUnit l16
+          ∷ room tyBool l15 ∷ room word l14 ∷ room word l13 ∷ room word l12 ∷ room word l11 ∷ room (part (named 8) w32) l10 ∷ room (part (named 7) w32) l9
+          ∷ room (part (named 6) w32) l8 ∷ room (part (named 5) w32) l7 ∷ room (part (named 4) w32) l6 ∷ room (part (named 3) w16) l5
+          ∷ room (part (named 2) w8) l4 ∷ room (part (named 1) w8) l3 ∷ room (tyInt w32) l2 ∷ room items-ty l1 ∷ room B′.mir l0
+          ∷ [])) ((‵ (flft κ q) ⊛ ‵ tkN ⊛ ‵ tkT ⊛ ‵ tkO ⊛ ‵ tkE ⊛ raw tks) ∷ ‵ Owned ∷ [])
 
       starts : Sq W entered-with (passes (drop 1 En) passed (runs C Λ En pieces.t-1 (atRet En Post)))
       starts =
           pass1 ! (init ! 72 refl (tt, (tt, (record { fits = yr .0 }, tt)))) $ pass1 ! (init ! 70 refl (tt, record { fits = th-fits })) $
           pass1 ! (init ! 68 refl (tt, (tt, (record { fits = nr .0 }, tt)))) $ pass1 ! (init ! 66 refl (tt, (tt, (record { fits = tr .0 }, tt)))) $
           pass1 ! (init ! 64 refl (tt, (tt, (record { fits = or .0 }, tt)))) $ pass1 ! (init ! 62 refl (tt, (tt, (record { fits = er .0 }, tt)))) $
-          pass1 ! (init ! 60 refl (tt, (tt, (record { fits = rr .0 .0 }, tt)))) $
-          pass1 ! (init ! 58 refl (tt, (tt, (record { fits = rr .1 .0 .0 }, tt)))) $
+          pass1 ! (init ! 60 refl (tt, (tt, (record { fits = rr .0 .0 }, tt)))) $ pass1 ! (init ! 58 refl (tt, (tt, (record { fits = rr .1 .0 .0 }, tt)))) $
           pass1 ! (init ! 56 refl (tt, (tt, (record { fits = rr .1 .1 .0 .0 }, tt)))) $
           pass1 ! (init ! 54 refl (tt, (tt, (record { fits = rr .1 .1 .1 .0 .0 }, tt)))) $ pass0 ! $
-          assigns ! (of-opd ! (load ! (from ! (fld ! refl (stop !))) (look-in ! 72 (sub ! 1 refl (whole !))))) (from ! (stop !)) (init ! 48 refl (
-            tt,
-            record
-                { fits = yr .0 },
-          )) $ assigns ! (of-opd ! (load ! (from ! (fld ! refl (stop !))) (look-in ! 62 (sub ! 1 refl (whole !))))) (from ! (stop !)) (init
-          ! 46 refl (tt, record { fits = er .0 })) $ use0 W (raw (Taken 𝓤 H A mem run .pre to-taken)) goes-taken $
-          calls-at ! fm (Taken 𝓤 H A mem run) known-taken to-taken (and-then ! (load ! (from ! (stop !)) (look ! 49 refl)) (and-then ! (load ! (from ! (stop
-          !)) (look ! 47 refl)) (no-more !))) (λ w. use1 W (later (some (λ (r : ℕ). (‵ ftrue ⊛ ‵ (usize .own r (w ∷ []))) ⊛ raw (ensured 𝓤 H A taken.ended
-          (taken.clauses 𝓤 H A mem run) tt (n, (length (entries .now), tt)) tt r)))) (id⊢ 𝓤 _) $ await ! tt $ pick ! (λ r. split ! $ move ! (1 ∷ []) $
-          use1 W (some (λ (zs : Unit {0} × (Unit {0} × Unit {0})). ‵ (lasts taken.ended tt (n, (length (entries .now), tt)) zs) ⊛ raw (fact 𝓤 (r ≡ k)))) (id⊢
-          𝓤 _) $ pick ! (λ zs. split ! $ move ! (1 ∷ []) $ heard ! (r ≡ k) (λ e. let-go ! $ split ! $ move ! (1 ∷ []) $
-          facts ! usize (Is usize) (shows 𝓤 H A usize) r (w ∷ []) (λ is. land ! (from ! (stop !)) (init ! 53 refl (uint-lawful 𝓤 H A W w64 .typed r _ is
-          .0)) $ rewrite ! 53 (λ (v : Val). ‵ (fat fullShare word l11 0 v)) (ap only (is .0) ∙ ap (λ (m : ℕ). vint w64 m) e) refl $ let-go ! $
+          assigns ! (of-opd ! (load ! (from ! (fld ! refl (stop !))) (look-in ! 72 (sub ! 1 refl (whole !))))) (from ! (stop !)) (init ! 48 refl
+          (tt, record { fits = yr .0 })) $ assigns ! (of-opd ! (load ! (from ! (fld ! refl (stop !))) (look-in ! 62 (sub ! 1 refl (whole !))))) (from !
+          (stop !)) (init ! 46 refl (tt, record { fits = er .0 })) $ use0 W (raw (Taken 𝓤 H A mem run .pre to-taken)) goes-taken $
+          calls-at ! fm (Taken 𝓤 H A mem run) known-taken to-taken (and-then ! (load ! (from ! (stop !)) (look ! 49 refl)) (and-then ! (load ! (from !
+          (stop !)) (look ! 47 refl)) (no-more !))) (λ w. use1 W (later (some (λ (r : ℕ). (‵ ftrue ⊛ ‵ (usize .own r (w
+          ∷ []))) ⊛ raw (ensured 𝓤 H A taken.ended (taken.clauses 𝓤 H A mem run) tt (n, (length (entries .now), tt)) tt r)))) (id⊢ 𝓤 _) $ await ! tt $
+          pick ! (λ r. split ! $ move ! (1 ∷ []) $
+          use1 W (some (λ (zs : Unit {0} × (Unit {0} × Unit {0})). ‵ (lasts taken.ended tt (n, (length (entries .now), tt)) zs) ⊛ raw (fact 𝓤 (r ≡ k))))
+          (id⊢ 𝓤 _) $ pick ! (λ zs. split ! $ move ! (1 ∷ []) $ heard ! (r ≡ k) (λ e. let-go ! $ split ! $ move ! (1 ∷ []) $
+          facts ! usize (Is usize) (shows 𝓤 H A usize) r (w ∷ []) (λ is. land ! (from ! (stop !)) (init ! 53 refl
+          (uint-lawful 𝓤 H A W w64 .typed r _ is .0)) $
+          rewrite ! 53 (λ (v : Val). ‵ (fat fullShare word l11 0 v)) (ap only (is .0) ∙ ap (λ (m : ℕ). vint w64 m) e) refl $ let-go ! $
           assigns ! (of-opd ! (lit ! tt)) (from ! (stop !)) (init ! 50 refl (tt, record { fits = lit< tt })) $ forget ! 48 refl $ forget ! 46 refl $
-          move ! (77 ∷ []) $ fsplit ! $ move ! (1 ∷ []) $ fsplit ! $ move ! (1 ∷ []) $ fsplit ! $ move ! (1 ∷ []) $ fsplit ! $ move ! (1 ∷ []) $
-          fsplit ! $ move ! (1 ∷ []) $ fsplit ! $ fsplit ! $ fsplit ! $ let-go ! $ fjoin ! $ move ! (83 ∷ []) $ split ! $ move ! (1 ∷ []) $ split ! $
-          move ! (1 ∷ []) $ split ! $ move ! (1 ∷ []) $ split ! $ move ! (1 ∷ []) $ split ! $
-          keep ! (45 ∷ 46 ∷ 47 ∷ 48 ∷ 49 ∷ 50 ∷ 51 ∷ 52 ∷ 53 ∷ 54 ∷ 55 ∷ 56 ∷ 57 ∷ 58 ∷ 63 ∷ 64 ∷ 65 ∷ 66 ∷ 75 ∷ 76 ∷ 85 ∷ 86 ∷ 5 ∷ 0 ∷ 12 ∷ 6 ∷ 13 ∷ 14 ∷
-          15 ∷ 16 ∷ 17 ∷ 18 ∷ 19 ∷ 20 ∷ 21 ∷ 22 ∷ 23 ∷ 24 ∷ 25 ∷ 26 ∷ 27 ∷ 28 ∷ 29 ∷ 30 ∷ 31 ∷ 32 ∷ 33 ∷ 34 ∷ 35 ∷ 36 ∷ 37 ∷ 38 ∷ 39 ∷ 40 ∷ 41 ∷ 42 ∷ 43 ∷
-          44 ∷ 59 ∷ 60 ∷ 61 ∷ 62 ∷ 67 ∷ 68 ∷ 69 ∷ 70 ∷ 71 ∷ 72 ∷ 73 ∷ 74 ∷ 77 ∷ 78 ∷ 79 ∷ 80 ∷ 81 ∷ 82 ∷ 83 ∷ 84 ∷ 87 ∷ 88 ∷ 4 ∷ 3 ∷ 2 ∷ 1 ∷ 11 ∷ 10 ∷ 9 ∷ 8
-          ∷ 7 ∷ []) $ packs ! (used (0, zero-le)) aside $ first ! $ blocks ! $ loops ! 𝓣 Nearer Nearer-wf At turns (0, zero-le))))))
+          move ! (77 ∷ []) $ fsplit ! $ move ! (1 ∷ []) $ fsplit ! $ move ! (1 ∷ []) $ fsplit ! $ move ! (1 ∷ []) $ fsplit ! $ move ! (1 ∷ []) $ fsplit ! $
+          move ! (1 ∷ []) $ fsplit ! $ fsplit ! $ fsplit ! $ let-go ! $ fjoin ! $ move ! (83 ∷ []) $ split ! $ move ! (1 ∷ []) $ split ! $ move ! (1 ∷ []) $
+          split ! $ move ! (1 ∷ []) $ split ! $ move ! (1 ∷ []) $ split ! $ keep ! (45 ∷ 46 ∷ 47 ∷ 48 ∷ 49 ∷ 50 ∷ 51 ∷ 52 ∷ 53 ∷ 54 ∷ 55 ∷ 56 ∷ 57 ∷ 58 ∷ 63
+          ∷ 64 ∷ 65 ∷ 66 ∷ 75 ∷ 76 ∷ 85 ∷ 86 ∷ 5 ∷ 0 ∷ 12 ∷ 6 ∷ 13 ∷ 14 ∷ 15 ∷ 16 ∷ 17 ∷ 18 ∷ 19 ∷ 20 ∷ 21 ∷ 22 ∷ 23 ∷ 24 ∷ 25 ∷ 26 ∷ 27 ∷ 28 ∷ 29 ∷ 30 ∷ 31
+          ∷ 32 ∷ 33 ∷ 34 ∷ 35 ∷ 36 ∷ 37 ∷ 38 ∷ 39 ∷ 40 ∷ 41 ∷ 42 ∷ 43 ∷ 44 ∷ 59 ∷ 60 ∷ 61 ∷ 62 ∷ 67 ∷ 68 ∷ 69 ∷ 70 ∷ 71 ∷ 72 ∷ 73 ∷ 74 ∷ 77 ∷ 78 ∷ 79 ∷ 80
+          ∷ 81 ∷ 82 ∷ 83 ∷ 84 ∷ 87 ∷ 88 ∷ 4 ∷ 3 ∷ 2 ∷ 1 ∷ 11 ∷ 10 ∷ 9 ∷ 8 ∷ 7 ∷ []) $ packs ! (used (0, zero-le)) aside $ first ! $ blocks ! $
+          loops ! 𝓣 Nearer Nearer-wf At turns (0, zero-le))))))
 
     walk : ent 𝓤 (onEntry 𝓤 H A f.signature (κ, κs) (q, qs) args at) (WpFn 𝓤 H C Λ code.function passed Post)
     walk =
         qed W ((‵ (flft κ q) ⊛ ‵ tkN ⊛ ‵ tkT ⊛ ‵ tkO ⊛ ‵ tkE ⊛ raw tks) ∷ ‵ Owned ∷ []) ∵ enter ! C Λ code.function passed _ $
-        alloc1 ! (λ l0. alloc1 ! (λ l1. alloc1 ! (λ l2. alloc1 ! (λ l3. alloc1 ! (λ l4. alloc1 ! (λ l5. alloc1 ! (λ l6. alloc1 ! (λ l7. alloc1 ! (λ l8.
-        alloc1 ! (λ l9. alloc1 ! (λ l10. alloc1 ! (λ l11. alloc1 ! (λ l12. alloc1 ! (λ l13. alloc1 ! (λ l14. alloc1 ! (λ l15. alloc1 ! (λ l16. alloc1 ! (λ
-        l17. alloc1 ! (λ l18. alloc1 ! (λ l19. alloc1 ! (λ l20. alloc1 ! (λ l21. alloc1 ! (λ l22. alloc1 ! (λ l23. alloc1 ! (λ l24. alloc1 ! (λ l25. alloc1
-        ! (λ l26. alloc1 ! (λ l27. alloc1 ! (λ l28. alloc1 ! (λ l29. alloc1 ! (λ l30. alloc1 ! (λ l31. alloc1 ! (λ l32. alloc1 ! (λ l33. alloc1 ! (λ l34.
-        alloc1 ! (λ l35. alloc1 ! (λ l36. alloc1 ! (λ l37. alloc0 ! $ params1 ! $
+        alloc1 ! (λ l0. alloc1 ! (λ l1. alloc1 ! (λ l2. alloc1 ! (λ l3. alloc1 ! (λ l4. alloc1 ! (λ l5. alloc1 ! (λ l6. alloc1 ! (λ l7.
+        alloc1 ! (λ l8. alloc1 ! (λ l9. alloc1 ! (λ l10. alloc1 ! (λ l11. alloc1 ! (λ l12. alloc1 ! (λ l13. alloc1 ! (λ l14. alloc1 ! (λ l15.
+        alloc1 ! (λ l16. alloc1 ! (λ l17. alloc1 ! (λ l18. alloc1 ! (λ l19. alloc1 ! (λ l20. alloc1 ! (λ l21. alloc1 ! (λ l22. alloc1 ! (λ l23.
+        alloc1 ! (λ l24. alloc1 ! (λ l25. alloc1 ! (λ l26. alloc1 ! (λ l27. alloc1 ! (λ l28. alloc1 ! (λ l29. alloc1 ! (λ l30. alloc1 ! (λ l31.
+        alloc1 ! (λ l32. alloc1 ! (λ l33. alloc1 ! (λ l34. alloc1 ! (λ l35. alloc1 ! (λ l36. alloc1 ! (λ l37.
+        alloc0 ! $ params1 ! $
         starts l0 l1 l2 l3 l4 l5 l6 l7 l8 l9 l10 l11 l12 l13 l14 l15 l16 l17 l18 l19 l20 l21 l22 l23 l24 l25 l26 l27 l28 l29 l30 l31 l32 l33 l34 l35 l36
         l37))))))))))))))))))))))))))))))))))))))
 
 module _ {M : Type 1} (𝓤 : URA M) (H : Heap 𝓤) (A : Atoms 𝓤) (W : Given 𝓤 H A) (mem : Memory → SProp 𝓤) (run : Routine → Fun 𝓤) (𝓣 : Tables 𝓤 H)
-    (known-taken : Triple 𝓤 (𝓣 .C #bvh·entry·taken) (Taken 𝓤 H A mem run)) (known-put : Triple 𝓤 (𝓣 .C #bvh·entry·put-item) (Put 𝓤 H A mem run)) (known-core
-    : Triple 𝓤 (𝓣 .C #bvh·core·build-core) (Core 𝓤 H A mem run)) where
+    (known-taken : Triple 𝓤 (𝓣 .C #bvh·entry·taken) (Taken 𝓤 H A mem run)) (known-put : Triple 𝓤 (𝓣 .C #bvh·entry·put-item) (Put 𝓤 H A mem run))
+    (known-core : Triple 𝓤 (𝓣 .C #bvh·core·build-core) (Core 𝓤 H A mem run)) where
   build-walks : Walks 𝓤 H A f.ended stayed (WpFn 𝓤 H (𝓣 .C) (𝓣 .Λ) code.function) (f.clauses 𝓤 H A mem run)
   build-walks =
       walked 𝓤 H A f.ended stayed (f.clauses 𝓤 H A mem run) (WpFn 𝓤 H (𝓣 .C) (𝓣 .Λ) code.function)
-      (λ κs. (
-        slice-vals,
-        (
-          uint-vals w32,
-          (
-            slice-vals,
-            (
-              slice-vals,
-              (
-                slice-vals,
-                (
-                  slice-vals,
-                  (
-                    slice-vals,
-                    (
-                      slice-vals,
-                      (
-                        slice-vals,
-                        (
-                          slice-vals,
-                          tt,
-                        ),
-                      ),
-                    ),
-                  ),
-                ),
-              ),
-            ),
-          ),
-        ),
-      ))
+      (λ κs.
+      (slice-vals, (uint-vals w32, (slice-vals, (slice-vals, (slice-vals, (slice-vals, (slice-vals, (slice-vals, (slice-vals, (slice-vals, tt)))))))))))
       (λ κs. (
         shr-slice-tells (named 0) (κs .0) T.the-row,
         (
@@ -757,22 +638,19 @@ module _ {M : Type 1} (𝓤 : URA M) (H : Heap 𝓤) (A : Atoms 𝓤) (W : Given
           (
             mut-slice-tells (named 1) (κs .1 .0) u8,
             (
-              mut-slice-tells (named 2) (κs .1 .1
-                  .0) u8,
+              mut-slice-tells (named 2) (κs .1 .1 .0) u8,
               (
                 mut-slice-tells (named 3) (κs .1 .1 .1 .0) u16,
                 (
                   mut-slice-tells (named 4) (κs .1 .1 .1 .1 .0) u32,
                   (
-                    mut-slice-tells (named 5) (κs .1 .1 .1
-                        .1 .1 .0) u32,
+                    mut-slice-tells (named 5) (κs .1 .1 .1 .1 .1 .0) u32,
                     (
                       mut-slice-tells (named 6) (κs .1 .1 .1 .1 .1 .1 .0) u32,
                       (
                         mut-slice-tells (named 7) (κs .1 .1 .1 .1 .1 .1 .1 .0) u32,
                         (
-                          mut-slice-tells
-                              (named 8) (κs .1 .1 .1 .1 .1 .1 .1 .1 .0) u32,
+                          mut-slice-tells (named 8) (κs .1 .1 .1 .1 .1 .1 .1 .1 .0) u32,
                           tt,
                         ),
                       ),
@@ -785,22 +663,12 @@ module _ {M : Type 1} (𝓤 : URA M) (H : Heap 𝓤) (A : Atoms 𝓤) (W : Given
         ),
       ))
       (λ κs qs bounds a g are.
+      let last = are .1 .1 .1 .1 .1 .1 in
       via 𝓤 _ (fst∗ 𝓤 _ (emp 𝓤))
-      (walk 𝓤 H A W mem run (κs .0) (κs .1) (qs .0) (qs .1) (a .0) (a .1 .0) (a .1 .1 .0) (a .1 .1 .1 .0) (a .1 .1 .1 .1 .0) (a .1 .1 .1 .1 .1 .0) (a .1 .1
-      .1 .1 .1 .1) (are .0 .0 .1) (are .1 .0 .1) (are .1 .1 .0 .0 .1) (are .1 .1 .1 .0 .0 .1) (are .1 .1 .1 .1 .0 .0 .1) (are .1 .1 .1 .1 .1 .0 .0 .1) (
-        are
-            .1 .1 .1 .1 .1 .1 .0 .0 .1,
-        (
-          are .1 .1 .1 .1 .1 .1 .1 .0 .0 .1,
-          (
-            are .1 .1 .1 .1 .1 .1 .1 .1 .0 .0 .1,
-            (
-              are .1 .1 .1 .1 .1 .1 .1 .1 .1 .0 .0 .1,
-              tt,
-            ),
-          ),
-        ),
-      ) 𝓣 (fmOf 𝓤 H (W .laws) 𝓣) known-taken known-put known-core))
+      (walk 𝓤 H A W mem run (κs .0) (κs .1) (qs .0) (qs .1) (a .0) (a .1 .0) (a .1 .1 .0) (a .1 .1 .1 .0) (a .1 .1 .1 .1 .0) (a .1 .1 .1 .1 .1 .0)
+      (a .1 .1 .1 .1 .1 .1) (are .0 .0 .1) (are .1 .0 .1) (are .1 .1 .0 .0 .1) (are .1 .1 .1 .0 .0 .1) (are .1 .1 .1 .1 .0 .0 .1)
+      (are .1 .1 .1 .1 .1 .0 .0 .1) (last .0 .0 .1, (last .1 .0 .0 .1, (last .1 .1 .0 .0 .1, (last .1 .1 .1 .0 .0 .1, tt)))) 𝓣 (fmOf 𝓤 H
+      (W .laws) 𝓣) known-taken known-put known-core))
 
   build-meets : Meets 𝓤 H A f.signature (WpFn 𝓤 H (𝓣 .C) (𝓣 .Λ) code.function) (f.spec 𝓤 H A mem run)
   build-meets = walk-meets 𝓤 H A f.ended stayed W (all-go 𝓤 H A W (f.ended .signature .params) (f.ended .kept)) (f.clauses 𝓤 H A mem run)
@@ -814,5 +682,5 @@ build-bvh-spec 𝓤 H 𝓜 𝓖 𝓡 =
     (build-meets 𝓤 H (𝓖 .A) (givenOf 𝓤 H 𝓜 𝓖) (𝓜 .mem) (𝓡 .run) (tablesOf 𝓤 H 𝓜 (tables 𝓤 H 𝓜 𝓡 code.env))
     (cited 𝓤 H (Taken 𝓤 H (𝓖 .A) (𝓜 .mem) (𝓡 .run)) 𝓜 𝓡 code.env #bvh·entry·taken taken-def.routine code.calls-bvh·entry·taken (taken-thm.met 𝓤 H 𝓜 𝓖 𝓡))
     (cited 𝓤 H (Put 𝓤 H (𝓖 .A) (𝓜 .mem) (𝓡 .run)) 𝓜 𝓡 code.env #bvh·entry·put-item put-def.routine code.calls-bvh·entry·put-item (put-thm.met 𝓤 H 𝓜 𝓖 𝓡))
-    (cited 𝓤 H (Core 𝓤 H (𝓖 .A) (𝓜 .mem) (𝓡 .run)) 𝓜 𝓡 code.env #bvh·core·build-core core-def.routine code.calls-bvh·core·build-core (core-thm.met 𝓤 H 𝓜 𝓖
-    𝓡)))
+    (cited 𝓤 H (Core 𝓤 H (𝓖 .A) (𝓜 .mem) (𝓡 .run)) 𝓜 𝓡 code.env #bvh·core·build-core core-def.routine code.calls-bvh·core·build-core
+    (core-thm.met 𝓤 H 𝓜 𝓖 𝓡)))

@@ -34,7 +34,8 @@ same-length c = c .before .before .put-box .kept .0 ∙ simp length-set
 returns : tie.Need-returns
 returns c =
     let a = c .before .before .before .before .before .before .before .before .args in
-    c .before .before .put-box .ensures ∙ rw (← mark-is (a .item .present)) (mark-then-box (a .entries .now) (boxWords (itemBox (a .item))) (7 * a .i) _ (omega arith))
+    c .before .before .put-box .ensures
+    ∙ rw (← mark-is (a .item .present)) (mark-then-box (a .entries .now) (boxWords (itemBox (a .item))) (7 * a .i) _ (omega arith))
 
 pub put-item-spec : {M : Type 1} → statement M
 put-item-spec =

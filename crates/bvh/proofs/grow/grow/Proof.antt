@@ -165,8 +165,9 @@ loop-again : tie.Need-loop-again Inv-loop μ-loop
 loop-again c =
     let i = leaf-arm c in
     let l = i .before .loop in
-    let p = c .before .before .put-leaf in (
-      leaf-turn _ (law (entry i)) _ _ (before (entry i)) (room (entry i)) (here i) _ _ _ (l .inv .0) (omega arith) (c .before .before .before .before .before .before .if1 .taken) (width i)
+    let p = c .before .before .put-leaf in
+    let small = c .before .before .before .before .before .before .if1 .taken in (
+      leaf-turn _ (law (entry i)) _ _ (before (entry i)) (room (entry i)) (here i) _ _ _ (l .inv .0) (omega arith) small (width i)
           (p .last .0) (omega arith) (p .ensures) (p .kept .0),
       l .inv .1,
     )
@@ -208,12 +209,12 @@ push-two-requires c κs =
     let t = turn (inner-call (p .before)) in
     let l = segment-long (inner-call (p .before)) in
     let e = p .put-inner .ensures in
-    (t .more (c .before .before .before .before .before .before .before .before .before .before .before .if1 .left), t .in-stack, omega (arith, t .few, e .rest), omega (arith, t .few, e .rest))
+    (t .more (p .before .before .before .before .if1 .left), t .in-stack, omega (arith, t .few, e .rest), omega (arith, t .few, e .rest))
 
 sub-sp-2 : tie.Need-sub-sp-2 Inv-loop μ-loop
 sub-sp-2 c =
     let p = inner-arm c in
-    turn (inner-call (p .before)) .more (c .before .before .before .before .before .before .before .before .before .before .before .before .before .before .if1 .left)
+    turn (inner-call (p .before)) .more (p .before .before .before .before .if1 .left)
 
 add-m-2 : tie.Need-add-m-2 Inv-loop μ-loop
 add-m-2 c =
@@ -228,13 +229,16 @@ loop-less-2 c =
 
 loop-again-2 : tie.Need-loop-again-2 Inv-loop μ-loop
 loop-again-2 c =
-    let p = inner-arm c .put-inner in
-    let i = inner-call (inner-arm c .before) in
+    let a = inner-arm c in
+    let p = a .put-inner in
+    let i = inner-call (a .before) in
     let l = i .before .loop in
-    let t = turn i in (
-      inner-turn _ (law (entry i)) _ _ (before (entry i)) (room (entry i)) (here i) _ _ _ (l .inv .0) (omega arith) (c .before .before .before .before .before .before .before .before .before .before .before .before .before .before .if1 .left) (width i)
-          (p .result) (p .last .0) (p .last .1 .0) (c .before .before .push-two .last .0) (p .last .1 .1 .1 .0) (omega arith) (p .ensures) (p .kept .0)
-          (p .kept .1 .0) (p .kept .1 .1 .1 .0) (c .before .before .push-two .ensures),
+    let t = turn i in
+    let large = a .before .before .before .before .if1 .left in
+    let pushed = c .before .before .push-two in (
+      inner-turn _ (law (entry i)) _ _ (before (entry i)) (room (entry i)) (here i) _ _ _ (l .inv .0) (omega arith) large (width i)
+          (p .result) (p .last .0) (p .last .1 .0) (pushed .last .0) (p .last .1 .1 .1 .0) (omega arith) (p .ensures) (p .kept .0)
+          (p .kept .1 .0) (p .kept .1 .1 .1 .0) (pushed .ensures),
       l .inv .1,
     )
 

@@ -2,9 +2,6 @@
 use borrow.Author.Needs.{needs}
 use Rattle.bvh.proofs.grow.put_leaf.Statement.{statement}
 use Rattle.bvh.proofs.grow.put_leaf.Tie as tie
-use mathlib.Core.Path.{_∙_, ap}
-use Rattle.split.specs.declared.boxes.BoxWords.{BoxWords}
-use Rattle.bvh.specs.steps.Table.{withRow}
 
 fold-box-requires : tie.Need-fold-box-requires
 fold-box-requires c κs = search needs

@@ -53,7 +53,8 @@ loop-again : tie.Need-loop-again Inv-loop μ-loop
 loop-again c =
     let l = c .before .before .before .loop in
     let a = c .before .before .before .before .before .before .args in
-    subst (λ (r : ℕ). Gathering (a .n) (a .entries .now) (a .places .now) (set (l .places) (l .k) (l .p)) (l .k + r) (l .p + 1)) (sym (c .one-if-marked .ensures))
+    subst (λ (r : ℕ). Gathering (a .n) (a .entries .now) (a .places .now) (set (l .places) (l .k) (l .p)) (l .k + r) (l .p + 1))
+    (sym (c .one-if-marked .ensures))
     (next (a .n) (a .entries .now) (a .places .now) (l .places) (l .k) (l .p) (l .inv) (omega arith) (omega arith))
 
 same-length : tie.Need-same-length Inv-loop μ-loop

@@ -48,12 +48,14 @@ same-length c = search needs
 
 returns : tie.Need-returns
 returns c =
-    let s = c .before .before .before .before .before .before .before .before .before in
+    let q = c .before .before .before .before in
+    let s = q .before .before .before .before .before in
     let a = s .args in
     let bytes = a .tree-bytes .now in
     c .before .before .put-tree .ensures
     ∙ ap (λ (t : BvhTree). take (a .at) bytes ++ (treeBytes t ++ drop (a .at + 16) bytes))
-    (made (a .scale) _ _ _ _ (a .first) (a .last) (s .pre .2) (s .pre .3) (c .before .before .before .before .before .before .row-box .ensures) (c .before .before .before .before .before .quantise .ensures) (c .before .before .before .before .quantise2 .ensures))
+    (made (a .scale) _ _ _ _ (a .first) (a .last) (s .pre .2) (s .pre .3) (q .before .before .row-box .ensures) (q .before .quantise .ensures)
+    (q .quantise2 .ensures))
 
 pub put-range-spec : {M : Type 1} → statement M
 put-range-spec =

@@ -25,11 +25,13 @@ before-it : (c : tie.After-put-range-arg Inv-loop μ-loop)
     Turn (entry (writing c) .args .rows .now) (l .tree-bytes) (l .i) (l .k) (c .before .before .tree-size .result)
 before-it c =
     let i = writing c in
-    turn _ _ _ _ _ _ _ _ _ (entry i .pre) (i .before .loop .inv) (i .loop-test .taken) (c .before .before .tree-size .ensures) (c .before .if1 .left)
+    let size = c .before .before .tree-size .ensures in
+    turn _ _ _ _ _ _ _ _ _ (entry i .pre) (i .before .loop .inv) (i .loop-test .taken) size (c .before .if1 .left)
 
 after-it : (c : tie.After-slice-known2 Inv-loop μ-loop)
-    → let l = writing (c .before .before .before) .before .loop in
-    Turn (entry (writing (c .before .before .before)) .args .rows .now) (l .tree-bytes) (l .i) (l .k) (c .before .before .before .before .before .tree-size .result)
+    → let i = writing (c .before .before .before) in
+    let l = i .before .loop in
+    Turn (entry i .args .rows .now) (l .tree-bytes) (l .i) (l .k) (c .before .before .before .before .before .tree-size .result)
 after-it c = before-it (c .before .before .before)
 
 loop-holds : tie.Need-loop-holds Inv-loop μ-loop
@@ -85,7 +87,9 @@ loop-again-2 : tie.Need-loop-again-2 Inv-loop μ-loop
 loop-again-2 c =
     let i = writing (c .before .before .before) in
     let p = c .before .before .put-range in
-    write _ _ _ _ _ _ _ _ _ (entry i .pre) (i .before .loop .inv) (i .loop-test .taken) (c .before .before .before .before .before .tree-size .ensures) (c .before .before .before .before .if1 .left) _ (p .kept .0) (p .ensures)
+    let size = c .before .before .before .before .before .tree-size .ensures in
+    let small = c .before .before .before .before .if1 .left in
+    write _ _ _ _ _ _ _ _ _ (entry i .pre) (i .before .loop .inv) (i .loop-test .taken) size small _ (p .kept .0) (p .ensures)
 
 same-length : tie.Need-same-length Inv-loop μ-loop
 same-length c = c .before .loop .inv .same-length

@@ -15,10 +15,14 @@ cast-head : tie.Need-cast-head
 cast-head c = search needs
 
 returns : tie.Need-returns
-returns c = rw (← c .before .before .before .row-count .ensures, eq-eqb _ 0 (c .before .before .if1 .taken)) (omega (arith, c .if2 .taken, c .before .row-head .ensures))
+returns c =
+    let none = eq-eqb _ 0 (c .before .before .if1 .taken) in
+    rw (← c .before .before .before .row-count .ensures, none) (omega (arith, c .if2 .taken, c .before .row-head .ensures))
 
 returns-2 : tie.Need-returns-2
-returns-2 c = rw (← c .before .before .before .row-count .ensures, eq-eqb _ 0 (c .before .before .if1 .taken)) (omega (arith, c .if2 .left, c .before .row-head .ensures))
+returns-2 c =
+    let none = eq-eqb _ 0 (c .before .before .if1 .taken) in
+    rw (← c .before .before .before .row-count .ensures, none) (omega (arith, c .if2 .left, c .before .row-head .ensures))
 
 returns-3 : tie.Need-returns-3
 returns-3 c = rw (← c .before .row-count .ensures, ne-eqb _ 0 (c .if1 .left))

@@ -32,7 +32,8 @@ cast-result c = search needs
 returns : tie.Need-returns
 returns c =
     let a = c .before .before .before .before .before .args in
-    rw (at-row (a .m) (a .j) (a .rows .now) (c .before .before .before .if1 .taken), ← c .before .before .row-count .ensures, eq-eqb _ _ (c .before .if2 .taken)) (c .row-head .ensures)
+    let row = at-row (a .m) (a .j) (a .rows .now) (c .before .before .before .if1 .taken) in
+    rw (row, ← c .before .before .row-count .ensures, eq-eqb _ _ (c .before .if2 .taken)) (c .row-head .ensures)
 
 returns-2 : tie.Need-returns-2
 returns-2 c =

@@ -16,7 +16,10 @@ overlap-f32-requires-3 c κs = search needs
 
 returns : tie.Need-returns
 unfolding meetsBox
-returns c = third (c .before .before .before .before .overlap-f32 .ensures) (c .before .before .overlap-f322 .ensures) (c .overlap-f323 .ensures) (c .before .before .before .if1 .taken) (c .before .if2 .taken)
+returns c =
+    let y = c .before .before in
+    let x = y .before .before in
+    third (x .overlap-f32 .ensures) (y .overlap-f322 .ensures) (c .overlap-f323 .ensures) (y .before .if1 .taken) (c .before .if2 .taken)
 
 returns-2 : tie.Need-returns-2
 unfolding meetsBox

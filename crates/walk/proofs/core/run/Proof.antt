@@ -28,7 +28,10 @@ unfinished-requires : tie.Need-unfinished-requires Inv-loop μ-loop
 unfinished-requires c κs = tt
 
 -- a record is left where the loop goes on
-more-left : (c : tie.Then1 Inv-loop μ-loop) → more (c .before .before .before .before .before .before .before .args .sizes .trees) (c .before .before .loop .s) ≡ true
+abbrev entered : tie.Then1 Inv-loop μ-loop → tie.Start Inv-loop μ-loop
+entered c = c .before .before .before .before .before .before .before
+
+more-left : (c : tie.Then1 Inv-loop μ-loop) → more (entered c .args .sizes .trees) (c .before .before .loop .s) ≡ true
 more-left c = sym (c .before .unfinished .ensures) ∙ c .if1 .taken
 
 step-requires : tie.Need-step-requires Inv-loop μ-loop

@@ -28,7 +28,9 @@ returns-2 c =
 returns-3 : tie.Need-returns-3
 returns-3 c =
     let a = c .before .before .before .before .before .args in
-    sym (or-no _ (le-ltb (a .node-bytes) (16 * a .sizes .nodes) (c .before .before .before .if1 .left)) ∙ or-no _ (le-ltb (a .tree-bytes) (16 * a .sizes .trees) (c .before .if2 .left)))
+    let nodes = le-ltb (a .node-bytes) (16 * a .sizes .nodes) (c .before .before .before .if1 .left) in
+    let trees = le-ltb (a .tree-bytes) (16 * a .sizes .trees) (c .before .if2 .left) in
+    sym (or-no _ nodes ∙ or-no _ trees)
 
 pub too-short-spec : {M : Type 1} → statement M
 too-short-spec = tie.close (tie.spec mul-if1 mul-if2 returns returns-2 returns-3)

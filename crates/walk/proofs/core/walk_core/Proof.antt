@@ -16,7 +16,8 @@ abbrev entered : tie.Else2 → tie.Start
 entered c = c .before .before .before .before .before .before .before
 
 long : (c : tie.Else2)
-    → tooShort (entered c .args .sizes) (length (entered c .args .node-bytes .now)) (length (entered c .args .tree-bytes .now)) (length (entered c .args .out .now)) ≡ false
+    → tooShort (entered c .args .sizes) (length (entered c .args .node-bytes .now)) (length (entered c .args .tree-bytes .now))
+    (length (entered c .args .out .now)) ≡ false
 long c = sym (c .before .too-short .ensures) ∙ c .if2 .left
 
 too-many-requires : tie.Need-too-many-requires

@@ -14,7 +14,8 @@ use Rattle.walk.proofs.Shorts.{cast-whole, whole-below, whole-is}
 cast-result : tie.Need-cast-result
 cast-result c =
     let e = toZ-ofZ (c .before .fits .v) in
-    subst (λ (z : ℤ). T (nonNeg z) × Fits w64 (natAbs z)) (sym e) (cast-whole (c .before .args .v) (c .before .fits .v) (sym (ap (λ (z : ℤ). ltZ z (pos 0)) e) ∙ c .if1 .left))
+    let not-below = sym (ap (λ (z : ℤ). ltZ z (pos 0)) e) ∙ c .if1 .left in
+    subst (λ (z : ℤ). T (nonNeg z) × Fits w64 (natAbs z)) (sym e) (cast-whole (c .before .args .v) (c .before .fits .v) not-below)
 
 returns : tie.Need-returns
 returns c =

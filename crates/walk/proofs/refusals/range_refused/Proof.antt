@@ -11,14 +11,18 @@ use Rattle.walk.proofs.Shorts.{same, below-zero, below}
 
 returns : tie.Need-returns
 unfolding badRange
-returns c = sym (or-yes _ (or-yes _ (below-zero (c .before .before .before .args .t .«node_index1») (c .before .struct-told .given .1 .1 .0 .1) (c .if1 .taken))))
+returns c =
+    let t = c .before .before .before .args .t in
+    sym (or-yes _ (or-yes _ (below-zero (t .«node_index1») (c .before .struct-told .given .1 .1 .0 .1) (c .if1 .taken))))
 
 returns-2 : tie.Need-returns-2
 unfolding badRange
 returns-2 c =
-    let t = c .before .struct-told2 .given in
-    let low = below-zero (c .before .before .before .before .before .before .args .t .«node_index1») (t .1 .1 .0 .1) (c .before .before .before .if1 .left) in
-    let order = below (c .before .before .before .before .before .before .args .t .«node_index2») (c .before .before .before .before .before .before .args .t .«node_index1») (t .1 .1 .1 .0 .1) (t .1 .1 .0 .1) (c .if2 .taken) in
+    let first-test = c .before .before .before in
+    let t = first-test .before .before .before .args .t in
+    let fits = c .before .struct-told2 .given in
+    let low = below-zero (t .«node_index1») (fits .1 .1 .0 .1) (first-test .if1 .left) in
+    let order = below (t .«node_index2») (t .«node_index1») (fits .1 .1 .1 .0 .1) (fits .1 .1 .0 .1) (c .if2 .taken) in
     sym (or-yes _ (or-no _ low ∙ order))
 
 number-requires : tie.Need-number-requires
@@ -27,11 +31,15 @@ number-requires c κs = search needs
 returns-3 : tie.Need-returns-3
 unfolding badRange
 returns-3 c =
-    let t = c .before .struct-told3 .given in
-    let low = below-zero (c .before .before .before .before .before .before .before .before .args .t .«node_index1») (t .1 .1 .0 .1) (c .before .before .before .before .before .if1 .left) in
-    let order = below (c .before .before .before .before .before .before .before .before .args .t .«node_index2») (c .before .before .before .before .before .before .before .before .args .t .«node_index1») (t .1 .1 .1 .0 .1) (t .1 .1 .0 .1) (c .before .before .if2 .left) in
-    let last = c .number .ensures .0 ∙ ap whole (same (c .before .before .before .before .before .before .before .before .args .t .«node_index2») (t .1 .1 .1 .0 .1)) in
-    ap (λ (n : ℕ). ltb (c .before .before .before .before .before .before .before .before .args .nodes) n) last ∙ sym (or-no _ (or-no _ low ∙ order))
+    let second-test = c .before .before in
+    let first-test = second-test .before .before .before in
+    let a = first-test .before .before .before .args in
+    let t = a .t in
+    let fits = c .before .struct-told3 .given in
+    let low = below-zero (t .«node_index1») (fits .1 .1 .0 .1) (first-test .if1 .left) in
+    let order = below (t .«node_index2») (t .«node_index1») (fits .1 .1 .1 .0 .1) (fits .1 .1 .0 .1) (second-test .if2 .left) in
+    let last = c .number .ensures .0 ∙ ap whole (same (t .«node_index2») (fits .1 .1 .1 .0 .1)) in
+    ap (λ (n : ℕ). ltb (a .nodes) n) last ∙ sym (or-no _ (or-no _ low ∙ order))
 
 pub range-refused-spec : {M : Type 1} → statement M
 range-refused-spec = tie.close (tie.spec returns returns-2 number-requires returns-3)

@@ -22,8 +22,10 @@ skip-requires c κs = search needs
 
 returns : tie.Need-returns
 returns c =
-    let n = c .before .before .before .before .before .args .n in
-    (c .skip .ensures .0 ∙ ap (λ (v : ℤ). max (whole v) 1) (same (n .«item_id») (c .before .struct-told2 .given .1 .1 .0 .1)) ∙ sym (when _ _ _ (sym (count-is (c .before .before .before)) ∙ c .before .before .if1 .taken)), c .skip .ensures .1)
+    let test = c .before .before in
+    let n = test .before .before .before .args .n in
+    let id = ap (λ (v : ℤ). max (whole v) 1) (same (n .«item_id») (c .before .struct-told2 .given .1 .1 .0 .1)) in
+    (c .skip .ensures .0 ∙ id ∙ sym (when _ _ _ (sym (count-is (test .before)) ∙ test .if1 .taken)), c .skip .ensures .1)
 
 returns-2 : tie.Need-returns-2
 returns-2 c = (sym (unless _ _ _ (λ e. c .if1 .left (count-is (c .before) ∙ e))), lit< tt)

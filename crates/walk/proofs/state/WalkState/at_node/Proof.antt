@@ -6,7 +6,7 @@ use mathlib.Core.Path.{sym, ap, _∙_}
 use Prim.Native.Nat.{ℕ}
 use Rattle.walk.specs.Step.{quiet, onward}
 use Rattle.walk.proofs.StepLaws.{node-refused, node-handing, node-onward}
-use Rattle.walk.proofs.Given.{stepped-as, read-as}
+use Rattle.walk.proofs.SameTurn.{stepped-as, read-as}
 
 node-numbered-requires : tie.Need-node-numbered-requires
 node-numbered-requires c κs = search needs

@@ -24,9 +24,12 @@ refused-requires c κs = search needs
 
 returns : tie.Need-returns
 returns c =
-    let a = c .before .before .before .before .before .before .args in
-    let t = c .before .before .before .tree-at .result in
-    c .refused .ensures ∙ sym (ap (λ (u : BvhTree). atTree (a .query) (a .nodes) u (a .self)) (sym (c .before .before .before .tree-at .ensures)) ∙ tree-refused (a .query) (a .nodes) t (a .self) (sym (c .before .before .range-refused .ensures) ∙ c .before .if1 .taken))
+    let refusal = c .before .before in
+    let read = refusal .before in
+    let a = read .before .before .before .args in
+    let is = ap (λ (u : BvhTree). atTree (a .query) (a .nodes) u (a .self)) (sym (read .tree-at .ensures)) in
+    let bad = sym (refusal .range-refused .ensures) ∙ c .before .if1 .taken in
+    c .refused .ensures ∙ sym (is ∙ tree-refused (a .query) (a .nodes) (read .tree-at .result) (a .self) bad)
 
 meets-requires : tie.Need-meets-requires
 meets-requires c κs = search needs
@@ -41,7 +44,9 @@ add-t13 : tie.Need-add-t13
 add-t13 c = search needs
 
 add-t14 : tie.Need-add-t14
-add-t14 c = omega (arith, c .before .before .before .before .before .before .before .before .before .before .before .before .before .pre)
+add-t14 c =
+    let read = c .before .before .before .before .before .before .before .before .before .before in
+    omega (arith, read .before .before .before .pre)
 
 add-t16 : tie.Need-add-t16
 add-t16 c = search needs
@@ -51,17 +56,30 @@ add-t17 c = search needs
 
 returns-2 : tie.Need-returns-2
 returns-2 c =
-    let a = c .before .before .before .before .before .before .before .before .before .before .before .before .before .args in
-    let t = c .before .before .before .before .before .before .before .before .before .before .tree-at .result in
-    let first = c .before .before .before .before .number .ensures .0 ∙ ap whole (same (t .«node_index1») (c .before .before .before .before .before .struct-told .given .1 .1 .0 .1)) in
-    let last = c .before .before .number2 .ensures .0 ∙ ap whole (same (t .«node_index2») (c .before .before .before .struct-told2 .given .1 .1 .1 .0 .1)) in
-    entering-by t (a .self) _ _ first last ∙ sym (ap (λ (u : BvhTree). atTree (a .query) (a .nodes) u (a .self)) (sym (c .before .before .before .before .before .before .before .before .before .before .tree-at .ensures)) ∙ tree-entered (a .query) (a .nodes) t (a .self) (sym (c .before .before .before .before .before .before .before .before .before .range-refused .ensures) ∙ c .before .before .before .before .before .before .before .before .if1 .left) (sym (c .before .before .before .before .before .before .before .meets .ensures) ∙ c .before .before .before .before .before .before .if2 .taken))
+    let last = c .before .before in
+    let first = last .before .before in
+    let test = first .before .before in
+    let refusal = test .before .before .before in
+    let read = refusal .before in
+    let a = read .before .before .before .args in
+    let is = ap (λ (u : BvhTree). atTree (a .query) (a .nodes) u (a .self)) (sym (read .tree-at .ensures)) in
+    let t = read .tree-at .result in
+    let first-is = first .number .ensures .0 ∙ ap whole (same (t .«node_index1») (first .before .struct-told .given .1 .1 .0 .1)) in
+    let last-is = last .number2 .ensures .0 ∙ ap whole (same (t .«node_index2») (last .before .struct-told2 .given .1 .1 .1 .0 .1)) in
+    let good = sym (refusal .range-refused .ensures) ∙ test .before .before .if1 .left in
+    let met = sym (test .before .meets .ensures) ∙ test .if2 .taken in
+    entering-by t (a .self) _ _ first-is last-is ∙ sym (is ∙ tree-entered (a .query) (a .nodes) t (a .self) good met)
 
 returns-3 : tie.Need-returns-3
 returns-3 c =
-    let a = c .before .before .before .before .before .before .before .before .before .args in
-    let t = c .before .before .before .before .before .before .tree-at .result in
-    sym (ap (λ (u : BvhTree). atTree (a .query) (a .nodes) u (a .self)) (sym (c .before .before .before .before .before .before .tree-at .ensures)) ∙ tree-passed (a .query) (a .nodes) t (a .self) (sym (c .before .before .before .before .before .range-refused .ensures) ∙ c .before .before .before .before .if1 .left) (sym (c .before .before .before .meets .ensures) ∙ c .before .before .if2 .left))
+    let test = c .before .before in
+    let refusal = test .before .before .before in
+    let read = refusal .before in
+    let a = read .before .before .before .args in
+    let is = ap (λ (u : BvhTree). atTree (a .query) (a .nodes) u (a .self)) (sym (read .tree-at .ensures)) in
+    let good = sym (refusal .range-refused .ensures) ∙ test .before .before .if1 .left in
+    let missed = sym (test .before .meets .ensures) ∙ test .if2 .left in
+    sym (is ∙ tree-passed (a .query) (a .nodes) (read .tree-at .result) (a .self) good missed)
 
 pub at-tree-spec : {M : Type 1} → statement M
 at-tree-spec =

@@ -1,22 +1,13 @@
--- `state::WalkState::hand_over` meets its contract: the two ways through it are whether the item count leaves room for the whole leaf.
+-- `state::WalkState::hand_over` meets its contract: the numbers read from the record are the definition's.
 use borrow.Author.Needs.{needs}
 use Rattle.walk.proofs.state.WalkState.hand_over.Statement.{statement}
 use Rattle.walk.proofs.state.WalkState.hand_over.Tie as tie
-use mathlib.Core.Path.{_≡_, ap, _∙_}
+use native.Mathlib.Omega.{arith}
+use mathlib.Core.Path.{ap, _∙_}
+use Prim.Native.Nat.{ℕ, _+_, _-_, min}
 use Rattle.walk.specs.Refusals.{whole}
+use Rattle.walk.specs.Step.{upFrom, leafStatus, handing}
 use Rattle.walk.proofs.Shorts.{same}
-use Rattle.walk.proofs.Given.{cut-leaf, whole-leaf}
-
--- what is read of the node
-id-is : (c : tie.After-number) → c .number .result ≡ whole (c .before .before .args .n .«item_id»)
-id-is c =
-    let n = c .before .before .args .n in
-    c .number .ensures .0 ∙ ap whole (same (n .«item_id») (c .before .struct-told .given .1 .1 .0 .1))
-
-count-is : (c : tie.After-number2) → c .number2 .result ≡ whole (c .before .before .before .before .args .n .«item_count»)
-count-is c =
-    let n = c .before .before .before .before .args .n in
-    c .number2 .ensures .0 ∙ ap whole (same (n .«item_count») (c .before .struct-told2 .given .1 .1 .1 .0 .1))
 
 number-requires : tie.Need-number-requires
 number-requires c κs = search needs
@@ -27,8 +18,11 @@ number-requires-2 c κs = search needs
 sub-room : tie.Need-sub-room
 sub-room c = search needs
 
-add-t8 : tie.Need-add-t8
-add-t8 c = search needs
+lesser-requires : tie.Need-lesser-requires
+lesser-requires c κs = search needs
+
+leaf-status-requires : tie.Need-leaf-status-requires
+leaf-status-requires c κs = search needs
 
 add-t9 : tie.Need-add-t9
 add-t9 c = search needs
@@ -36,36 +30,35 @@ add-t9 c = search needs
 add-t10 : tie.Need-add-t10
 add-t10 c = search needs
 
-cast-t14 : tie.Need-cast-t14
-cast-t14 c = search needs
+add-t11 : tie.Need-add-t11
+add-t11 c = search needs
+
+cast-t13 : tie.Need-cast-t13
+cast-t13 c = search needs
 
 returns : tie.Need-returns
+unfolding handing
 returns c =
-    let test = c .before .before .before in
-    let count = test .before .before in
+    let kept = c .before .before .before in
+    let count = kept .before .before .before in
     let id = count .before .before in
     let a = id .before .before .args in
-    cut-leaf (a .items) (a .n) (a .self) _ _ (id-is id) (count-is count) (id .number .ensures .1) (count .number2 .ensures .1) (test .if1 .taken)
-
-add-t16 : tie.Need-add-t16
-add-t16 c = search needs
-
-add-t17 : tie.Need-add-t17
-add-t17 c = search needs
-
-add-t18 : tie.Need-add-t18
-add-t18 c = search needs
-
-cast-t21 : tie.Need-cast-t21
-cast-t21 c = search needs
-
-returns-2 : tie.Need-returns-2
-returns-2 c =
-    let test = c .before .before .before in
-    let count = test .before .before in
-    let id = count .before .before in
-    let a = id .before .before .args in
-    whole-leaf (a .items) (a .n) (a .self) _ _ (id-is id) (count-is count) (id .number .ensures .1) (count .number2 .ensures .1) (test .if1 .left)
+    let s = a .self in
+    let n = a .n in
+    let room = a .items - s .handed in
+    let id-is = id .number .ensures .0 ∙ ap whole (same (n .«item_id») (id .before .struct-told .given .1 .1 .0 .1)) in
+    let count-is = count .number2 .ensures .0 ∙ ap whole (same (n .«item_count») (count .before .struct-told2 .given .1 .1 .1 .0 .1)) in
+    let m-is = kept .before .lesser .ensures ∙ ap (λ (k : ℕ). min k room) count-is in
+    let status-is = kept .leaf-status .ensures ∙ ap (leafStatus room) count-is in
+    record {
+      turn-is =
+          λ i. record {
+            state =
+                record { tree = s .tree; at = s .at + 1; last = s .last; reads = s .reads + 1; handed = s .handed + m-is i; status = status-is i };
+            given = upFrom (id-is i) (m-is i);
+          };
+      short-run = omega (arith, id .number .ensures .1, count .number2 .ensures .1, kept .before .lesser .ensures);
+    }
 
 pub hand-over-spec : {M : Type 1} → statement M
 hand-over-spec =
@@ -74,13 +67,10 @@ hand-over-spec =
     number-requires
     number-requires-2
     sub-room
-    add-t8
+    lesser-requires
+    leaf-status-requires
     add-t9
     add-t10
-    cast-t14
-    returns
-    add-t16
-    add-t17
-    add-t18
-    cast-t21
-    returns-2)
+    add-t11
+    cast-t13
+    returns)

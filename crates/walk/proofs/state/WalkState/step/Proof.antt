@@ -6,7 +6,7 @@ use native.Mathlib.Omega.{arith}
 use mathlib.Core.Path.{sym, ap, _∙_}
 use Rattle.walk.specs.Step.{Lent, lentOf, quiet}
 use Rattle.walk.proofs.StepLaws.{step-node, step-tree, more-tree}
-use Rattle.walk.proofs.Given.{stepped-as}
+use Rattle.walk.proofs.SameTurn.{stepped-as}
 
 abbrev lent : tie.Start → Lent
 lent c = lentOf (c .args .query) (c .args .sizes) (c .args .node-bytes .now) (c .args .tree-bytes .now)
