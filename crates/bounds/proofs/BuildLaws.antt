@@ -1,19 +1,19 @@
 -- What the core's answer of a build says of the C interface's. Assumes nothing.
 use Prim.Native.Nat.{ℕ}
-use mathlib.Core.List.{List}
 use mathlib.Core.Path.{_≡_, ap, _∙_}
 use Rattle.bvh.specs.declared.core.Build.{Build}
 use Rattle.bvh.specs.declared.core.Lengths.{Lengths}
 use Rattle.bvh.specs.Build.{Entries, kept, nodesWritten, treesWritten, orderWritten}
-use Rattle.bvh.specs.Entry.{Answered}
+use Rattle.bvh.specs.Entry.{Outputs, Answered}
 use Rattle.bounds.specs.declared.BuildAnswer.{BuildAnswer}
 use Rattle.bounds.specs.Trees.{buildAnswer, Answers}
 
-pub answers : (e : Entries) (th : ℕ) (l : Lengths) (b : Build) (r : BuildAnswer) (nodes trees order nodes′ trees′ order′ : List ℕ) → Answered e th l b nodes trees order nodes′ trees′ order′ → r ≡ buildAnswer b → Answers e th l r nodes trees order nodes′ trees′ order′
-answers e th l b r nodes trees order nodes′ trees′ order′ a given =
+pub answers : (e : Entries) (th : ℕ) (l : Lengths) (b : Build) (r : BuildAnswer) (before after : Outputs)
+    → Answered e th l b before after → r ≡ buildAnswer b → Answers e th l r before after
+answers e th l b r before after a given =
     record {
       answer = given ∙ ap buildAnswer (a .answer);
-      nodes-are = a .nodes-are ∙ ap (λ (x : Build). kept x (nodesWritten e th) nodes) (a .answer);
-      trees-are = a .trees-are ∙ ap (λ (x : Build). kept x (treesWritten e th) trees) (a .answer);
-      order-is = a .order-is ∙ ap (λ (x : Build). kept x (orderWritten e th) order) (a .answer);
+      nodes-are = a .nodes-are ∙ ap (λ (x : Build). kept x (nodesWritten e th) (before .nodes)) (a .answer);
+      trees-are = a .trees-are ∙ ap (λ (x : Build). kept x (treesWritten e th) (before .trees)) (a .answer);
+      order-is = a .order-is ∙ ap (λ (x : Build). kept x (orderWritten e th) (before .order)) (a .answer);
     }

@@ -8,10 +8,11 @@ use Rattle.math.specs.declared.words3.Words3.{Words3}
 use Rattle.records.specs.declared.header.Bvh.{Bvh}
 use Rattle.records.specs.Header.{headerAnswer, headerExit}
 use Rattle.bvh.specs.declared.core.Build.{Build}
-use Rattle.bvh.specs.declared.core.Build.the-variants.{Built, TooManyEntries, ThresholdOutside, BufferTooShort, TooManyNodes}
+use Rattle.bvh.specs.declared.core.Build.the-variants.{Built, Refused}
 use Rattle.bvh.specs.declared.core.BuiltTree.{BuiltTree}
 use Rattle.bvh.specs.declared.core.Lengths.{Lengths}
-use Rattle.bvh.specs.Build.{Entries, answerOf, kept, numberOf, nodesWritten, treesWritten, orderWritten}
+use Rattle.bvh.specs.Build.{Entries, answerOf, kept, refusalNumber, nodesWritten, treesWritten, orderWritten}
+use Rattle.bvh.specs.Entry.{Outputs}
 use Rattle.bounds.specs.declared.BuildAnswer.{BuildAnswer}
 
 abbrev pub zeroPoint : Vec3
@@ -51,17 +52,14 @@ treeValues t =
 -- Rule B1 (01, What each operation turns down): the number and the values of each answer.
 abbrev pub buildAnswer : Build → BuildAnswer
 buildAnswer (Built t) = treeValues t
-buildAnswer TooManyEntries = refusedBy (numberOf TooManyEntries)
-buildAnswer BufferTooShort = refusedBy (numberOf BufferTooShort)
-buildAnswer ThresholdOutside = refusedBy (numberOf ThresholdOutside)
-buildAnswer TooManyNodes = refusedBy (numberOf TooManyNodes)
+buildAnswer (Refused r) = refusedBy (refusalNumber r)
 
 -- Rule B2 (01, Build): the answer r of a build of the entries e, and the three outputs whole.
-pub record Answers (e : Entries) (th : ℕ) (l : Lengths) (r : BuildAnswer) (nodes trees order nodes′ trees′ order′ : List ℕ) : Type 0 where
+pub record Answers (e : Entries) (th : ℕ) (l : Lengths) (r : BuildAnswer) (before after : Outputs) : Type 0 where
   pub answer : r ≡ buildAnswer (answerOf e th l)
-  pub nodes-are : nodes′ ≡ kept (answerOf e th l) (nodesWritten e th) nodes
-  pub trees-are : trees′ ≡ kept (answerOf e th l) (treesWritten e th) trees
-  pub order-is : order′ ≡ kept (answerOf e th l) (orderWritten e th) order
+  pub nodes-are : after .nodes ≡ kept (answerOf e th l) (nodesWritten e th) (before .nodes)
+  pub trees-are : after .trees ≡ kept (answerOf e th l) (treesWritten e th) (before .trees)
+  pub order-is : after .order ≡ kept (answerOf e th l) (orderWritten e th) (before .order)
 
 -- Rule R9 (01, Tree header): the number, and the bytes after it.
 pub record HeaderWritten (h : Bvh) (before after : List ℕ) (r : ℕ) : Type 0 where

@@ -1,5 +1,6 @@
 // The C interface: one function an operation, none of which asks anything of its caller.
 use bvh::core::Build;
+use bvh::core::BuildRefusal;
 use bvh::core::BuiltTree;
 use float32::compare::Relation;
 use float32::sorting::Ordering;
@@ -29,9 +30,10 @@ ghost use Rattle.math.specs.Stored.{vminWordsOf, vmaxWordsOf};
 ghost use Rattle.math.specs.Transform.{pointOf, vectorOf, transformBox};
 ghost use Rattle.math.specs.Vec3s.{addOf, subOf, scaleOf, negOf, absOf, dotOf, crossOf, lengthOf, vmulOf, vdivOf, vaddOf, normOf, vmin3Of, vmax3Of, cmpVec3Of};
 ghost use Rattle.records.specs.Header.{headerNumber, headerAnswer, headerExit};
-ghost use Rattle.bvh.specs.Entry.{entriesIn, lengthsOf};
+ghost use Rattle.bvh.specs.Build.{refusalNumber as buildRefusal};
+ghost use Rattle.bvh.specs.Entry.{entriesIn, outputs, lent, lengthsOf};
 ghost use Rattle.bounds.specs.Numbers.{relationNumber, orderingNumber};
-ghost use Rattle.walk.specs.Walks.{refusalNumber, walkOf};
+ghost use Rattle.walk.specs.Walks.{refusalNumber as walkRefusal, walkOf};
 ghost use Rattle.bounds.specs.Trees.{refusedBy, treeValues, buildAnswer, Answers, HeaderWritten};
 ghost use Rattle.bounds.specs.WalkAnswers.{sizesOf, counted, walkAnswer, WalkAnswered};
 
@@ -393,19 +395,28 @@ fn tree_values(t: BuiltTree) -> BuildAnswer
     }
 }
 
+fn build_refusal_number(why: BuildRefusal) -> u32
+    ensures { λ r. ⌜ r ≡ buildRefusal why ⌝ }
+{
+    match why {
+        BuildRefusal::TooManyEntries => 1,
+        BuildRefusal::BufferTooShort => 2,
+        BuildRefusal::ThresholdOutside => 3,
+        BuildRefusal::TooManyNodes => 4,
+    }
+}
+
 fn build_answer(b: Build) -> BuildAnswer
     ensures { λ r. ⌜ r ≡ buildAnswer b ⌝ }
 {
     match b {
         Build::Built(t) => tree_values(t),
-        Build::TooManyEntries => refused(1),
-        Build::BufferTooShort => refused(2),
-        Build::ThresholdOutside => refused(3),
-        Build::TooManyNodes => refused(4),
+        Build::Refused(why) => refused(build_refusal_number(why)),
     }
 }
 
-// The words of the work buffer that a build of so many entries needs, all parts together: 7n for words, n each for places, temp and stack, 2n + 1 each for first and count, 6(2n + 1) for boxes.
+// The words that a build of n entries reads and works in, all parts together: 7n for the entries, n each for places, temp and stack,
+// 8(2n + 1) for the rows.
 #[no_mangle]
 pub extern "C" fn bounds_work_len(entries: u32) -> u64
     ensures { λ r. ⌜ r ≡ 26 * entries + 8 ⌝ }
@@ -413,37 +424,37 @@ pub extern "C" fn bounds_work_len(entries: u32) -> u64
     26 * (entries as u64) + 8
 }
 
-// The tree of the present entries, of which `words` holds seven words each: a mark (0 for absent), min, max.
+// The tree of the present entries, of which `entries` holds seven words each: a mark (0 for absent), min, max.
 #[no_mangle]
 pub extern "C" fn bounds_build_bvh(
-    entries: usize,
+    entry_count: usize,
     threshold: u32,
-    nodes: &mut [u8],
-    trees: &mut [u8],
+    entries: &[u32],
+    node_bytes: &mut [u8],
+    tree_bytes: &mut [u8],
     order: &mut [u16],
-    words: &mut [u32],
     places: &mut [u32],
     temp: &mut [u32],
     stack: &mut [u32],
-    first: &mut [u32],
-    count: &mut [u32],
-    boxes: &mut [u32],
+    rows: &mut [u32],
 ) -> BuildAnswer
-    ensures { λ r. ⌜ Answers (entriesIn entries (take (7 * entries) (now (words .entry)))) threshold (lengthsOf (now (nodes .entry)) (now (trees .entry)) (now (order .entry)) (now (words .entry)) (now (places .entry)) (now (temp .entry)) (now (stack .entry)) (now (first .entry)) (now (count .entry)) (now (boxes .entry))) r (now (nodes .entry)) (now (trees .entry)) (now (order .entry)) (now (nodes .exit)) (now (trees .exit)) (now (order .exit)) ⌝ }
+    ensures { λ r. ⌜ Answers (entriesIn «entry_count» (take (7 * «entry_count») (now (entries .entry)))) threshold
+        (lengthsOf (outputs (now («node_bytes» .entry)) (now («tree_bytes» .entry)) (now (order .entry)))
+        (lent (now (entries .entry)) (now (places .entry)) (now (temp .entry)) (now (stack .entry)) (now (rows .entry)))) r
+        (outputs (now («node_bytes» .entry)) (now («tree_bytes» .entry)) (now (order .entry)))
+        (outputs (now («node_bytes» .exit)) (now («tree_bytes» .exit)) (now (order .exit))) ⌝ }
 {
     build_answer(bvh::core::build_core(
-        entries,
+        entry_count,
         threshold,
-        nodes,
-        trees,
+        entries,
+        node_bytes,
+        tree_bytes,
         order,
-        words,
         places,
         temp,
         stack,
-        first,
-        count,
-        boxes,
+        rows,
     ))
 }
 
@@ -486,7 +497,7 @@ fn with_counts(number: u32, c: Counts) -> WalkAnswer
 }
 
 fn walk_refusal_number(why: WalkRefusal) -> u32
-    ensures { λ r. ⌜ r ≡ refusalNumber why ⌝ }
+    ensures { λ r. ⌜ r ≡ walkRefusal why ⌝ }
 {
     match why {
         WalkRefusal::TooMany => 1,

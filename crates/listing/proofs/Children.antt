@@ -12,7 +12,7 @@ use Rattle.base.specs.Lists.{upFrom, over}
 use Rattle.base.specs.LittleEndian.{leAt}
 use Rattle.base.proofs.LittleEndian.{le-past}
 use Rattle.split.specs.Boxes.{boxWords, boxFrom}
-use Rattle.bvh.specs.Decode.{marked}
+use Rattle.bvh.specs.Items.{marked}
 use Rattle.bvh.specs.Entry.{entriesIn}
 use Rattle.listing.specs.Listing.{childrenOf}
 use Rattle.listing.specs.Reading.{cornerAt, childBox, childWords}

@@ -5,8 +5,6 @@ use native.Mathlib.Omega.{arith}
 use mathlib.Core.Bool.{false}
 use mathlib.Core.List.{List, [], _∷_, _++_}
 use mathlib.Core.Path.{_≡_, refl, sym, ap, ap₂, _∙_, subst}
-use types.Run.{OneOf, miss}
-use denote.Enum.Declared.{tagOf}
 use lib.ListN.{length}
 use borrow.Author.Tests.{le-ltb}
 use Rattle.base.proofs.WithinLaws.{below-within, within-below}
@@ -14,19 +12,22 @@ use Rattle.base.proofs.NumberLaws.{below-wider}
 use Rattle.base.specs.Lists.{upFrom, over}
 use Rattle.bvh.proofs.core.Build.{the-type}
 use Rattle.bvh.specs.declared.core.Build.{Build}
-use Rattle.bvh.specs.declared.core.Build.the-variants.{Built}
+use Rattle.bvh.specs.declared.core.Build.the-variants.{Built, Refused}
+use Rattle.bvh.specs.declared.core.BuildRefusal.{BuildRefusal}
 use Rattle.bvh.specs.declared.core.BuiltTree.{BuiltTree}
 use Rattle.bvh.specs.declared.core.Lengths.{Lengths}
 use Rattle.bvh.specs.Build.{Entries, treeOf, builtOf, short, answerOf, kept, nodesWritten, treesWritten}
 use Rattle.bvh.specs.Decode.{Below, SmallRows}
-use Rattle.bvh.specs.Entry.{Answered}
-use Rattle.bvh.specs.Output.{capacityOf}
-use Rattle.bvh.specs.Ranges.{ranges}
+use Rattle.bvh.specs.Entry.{Answered, Outputs}
+use Rattle.bvh.specs.Output.{capacityOf, over}
+use Rattle.bvh.specs.Ranges.{ranges, rangeLimit}
+use Rattle.bvh.specs.steps.Decode.{Below, SmallRows}
+use Rattle.bvh.specs.Numbers.{upFrom}
 use Rattle.bvh.specs.Rows.{rows}
 use Rattle.bvh.specs.Tree.{builder, grow, leafOrder, size}
 use Rattle.bvh.proofs.Lawful.{lawful}
 use Rattle.bvh.proofs.RangeLaws.{ranges-few}
-use Rattle.bvh.proofs.RowsInLaws.{small-rows}
+use Rattle.bvh.proofs.SmallLaws.{small-rows}
 use Rattle.bvh.proofs.TreeLaws.{grow-leaf, size-most, leaf-order-length, leaf-order-within}
 use Rattle.listing.specs.Lines.{countsLine, recordsText}
 use Rattle.listing.specs.Listing.{childrenOf, listingOf}
@@ -69,13 +70,11 @@ pub record Roomy (l : Lengths) : Type 0 where
   pub nodes-room : 8208 ≤ l .nodes
   pub trees-room : 8208 ≤ l .trees
   pub order-room : 256 ≤ l .order
-  pub words-room : 1792 ≤ l .words
+  pub entries-room : 1792 ≤ l .entries
   pub places-room : 256 ≤ l .places
   pub temp-room : 256 ≤ l .temp
   pub stack-room : 256 ≤ l .stack
-  pub first-room : 513 ≤ l .first
-  pub count-room : 513 ≤ l .count
-  pub boxes-room : 3078 ≤ l .boxes
+  pub rows-room : 4104 ≤ l .rows
 
 not-short : (n : ℕ) (l : Lengths) → n ≤ 256 → Roomy l → short n l ≡ false
 not-short n l h r =
@@ -83,13 +82,11 @@ not-short n l h r =
       le-ltb (l .nodes) (16 * (2 * n + 1)) (omega arith),
       le-ltb (l .trees) (16 * (2 * n + 1)) (omega arith),
       le-ltb (l .order) n (omega arith),
-      le-ltb (l .words) (7 * n) (omega arith),
+      le-ltb (l .entries) (7 * n) (omega arith),
       le-ltb (l .places) n (omega arith),
       le-ltb (l .temp) n (omega arith),
       le-ltb (l .stack) n (omega arith),
-      le-ltb (l .first) (2 * n + 1) (omega arith),
-      le-ltb (l .count) (2 * n + 1) (omega arith),
-      le-ltb (l .boxes) (6 * (2 * n + 1)) (omega arith),
+      le-ltb (l .rows) (8 * (2 * n + 1)) (omega arith),
     )
 
 module _ (e : Entries) (f : FewEntries e) where
@@ -114,7 +111,7 @@ module _ (e : Entries) (f : FewEntries e) where
 
   records-listed : (nodes trees : List ℕ)
       → recordsText (over (nodesWritten e 1) nodes) (size (treeOf e 1)) (capacityOf 1 (e .number) (size (treeOf e 1)))
-      (over (treesWritten e 1) trees) (length (ranges 0 (treeOf e 1)))
+      (over (treesWritten e 1) trees) (length (ranges rangeLimit 0 (treeOf e 1)))
       ≡ listingOf e
   unfolding listingOf recordsText
   records-listed nodes trees =
@@ -124,32 +121,32 @@ module _ (e : Entries) (f : FewEntries e) where
 -- ---- what the build leaves
 
 -- It is not refused; its values, and the bytes of its records.
-pub record Made (e : Entries) (r : Build) (nodes trees nodes′ trees′ : List ℕ) : Type 0 where
+pub record Made (e : Entries) (r : Build) (before after : Outputs) : Type 0 where
   pub few : FewEntries e
   pub answer : r ≡ Built (builtOf e 1 (treeOf e 1))
-  pub nodes-are : nodes′ ≡ over (nodesWritten e 1) nodes
-  pub trees-are : trees′ ≡ over (treesWritten e 1) trees
+  pub nodes-are : after .nodes ≡ over (nodesWritten e 1) (before .nodes)
+  pub trees-are : after .trees ≡ over (treesWritten e 1) (before .trees)
 
-made-by : (e : Entries) {l : Lengths} {r : Build} {nodes trees order nodes′ trees′ order′ : List ℕ} → FewEntries e → Roomy l
-    → Answered e 1 l r nodes trees order nodes′ trees′ order′ → Made e r nodes trees nodes′ trees′
-made-by e {l} {r} {nodes} {trees} few room a =
+made-by : (e : Entries) {l : Lengths} {r : Build} {before after : Outputs} → FewEntries e → Roomy l → Answered e 1 l r before after → Made e r before after
+made-by e {l} {r} {before} few room a =
     let built = a .answer ∙ not-refused e few l room in
     record {
       few = few;
       answer = built;
-      nodes-are = a .nodes-are ∙ ap (λ (b : Build). kept b (nodesWritten e 1) nodes) built;
-      trees-are = a .trees-are ∙ ap (λ (b : Build). kept b (treesWritten e 1) trees) built;
+      nodes-are = a .nodes-are ∙ ap (λ (b : Build). kept b (nodesWritten e 1) (before .nodes)) built;
+      trees-are = a .trees-are ∙ ap (λ (b : Build). kept b (treesWritten e 1) (before .trees)) built;
     }
 
-pub made : {d e : Entries} {l : Lengths} {r : Build} {nodes trees order nodes′ trees′ order′ : List ℕ} → d ≡ e → FewEntries e → Roomy l
-    → Answered d 1 l r nodes trees order nodes′ trees′ order′ → Made e r nodes trees nodes′ trees′
-made {d} {e} {l} {r} {nodes} {trees} {order} {nodes′} {trees′} {order′} same few room a =
-    made-by e few room (subst (λ (x : Entries). Answered x 1 l r nodes trees order nodes′ trees′ order′) same a)
+pub made : {d e : Entries} {l : Lengths} {r : Build} {before after : Outputs} → d ≡ e → FewEntries e → Roomy l
+    → Answered d 1 l r before after → Made e r before after
+made {d} {e} {l} {r} {before} {after} same few room a =
+    made-by e few room (subst (λ (x : Entries). Answered x 1 l r before after) same a)
 
-module _ (e : Entries) {r : Build} {nodes trees nodes′ trees′ : List ℕ} (m : Made e r nodes trees nodes′ trees′) where
-  -- It is no other answer.
-  pub made-only : OneOf (1 ∷ 2 ∷ 3 ∷ 4 ∷ []) (tagOf the-type r) → ⊥
-  made-only k = miss (1 ∷ 2 ∷ 3 ∷ 4 ∷ []) 0 tt (subst (λ (b : Build). OneOf (1 ∷ 2 ∷ 3 ∷ 4 ∷ []) (tagOf the-type b)) (m .answer) k)
+module _ (e : Entries) {r : Build} {before after : Outputs} (m : Made e r before after) where
+  pub made-not : (w : BuildRefusal) → r ≡ Refused w → ⊥
+  made-not w is =
+      let z : _≡_ {A = ℕ} 0 1 = cc (m .answer) in
+      omega arith
 
   module _ (b : BuiltTree) (is : r ≡ Built b) where
     tree-is : b ≡ builtOf e 1 (treeOf e 1)
@@ -162,11 +159,11 @@ module _ (e : Entries) {r : Build} {nodes trees nodes′ trees′ : List ℕ} (m
     capacity-few = omega (arith, m .few .few, ap (λ (t : BuiltTree). t .capacity) tree-is)
 
     pub trees-few : b .trees ≤ 513
-    trees-few = omega (arith, entries-size e (m .few), ranges-few 0 (treeOf e 1), ap (λ (t : BuiltTree). t .trees) tree-is)
+    trees-few = omega (arith, entries-size e (m .few), ranges-few rangeLimit (omega arith) 0 (treeOf e 1), ap (λ (t : BuiltTree). t .trees) tree-is)
 
-    pub made-listed : recordsText nodes′ (b .nodes) (b .capacity) trees′ (b .trees) ≡ listingOf e
+    pub made-listed : recordsText (after .nodes) (b .nodes) (b .capacity) (after .trees) (b .trees) ≡ listingOf e
     made-listed =
         let t = builtOf e 1 (treeOf e 1) in
-        ap (λ (t : BuiltTree). recordsText nodes′ (t .nodes) (t .capacity) trees′ (t .trees)) tree-is
+        ap (λ (t : BuiltTree). recordsText (after .nodes) (t .nodes) (t .capacity) (after .trees) (t .trees)) tree-is
         ∙ ap₂ (λ (ns ts : List ℕ). recordsText ns (t .nodes) (t .capacity) ts (t .trees)) (m .nodes-are) (m .trees-are)
-        ∙ records-listed e (m .few) nodes trees
+        ∙ records-listed e (m .few) (before .nodes) (before .trees)

@@ -12,10 +12,11 @@ use Rattle.records.proofs.Fitting.{quantise-fits}
 use Rattle.records.proofs.ReadBack.{node-back, tree-back}
 use Rattle.records.proofs.Sizes.{node-bytes, tree-bytes}
 use Rattle.bvh.specs.Build.{Entries, treeOf, nodesWritten, treesWritten, scaleIn}
-use Rattle.bvh.specs.Decode.{SmallRows}
+use Rattle.bvh.specs.steps.Decode.{SmallRows}
 use Rattle.bvh.specs.Numbers.{RisingRanges}
 use Rattle.bvh.specs.Output.{nodeOf, nodesBytes, padBytes, capacityOf, treeRecord, treesBytes}
-use Rattle.bvh.specs.Ranges.{Range, ranges}
+use Rattle.bvh.specs.Ranges.{Range, ranges, rangeLimit}
+use Rattle.bvh.specs.Output.{over, nodeOf, nodesBytes, padBytes, capacityOf, treeRecord, treesBytes}
 use Rattle.bvh.specs.Rows.{Row, rows}
 use Rattle.bvh.specs.Tree.{leafOrder, size}
 use Rattle.bvh.proofs.RangeLaws.{ranges-rise}
@@ -85,15 +86,15 @@ trees-fit s lo hi (r ∷ rs) few h =
     )
 
 pub tree-lines : (e : Entries) (before : List ℕ) → size (treeOf e 1) < 32768
-    → treeLines (over (treesWritten e 1) before) (length (ranges 0 (treeOf e 1))) ≡ numbered treeLine 0 (treesOf (treeOf e 1))
+    → treeLines (over (treesWritten e 1) before) (length (ranges rangeLimit 0 (treeOf e 1))) ≡ numbered treeLine 0 (treesOf (treeOf e 1))
 unfolding treeLines treesOf treesWritten treeOf
 tree-lines e before few =
     let t = treeOf e 1 in
-    let ts = map (treeRecord (scaleIn t)) (ranges 0 t) in
+    let ts = map (treeRecord (scaleIn t)) (ranges rangeLimit 0 t) in
     let rest = drop (length (treesWritten e 1)) before in
-    let bytes : joined treeBytes ts ++ rest ≡ over (treesWritten e 1) before = ap (λ (l : List ℕ). l ++ rest) (joined-trees (scaleIn t) (ranges 0 t)) in
-    let count : 0 + length ts ≡ length (ranges 0 t) = zero-add (length ts) ∙ length-map (ranges 0 t) (treeRecord (scaleIn t)) in
-    let fit = trees-fit (scaleIn t) 0 (0 + size t) (ranges 0 t) (omega arith) (ranges-rise 0 t) in
+    let bytes : joined treeBytes ts ++ rest ≡ over (treesWritten e 1) before = ap (λ (l : List ℕ). l ++ rest) (joined-trees (scaleIn t) (ranges rangeLimit 0 t)) in
+    let count : 0 + length ts ≡ length (ranges rangeLimit 0 t) = zero-add (length ts) ∙ length-map (ranges rangeLimit 0 t) (treeRecord (scaleIn t)) in
+    let fit = trees-fit (scaleIn t) 0 (0 + size t) (ranges rangeLimit 0 t) (omega arith) (ranges-rise rangeLimit (omega arith) 0 t) in
     let read = reads-back treeBytes treeAt TreeFits (λ r. tree-bytes r .size) tree-back [] rest 0 ts refl fit in
-    subst (λ (l : List ℕ). treeLines l (length (ranges 0 t)) ≡ numbered treeLine 0 ts) bytes
+    subst (λ (l : List ℕ). treeLines l (length (ranges rangeLimit 0 t)) ≡ numbered treeLine 0 ts) bytes
     (ap (treeLines (joined treeBytes ts ++ rest)) (sym count) ∙ lines-numbered treeAt treeLine (joined treeBytes ts ++ rest) 0 ts read)

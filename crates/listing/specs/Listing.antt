@@ -11,7 +11,7 @@ use Rattle.records.specs.declared.BvhNode.{BvhNode}
 use Rattle.records.specs.declared.BvhTree.{BvhTree}
 use Rattle.bvh.specs.Build.{Entries, treeOf, scaleIn}
 use Rattle.bvh.specs.Output.{nodeOf, treeRecord, capacityOf}
-use Rattle.bvh.specs.Ranges.{ranges}
+use Rattle.bvh.specs.Ranges.{ranges, rangeLimit}
 use Rattle.bvh.specs.Rows.{rows}
 use Rattle.bvh.specs.Tree.{Node, leafOrder, size}
 use Rattle.listing.specs.Lines.{nodeLine, treeLine, countsLine, refusedLine}
@@ -28,7 +28,7 @@ nodesOf t = map (nodeOf (scaleIn t) 1 (leafOrder t)) (rows 0 t)
 
 -- Rule R14: its tree records.
 unfoldable pub treesOf : Node → List BvhTree
-treesOf t = map (treeRecord (scaleIn t)) (ranges 0 t)
+treesOf t = map (treeRecord (scaleIn t)) (ranges rangeLimit 0 t)
 
 -- the lines of some records, numbered from k on
 abbrev pub numbered : {A : Type 0} → (ℕ → A → List ℕ) → ℕ → List A → List ℕ

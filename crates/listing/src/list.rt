@@ -44,22 +44,18 @@ fn put_children(out: &mut [u8], input: &[u8]) -> usize
     let mut places = [0u32; 256];
     let mut temp = [0u32; 256];
     let mut stack = [0u32; 256];
-    let mut first = [0u32; 513];
-    let mut count = [0u32; 513];
-    let mut boxes = [0u32; 3078];
+    let mut rows = [0u32; 4104];
     let built = bvh::core::build_core(
         n,
         1,
+        &entries,
         &mut node_bytes,
         &mut tree_bytes,
         &mut order,
-        &mut entries,
         &mut places,
         &mut temp,
         &mut stack,
-        &mut first,
-        &mut count,
-        &mut boxes,
+        &mut rows,
     );
     // So few boxes are not refused.
     let Build::Built(tree) = built else {

@@ -7,7 +7,7 @@ use lib.Dec.{eqb}
 use lib.ListN.{getD}
 use Rattle.math.specs.declared.aabb.Aabb.{Aabb}
 use Rattle.split.specs.Boxes.{boxAt}
-use Rattle.bvh.specs.Decode.{isMarked}
+use Rattle.bvh.specs.Items.{isMarked}
 use Rattle.walk.specs.Boxes.{meetsBox}
 use Rattle.tree.specs.Pair.{boxValues}
 use Rattle.pairs.specs.declared.judge.Met.{Met}

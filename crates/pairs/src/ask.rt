@@ -2,9 +2,9 @@
 use crate::draw::Shape;
 use crate::draw::three_on;
 use crate::tally::Tally;
-use bvh::core::Build;
 use bvh::core::BuiltTree;
 use math::aabb::Aabb;
+use tree::pair::Found;
 use walk::core::Counts;
 use walk::core::Walk;
 ghost use Prim.Native.Nat.{_≤_};
@@ -41,43 +41,33 @@ fn verdict(
     }
 }
 
-// Builds and walks. The build works in the words that it is lent, so they are not the list that the answer is held against.
-fn ask(list: &[u32; 4900], shape: Shape, threshold: u32, query: Aabb) -> Tally
-    requires { ⌜ shape .entries ≤ 700 ⌝ }
-{
-    let mut words = [0u32; 4900];
-    crate::lists::fill(&mut words, shape);
-    let mut nodes = [0u8; 22416];
-    let mut trees = [0u8; 22416];
+// Builds and walks a list of n entries. A build only reads them, so the answer is held against the same list.
+fn ask(list: &[u32; 4900], n: usize, threshold: u32, query: Aabb) -> Tally {
+    let mut node_bytes = [0u8; 22416];
+    let mut tree_bytes = [0u8; 22416];
     let mut order = [0u16; 700];
     let mut places = [0u32; 700];
     let mut temp = [0u32; 700];
     let mut stack = [0u32; 700];
-    let mut first = [0u32; 1401];
-    let mut count = [0u32; 1401];
-    let mut boxes = [0u32; 8406];
+    let mut rows = [0u32; 11208];
     let mut out = [0u16; 700];
     let found = tree::pair::build_and_walk(
-        shape.entries,
+        n,
         threshold,
         query,
-        &mut nodes,
-        &mut trees,
+        list,
+        &mut node_bytes,
+        &mut tree_bytes,
         &mut order,
-        &mut words,
         &mut places,
         &mut temp,
         &mut stack,
-        &mut first,
-        &mut count,
-        &mut boxes,
+        &mut rows,
         &mut out,
     );
-    let build = found.build;
-    let Build::Built(tree) = build else {
+    let Found::Walked(tree, walk) = found else {
         return Tally::refused();
     };
-    let walk = found.walk;
     let Walk::Walked(counts) = walk else {
         return Tally::refused();
     };
@@ -86,14 +76,14 @@ fn ask(list: &[u32; 4900], shape: Shape, threshold: u32, query: Aabb) -> Tally
 
 // All queries over a list. They are drawn on from s.
 pub fn ask_all(list: &[u32; 4900], shape: Shape, threshold: u32, s: u32) -> Tally
-    requires { ⌜ shape .entries ≤ 700 ⌝ }
+    requires { ⌜ shape .n ≤ 700 ⌝ }
 {
     let mut state = s;
     let mut sum = Tally::none();
     let mut k: u32 = 0;
     while k < 16 {
         let query = crate::queries::query(k, list, shape, state);
-        sum = sum.and(ask(list, shape, threshold, query));
+        sum = sum.and(ask(list, shape.n, threshold, query));
         state = three_on(three_on(state));
         k += 1;
     }

@@ -6,7 +6,7 @@ ghost use Prim.Native.Nat.{_<_};
 // What the boxes of a list are like.
 pub struct Shape {
     pub seed: u32,
-    pub entries: usize,
+    pub n: usize,
     // Of how many entries one is absent; 0 for none.
     pub absent: u32,
     // Least corners lie below these on x and y, and on z; sides below the third.

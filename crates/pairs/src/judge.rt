@@ -1,13 +1,14 @@
 // An answer, held against comparing every box.
 use crate::lists::box_of;
 use crate::lists::is_present;
+use base::numbers::Place;
+use base::numbers::Position;
 use math::aabb::Aabb;
 use std::num::wrapping_add_u64;
 ghost use mathlib.Core.Path.{_≡_};
 ghost use mathlib.Core.Bool.{not, _&&_};
 ghost use Prim.Native.Nat.{_+_, _≤_, _<_};
 ghost use Rattle.pairs.specs.Judging.{oneIf, meetsAt, seenAt, Compared};
-ghost use Rattle.bvh.specs.Promises.{itemAt};
 
 // Boxes that meet the query; of those, how many were not handed out; and how many handed out are not present.
 pub struct Met {
@@ -16,36 +17,27 @@ pub struct Met {
     pub stray: u64,
 }
 
-fn wide(x: u16) -> usize
-    ensures { λ r. ⌜ r ≡ x ⌝ }
-{
-    x as usize
-}
-
-// The item at a position: the place itself at threshold 1, above by the order.
-fn item_at(threshold: u32, order: &[u16; 700], position: usize) -> usize
-    requires { ⌜ position < 700 ⌝ }
-    ensures { λ r. ⌜ r ≡ itemAt threshold (now (order .entry)) position ⌝ }
-{
-    let ordered = wide(order[position]);
-    if threshold == 1 { position } else { ordered }
+fn position_of(handed: u16) -> Position {
+    Position(handed as u32)
 }
 
 // A position that is in no order stands for no item.
-fn item_handed(threshold: u32, order: &[u16; 700], position: usize) -> usize {
-    if position >= 700 {
-        return position;
+fn item_handed(threshold: u32, order: &[u16; 700], position: Position) -> Place {
+    let at = position.0;
+    if at >= 700 {
+        return Place(at);
     }
-    item_at(threshold, order, position)
+    tree::pair::item_at(position, threshold, order)
 }
 
 // 1 where the item had its mark already, or is none.
-fn mark(seen: &mut [u8; 700], item: usize) -> u64 {
-    if item >= 700 {
+fn mark(seen: &mut [u8; 700], item: Place) -> u64 {
+    let at = item.0 as usize;
+    if at >= 700 {
         return 1;
     }
-    let before = seen[item];
-    seen[item] = 1;
+    let before = seen[at];
+    seen[at] = 1;
     if before == 0 { 0 } else { 1 }
 }
 
@@ -62,7 +54,7 @@ pub fn mark_all(
     let mut twice: u64 = 0;
     let mut i = 0;
     while i < handed {
-        let item = item_handed(threshold, order, wide(out[i]));
+        let item = item_handed(threshold, order, position_of(out[i]));
         twice = wrapping_add_u64(twice, mark(seen, item));
         i += 1;
     }
@@ -84,25 +76,26 @@ fn and_not(a: bool, b: bool) -> bool
 }
 
 // Whether the entry at a place is present and its box meets the query as floats.
-fn meets_at(list: &[u32; 4900], query: Aabb, place: usize) -> bool
-    requires { ⌜ place < 700 ⌝ }
-    ensures { λ r. ⌜ r ≡ meetsAt (now (list .entry)) query place ⌝ }
+fn meets_at(list: &[u32; 4900], query: Aabb, place: Place) -> bool
+    requires { ⌜ place .0 < 700 ⌝ }
+    ensures { λ r. ⌜ r ≡ meetsAt (now (list .entry)) query (place .0) ⌝ }
 {
     is_present(list, place) && walk::boxes::meets_box(box_of(list, place), query)
 }
 
-fn is_seen(seen: &[u8; 700], place: usize) -> bool
-    requires { ⌜ place < 700 ⌝ }
-    ensures { λ r. ⌜ r ≡ seenAt (now (seen .entry)) place ⌝ }
+fn is_seen(seen: &[u8; 700], place: Place) -> bool
+    requires { ⌜ place .0 < 700 ⌝ }
+    ensures { λ r. ⌜ r ≡ seenAt (now (seen .entry)) (place .0) ⌝ }
 {
-    seen[place] != 0
+    let at = place.0 as usize;
+    seen[at] != 0
 }
 
 // One more place is compared.
-fn judged(m: Met, list: &[u32; 4900], query: Aabb, seen: &[u8; 700], place: usize) -> Met
-    requires { ⌜ place < 700 ⌝ }
-    requires { ⌜ Compared (now list) query (now seen) place m ⌝ }
-    ensures { λ r. ⌜ Compared (now (list .entry)) query (now (seen .entry)) (place + 1) r ⌝ }
+fn judged(m: Met, list: &[u32; 4900], query: Aabb, seen: &[u8; 700], place: Place) -> Met
+    requires { ⌜ place .0 < 700 ⌝ }
+    requires { ⌜ Compared (now list) query (now seen) (place .0) m ⌝ }
+    ensures { λ r. ⌜ Compared (now (list .entry)) query (now (seen .entry)) (place .0 + 1) r ⌝ }
 {
     let present = is_present(list, place);
     let meets = meets_at(list, query, place);
@@ -125,9 +118,9 @@ pub fn judge_all(list: &[u32; 4900], query: Aabb, seen: &[u8; 700]) -> Met
         missed: 0,
         stray: 0,
     };
-    let mut i = 0;
+    let mut i: u32 = 0;
     while i < 700 {
-        m = judged(m, list, query, seen, i);
+        m = judged(m, list, query, seen, Place(i));
         i += 1;
     }
     m

@@ -4,15 +4,15 @@ use crate::draw::below;
 use crate::draw::drawn_box;
 use crate::draw::next;
 use crate::draw::three_on;
+use base::numbers::Place;
 use math::aabb::Aabb;
 use math::vec3::Vec3;
 use split::boxes::BoxWords;
-use split::boxes::Place;
 ghost use mathlib.Core.Path.{_≡_};
 ghost use Prim.Native.Nat.{_+_, _*_, _≤_, _<_};
 ghost use lib.ListN.{length, getD};
 ghost use Rattle.split.specs.Boxes.{boxAt};
-ghost use Rattle.bvh.specs.Decode.{isMarked};
+ghost use Rattle.bvh.specs.Items.{isMarked};
 ghost use Rattle.tree.specs.Pair.{boxValues};
 
 // 1 where an entry is present.
@@ -25,15 +25,15 @@ fn presence(s: u32, absent: u32) -> u32 {
 }
 
 // Entry i, from the seven numbers after s; the last of them.
-fn put_entry(words: &mut [u32], i: usize, shape: Shape, s: u32) -> u32
-    requires { ⌜ 7 * i + 7 ≤ length (now words) ⌝ }
+fn put_entry(entries: &mut [u32], i: usize, shape: Shape, s: u32) -> u32
+    requires { ⌜ 7 * i + 7 ≤ length (now entries) ⌝ }
 {
     let at = 7 * i;
     let first = next(s);
     let b = drawn_box(first, shape);
-    words[at] = presence(first, shape.absent);
+    entries[at] = presence(first, shape.absent);
     split::boxes::put_box(
-        words,
+        entries,
         at + 1,
         BoxWords {
             min: math::words3::bits(b.min),
@@ -44,23 +44,24 @@ fn put_entry(words: &mut [u32], i: usize, shape: Shape, s: u32) -> u32
 }
 
 // All entries; the last number drawn.
-pub fn fill(words: &mut [u32], shape: Shape) -> u32
-    requires { ⌜ 7 * shape .entries ≤ length (now words) ⌝ }
+pub fn fill(entries: &mut [u32], shape: Shape) -> u32
+    requires { ⌜ 7 * shape .n ≤ length (now entries) ⌝ }
 {
     let mut s = shape.seed;
     let mut i = 0;
-    while i < shape.entries {
-        s = put_entry(words, i, shape, s);
+    while i < shape.n {
+        s = put_entry(entries, i, shape, s);
         i += 1;
     }
     s
 }
 
-pub fn is_present(list: &[u32; 4900], place: usize) -> bool
-    requires { ⌜ place < 700 ⌝ }
-    ensures { λ r. ⌜ r ≡ isMarked (getD (now (list .entry)) (7 * place) 0) ⌝ }
+pub fn is_present(list: &[u32; 4900], place: Place) -> bool
+    requires { ⌜ place .0 < 700 ⌝ }
+    ensures { λ r. ⌜ r ≡ isMarked (getD (now (list .entry)) (7 * place .0) 0) ⌝ }
 {
-    list[7 * place] != 0
+    let at = place.0 as usize;
+    list[7 * at] != 0
 }
 
 fn as_floats(b: BoxWords) -> Aabb
@@ -72,11 +73,11 @@ fn as_floats(b: BoxWords) -> Aabb
     }
 }
 
-pub fn box_of(list: &[u32; 4900], place: usize) -> Aabb
-    requires { ⌜ place < 700 ⌝ }
-    ensures { λ r. ⌜ r ≡ boxValues (boxAt (now (list .entry)) place) ⌝ }
+pub fn box_of(list: &[u32; 4900], place: Place) -> Aabb
+    requires { ⌜ place .0 < 700 ⌝ }
+    ensures { λ r. ⌜ r ≡ boxValues (boxAt (now (list .entry)) (place .0)) ⌝ }
 {
-    as_floats(split::boxes::box_at(list, Place(place as u32)))
+    as_floats(split::boxes::box_at(list, split::boxes::Place(place.0)))
 }
 
 // The same on each axis.
@@ -95,13 +96,13 @@ pub fn cube(min: f32, max: f32) -> Aabb {
     }
 }
 
-fn of(seed: u32, entries: usize, absent: u32, span: u32, depth: u32, side: u32, grain: f32) -> Shape
-    requires { ⌜ entries ≤ 700 ⌝ }
-    ensures { λ r. ⌜ r .entries ≤ 700 ⌝ }
+fn of(seed: u32, n: usize, absent: u32, span: u32, depth: u32, side: u32, grain: f32) -> Shape
+    requires { ⌜ n ≤ 700 ⌝ }
+    ensures { λ r. ⌜ r .n ≤ 700 ⌝ }
 {
     Shape {
         seed,
-        entries,
+        n,
         absent,
         span,
         depth,
@@ -113,7 +114,7 @@ fn of(seed: u32, entries: usize, absent: u32, span: u32, depth: u32, side: u32, 
 // List 0 is empty, 4 has one point 64 times, 5 points of which many are equal, 6 only absent entries, 7 boxes that start on a plane;
 // from 7 on the tree has several ranges.
 pub fn shape(number: u32) -> Shape
-    ensures { λ r. ⌜ r .entries ≤ 700 ⌝ }
+    ensures { λ r. ⌜ r .n ≤ 700 ⌝ }
 {
     let seed = next(number);
     match number {

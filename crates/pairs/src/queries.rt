@@ -4,6 +4,7 @@ use crate::draw::drawn_box;
 use crate::draw::next;
 use crate::lists::box_of;
 use crate::lists::cube;
+use base::numbers::Place;
 use math::aabb::Aabb;
 use math::vec3::vadd_f;
 ghost use Prim.Native.Nat.{_≤_, _<_};
@@ -43,30 +44,26 @@ fn at_box(k: u32, near: Aabb, grain: f32) -> Aabb {
     }
 }
 
-fn upper(s: u32) -> usize {
-    (s / 65536) as usize
-}
-
 // A place in a list of n; 0 where n is 0.
-fn place_of(s: u32, n: usize) -> usize
+fn place_of(s: u32, n: usize) -> Place
     requires { ⌜ n ≤ 700 ⌝ }
-    ensures { λ r. ⌜ r < 700 ⌝ }
+    ensures { λ r. ⌜ r .0 < 700 ⌝ }
 {
     if n == 0 {
-        return 0;
+        return Place(0);
     }
-    upper(s) % n
+    Place(s / 65536 % n as u32)
 }
 
 // Query k: from 12 on a box that is drawn as the list's are.
 pub fn query(k: u32, list: &[u32; 4900], shape: Shape, s: u32) -> Aabb
-    requires { ⌜ shape .entries ≤ 700 ⌝ }
+    requires { ⌜ shape .n ≤ 700 ⌝ }
 {
     if k < 6 {
         return wide(k, shape.grain);
     }
     if k < 12 {
-        let place = place_of(next(s), shape.entries);
+        let place = place_of(next(s), shape.n);
         return at_box(k, box_of(list, place), shape.grain);
     }
     drawn_box(s, shape)

@@ -13,14 +13,14 @@ abbrev μ-loop : tie.MeasureT-loop
 loop-holds : tie.Need-loop-holds Inv-loop μ-loop
 loop-holds c = search needs
 
-mul-wide : tie.Need-mul-wide Inv-loop μ-loop
-mul-wide c = search needs
+mul-position-of : tie.Need-mul-position-of Inv-loop μ-loop
+mul-position-of c = search needs
 
-element-copy-out-wide : tie.Need-element-copy-out-wide Inv-loop μ-loop
-element-copy-out-wide c = search needs
+element-copy-out-position-of : tie.Need-element-copy-out-position-of Inv-loop μ-loop
+element-copy-out-position-of c = search needs
 
-wide-requires : tie.Need-wide-requires Inv-loop μ-loop
-wide-requires c κs = search needs
+position-of-requires : tie.Need-position-of-requires Inv-loop μ-loop
+position-of-requires c κs = search needs
 
 item-handed-requires : tie.Need-item-handed-requires Inv-loop μ-loop
 item-handed-requires c κs = search needs
@@ -50,9 +50,9 @@ mark-all-spec =
     Inv-loop
     μ-loop
     loop-holds
-    mul-wide
-    element-copy-out-wide
-    wide-requires
+    mul-position-of
+    element-copy-out-position-of
+    position-of-requires
     item-handed-requires
     mark-requires
     wrapping-add-u64-requires

@@ -5,9 +5,6 @@ use Rattle.pairs.proofs.lists.box_of.Tie as tie
 use mathlib.Core.Path.{ap, _∙_}
 use Rattle.tree.specs.Pair.{boxValues}
 
-cast-t6 : tie.Need-cast-t6
-cast-t6 c = search needs
-
 box-at-requires : tie.Need-box-at-requires
 box-at-requires c κs = search needs
 
@@ -18,4 +15,4 @@ returns : tie.Need-returns
 returns c = c .as-floats .ensures ∙ ap boxValues (c .before .box-at .ensures)
 
 pub box-of-spec : {M : Type 1} → statement M
-box-of-spec = tie.close (tie.spec cast-t6 box-at-requires as-floats-requires returns)
+box-of-spec = tie.close (tie.spec box-at-requires as-floats-requires returns)

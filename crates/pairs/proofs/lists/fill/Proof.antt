@@ -7,10 +7,10 @@ use lib.ListN.{length}
 use borrow.Author.Needs.{needs}
 
 abbrev Inv-loop : tie.InvT-loop
-Inv-loop words₀ shape s₀ i₀ words s i = (i ≤ shape .entries) × (length words ≡ length words₀)
+Inv-loop entries₀ shape s₀ i₀ entries s i = (i ≤ shape .n) × (length entries ≡ length entries₀)
 
 abbrev μ-loop : tie.MeasureT-loop
-μ-loop words₀ shape s₀ i₀ words s i = shape .entries - i
+μ-loop entries₀ shape s₀ i₀ entries s i = shape .n - i
 
 loop-holds : tie.Need-loop-holds Inv-loop μ-loop
 loop-holds c = search needs

@@ -18,11 +18,11 @@ drawn-box-requires c κs = search needs
 presence-requires : tie.Need-presence-requires
 presence-requires c κs = search needs
 
-mul-words : tie.Need-mul-words
-mul-words c = search needs
+mul-entries : tie.Need-mul-entries
+mul-entries c = search needs
 
-slice-write-words : tie.Need-slice-write-words
-slice-write-words c = search needs
+slice-write-entries : tie.Need-slice-write-entries
+slice-write-entries c = search needs
 
 add-put-box : tie.Need-add-put-box
 add-put-box c = search needs
@@ -56,8 +56,8 @@ put-entry-spec =
     next-requires
     drawn-box-requires
     presence-requires
-    mul-words
-    slice-write-words
+    mul-entries
+    slice-write-entries
     add-put-box
     bits-requires
     bits-requires-2

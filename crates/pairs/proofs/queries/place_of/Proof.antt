@@ -2,20 +2,23 @@
 use borrow.Author.Needs.{needs}
 use Rattle.pairs.proofs.queries.place_of.Statement.{statement}
 use Rattle.pairs.proofs.queries.place_of.Tie as tie
+use Prim.Native.Nat.{_/_}
 use native.Mathlib.Nat.{mod-lt}
 use native.Mathlib.Omega.{arith}
 
 returns : tie.Need-returns
 returns c = search needs
 
-upper-requires : tie.Need-upper-requires
-upper-requires c κs = search needs
+cast-t5 : tie.Need-cast-t5
+cast-t5 c = search needs
 
-rem-result : tie.Need-rem-result
-rem-result c = search needs
+rem-t6 : tie.Need-rem-t6
+rem-t6 c = search needs
 
 returns-2 : tie.Need-returns-2
-returns-2 c = omega (arith, mod-lt (c .upper .result) {m = c .before .before .args .n} (omega arith))
+returns-2 c =
+    let a = c .before .args in
+    omega (arith, mod-lt (a .s / 65536) {m = a .n} (omega arith))
 
 pub place-of-spec : {M : Type 1} → statement M
-place-of-spec = tie.close (tie.spec returns upper-requires rem-result returns-2)
+place-of-spec = tie.close (tie.spec returns cast-t5 rem-t6 returns-2)
