@@ -29,7 +29,7 @@ ghost use Rattle.float32.specs.SquareRoot.{sqrtOf};
 ghost use Rattle.math.specs.Stored.{vminWordsOf, vmaxWordsOf};
 ghost use Rattle.math.specs.Transform.{pointOf, vectorOf, transformBox};
 ghost use Rattle.math.specs.Vec3s.{addOf, subOf, scaleOf, negOf, absOf, dotOf, crossOf, lengthOf, vmulOf, vdivOf, vaddOf, normOf, vmin3Of, vmax3Of, cmpVec3Of};
-ghost use Rattle.records.specs.Header.{headerNumber, headerAnswer, headerExit};
+ghost use Rattle.records.specs.Header.{headerNumber};
 ghost use Rattle.bvh.specs.Build.{refusalNumber as buildRefusal};
 ghost use Rattle.bvh.specs.Entry.{entriesIn, outputs, lent, lengthsOf};
 ghost use Rattle.bounds.specs.Numbers.{relationNumber, orderingNumber};

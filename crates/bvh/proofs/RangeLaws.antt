@@ -51,7 +51,7 @@ none-below : (k lo hi : ℕ) (rs : List Range) → RisingRanges lo rs hi → k <
 none-below k lo hi [] p h = refl
 none-below k lo hi (r ∷ rs) p h = rw (not-before k r (omega arith)) (omega (arith, none-below k (r .last) hi rs (p .2) (omega arith)))
 
-rising-ends : (lo hi : ℕ) (rs : List Range) → RisingRanges lo rs hi → lo ≤ hi
+pub rising-ends : (lo hi : ℕ) (rs : List Range) → RisingRanges lo rs hi → lo ≤ hi
 rising-ends lo hi [] p = p
 rising-ends lo hi (r ∷ rs) p = omega (arith, rising-ends (r .last) hi rs (p .2))
 

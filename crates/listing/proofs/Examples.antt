@@ -15,7 +15,7 @@ use Rattle.records.specs.Quantise.{quantiseOf}
 use Rattle.records.specs.Scale.{scaleOfBox}
 use Rattle.records.specs.declared.BoundVertex.{BoundVertex}
 use Rattle.split.specs.Folding.{foldBox}
-use Rattle.split.specs.Rule.{averageOf, below, above, countBelow, axisOf, chosen, groupOne, groupTwo, firstOf, secondOf}
+use Rattle.split.specs.Rule.{averageOf, below, above, countBelow, axisOf, chosen, groupOne, groupTwo, twoLeads, firstOf, secondOf}
 use Rattle.bvh.specs.Build.{treeOf}
 use Rattle.bvh.specs.Output.{nodeOf, treeRecord}
 use Rattle.bvh.specs.Tree.{growF, grow}
@@ -99,7 +99,7 @@ listed =
 
 pub two-boxes : boxesText input ≡ listed
 unfolding boxesText listingOf childrenOf nodesOf treesOf cornerAt leAt childBox nodeLine treeLine countsLine recordLine vertexFields field decimal decimalOf
-    treeOf grow growF nodeOf treeRecord foldBox averageOf below above countBelow axisOf chosen groupOne groupTwo firstOf secondOf quantiseOf scaleOfBox
+    treeOf grow growF nodeOf treeRecord foldBox averageOf below above countBelow axisOf chosen groupOne groupTwo twoLeads firstOf secondOf quantiseOf scaleOfBox
     shortOf ofCount vminOf vmaxOf vminWord vmaxWord Signs.absOf ofBits add sub mul div lt neg toSigned ofInt
 two-boxes = refl
 
@@ -117,6 +117,6 @@ nothing =
 
 pub no-box : boxesText [] ≡ nothing
 unfolding boxesText listingOf childrenOf nodesOf treesOf cornerAt leAt childBox nodeLine treeLine countsLine recordLine vertexFields field decimal decimalOf
-    treeOf grow growF nodeOf treeRecord foldBox averageOf below above countBelow axisOf chosen groupOne groupTwo firstOf secondOf quantiseOf scaleOfBox
+    treeOf grow growF nodeOf treeRecord foldBox averageOf below above countBelow axisOf chosen groupOne groupTwo twoLeads firstOf secondOf quantiseOf scaleOfBox
     shortOf ofCount vminOf vmaxOf vminWord vmaxWord Signs.absOf ofBits add sub mul div lt neg toSigned ofInt
 no-box = refl

@@ -1,28 +1,27 @@
 -- A build of at most 256 child boxes at threshold 1 is not refused, and the lines of what it writes are the listing.
-use Prim.Native.Nat.{ℕ, zero, suc, _+_, _*_, _/_, _≤_}
+use Prim.Native.Nat.{ℕ, _+_, _*_, _/_, _≤_}
 use native.Mathlib.Decide.{decLe}
 use native.Mathlib.Omega.{arith}
 use mathlib.Core.Bool.{false}
-use mathlib.Core.List.{List, [], _∷_, _++_}
-use mathlib.Core.Path.{_≡_, refl, sym, ap, ap₂, _∙_, subst}
+use mathlib.Core.List.{List, _++_}
+use mathlib.Core.Path.{_≡_, sym, ap, ap₂, _∙_, subst}
 use lib.ListN.{length}
 use borrow.Author.Tests.{le-ltb}
+use Rattle.base.proofs.NumberLaws.{length-up, up-below}
 use Rattle.base.proofs.WithinLaws.{below-within, within-below}
 use Rattle.base.proofs.NumberLaws.{below-wider}
-use Rattle.base.specs.Lists.{upFrom, over}
-use Rattle.bvh.proofs.core.Build.{the-type}
+use Rattle.base.specs.Lists.{over, Below}
 use Rattle.bvh.specs.declared.core.Build.{Build}
 use Rattle.bvh.specs.declared.core.Build.the-variants.{Built, Refused}
 use Rattle.bvh.specs.declared.core.BuildRefusal.{BuildRefusal}
 use Rattle.bvh.specs.declared.core.BuiltTree.{BuiltTree}
 use Rattle.bvh.specs.declared.core.Lengths.{Lengths}
 use Rattle.bvh.specs.Build.{Entries, treeOf, builtOf, short, answerOf, kept, nodesWritten, treesWritten}
-use Rattle.bvh.specs.Decode.{Below, SmallRows}
+use Rattle.bvh.specs.steps.Decode.{SmallRows}
 use Rattle.bvh.specs.Entry.{Answered, Outputs}
-use Rattle.bvh.specs.Output.{capacityOf, over}
+use Rattle.bvh.specs.Output.{capacityOf}
 use Rattle.bvh.specs.Ranges.{ranges, rangeLimit}
-use Rattle.bvh.specs.steps.Decode.{Below, SmallRows}
-use Rattle.bvh.specs.Numbers.{upFrom}
+use Rattle.bvh.specs.steps.Decode.{SmallRows}
 use Rattle.bvh.specs.Rows.{rows}
 use Rattle.bvh.specs.Tree.{builder, grow, leafOrder, size}
 use Rattle.bvh.proofs.Lawful.{lawful}
@@ -43,14 +42,6 @@ size-few e = go (decLe (length (e .places)) 0)
     go (yes h) = rw (grow-leaf (builder (e .at)) 1 (e .places) (omega arith)) (omega arith)
     go (no h) = omega (arith, size-most (builder (e .at)) (lawful (e .at)) 1 (omega arith) (e .places) (omega arith))
 
-length-up : (at n : ℕ) → length (upFrom at n) ≡ n
-length-up at zero = refl
-length-up at (suc n) = ap suc (length-up (at + 1) n)
-
-below-up : (at n hi : ℕ) → at + n ≤ hi → Below hi (upFrom at n)
-below-up at zero hi h = tt
-below-up at (suc n) hi h = (omega arith, below-up (at + 1) n hi (omega arith))
-
 -- At most 256 entries, whose present ones have places among them.
 pub record FewEntries (e : Entries) : Type 0 where
   pub few : e .number ≤ 256
@@ -61,7 +52,7 @@ pub few-children : (input : List ℕ) → length input ≤ 8192 → FewEntries (
 unfolding childrenOf
 few-children input h =
     let n = length input / 32 in
-    record { few = omega arith; most = omega (arith, length-up 0 n); inside = below-up 0 n 256 (omega arith) }
+    record { few = omega arith; most = omega (arith, length-up 0 n); inside = up-below 0 n 256 (omega arith) }
 
 -- ---- the answer
 

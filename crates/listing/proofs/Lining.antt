@@ -9,14 +9,11 @@ use lib.ListN.{length}
 use lib.Signed.{mag}
 use mir.Syntax.{w16}
 use mir.Val.{toZ, ofZ}
-use mir.Facts.{toZ-ofZ}
+use Rattle.base.proofs.ShortLaws.{same-short}
 use Rattle.records.specs.declared.BoundVertex.{BoundVertex}
 use Rattle.listing.specs.Lines.{lines, recordLine}
 use Rattle.listing.specs.Text.{Put, field}
 use Rattle.listing.proofs.Putting.{put-as, put-then, put-none, put-length}
-
-same-short : (v : ℤ) → mag v < 2 ^ 15 → toZ w16 (ofZ w16 v) ≡ v
-same-short v h = toZ-ofZ (record { sfits = h })
 
 pub field-put : {m : ℕ} {before after : List ℕ} {at r : ℕ} (v : ℤ) → mag v < 2 ^ 15
     → Put m (field (toZ w16 (ofZ w16 v))) before at after r → Put m (field v) before at after r

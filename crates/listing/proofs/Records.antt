@@ -16,10 +16,10 @@ use Rattle.bvh.specs.steps.Decode.{SmallRows}
 use Rattle.bvh.specs.Numbers.{RisingRanges}
 use Rattle.bvh.specs.Output.{nodeOf, nodesBytes, padBytes, capacityOf, treeRecord, treesBytes}
 use Rattle.bvh.specs.Ranges.{Range, ranges, rangeLimit}
-use Rattle.bvh.specs.Output.{over, nodeOf, nodesBytes, padBytes, capacityOf, treeRecord, treesBytes}
+use Rattle.bvh.specs.Output.{nodeOf, nodesBytes, padBytes, capacityOf, treeRecord, treesBytes}
 use Rattle.bvh.specs.Rows.{Row, rows}
 use Rattle.bvh.specs.Tree.{leafOrder, size}
-use Rattle.bvh.proofs.RangeLaws.{ranges-rise}
+use Rattle.bvh.proofs.RangeLaws.{ranges-rise, rising-ends}
 use Rattle.bvh.proofs.TreeLaws.{length-rows}
 use Rattle.listing.specs.Lines.{nodeLine, treeLine, nodeLines, treeLines}
 use Rattle.listing.specs.Listing.{nodesOf, treesOf, numbered}
@@ -67,15 +67,11 @@ joined-trees : (s : Scale) (rs : List Range) → joined treeBytes (map (treeReco
 joined-trees s [] = refl
 joined-trees s (r ∷ rs) = ap (λ (l : List ℕ). treeBytes (treeRecord s r) ++ l) (joined-trees s rs)
 
-rising-end : (lo hi : ℕ) (rs : List Range) → RisingRanges lo rs hi → lo ≤ hi
-rising-end lo hi [] h = h
-rising-end lo hi (r ∷ rs) h = omega (arith, rising-end (r .last) hi rs (h .2))
-
 trees-fit : (s : Scale) (lo hi : ℕ) (rs : List Range) → hi < 32768 → RisingRanges lo rs hi → Each TreeFits (map (treeRecord s) rs)
 unfolding treeRecord
 trees-fit s lo hi [] few h = tt
 trees-fit s lo hi (r ∷ rs) few h =
-    let last : r .last ≤ hi = rising-end (r .last) hi rs (h .2) in (
+    let last : r .last ≤ hi = rising-ends (r .last) hi rs (h .2) in (
       record {
         low = quantise-fits (r .box .min) (s .cen) (s .inverse);
         high = quantise-fits (r .box .max) (s .cen) (s .inverse);

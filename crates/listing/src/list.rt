@@ -6,10 +6,10 @@ use crate::lines::put_tree_lines;
 use crate::reading::read_children;
 use bvh::core::Build;
 ghost use mathlib.Core.Path.{_≡_};
-ghost use Prim.Native.Nat.{_+_, _*_, _/_, _%_, _≤_};
+ghost use Prim.Native.Nat.{_*_, _/_, _%_, _≤_};
 ghost use lib.ListN.{length};
 ghost use Rattle.listing.specs.Lines.{recordsText};
-ghost use Rattle.listing.specs.Listing.{childrenOf, listingOf, boxesText, Listed};
+ghost use Rattle.listing.specs.Listing.{childrenOf, listingOf, Listed};
 ghost use Rattle.listing.specs.Text.{Put};
 
 // The lines of some node and tree records, after that of count and capacity.

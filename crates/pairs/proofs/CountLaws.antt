@@ -5,13 +5,11 @@ use native.Mathlib.Omega.{arith}
 use mathlib.Core.Bool.{Bool, true, false, not, _&&_}
 use mathlib.Core.List.{List}
 use mathlib.Core.Path.{_≡_, refl, sym, ap, subst, _∙_}
+use Rattle.base.specs.Lists.{oneIf}
+use Rattle.base.proofs.ListLaws.{one-or-none}
 use Rattle.math.specs.declared.aabb.Aabb.{Aabb}
 use Rattle.pairs.specs.declared.judge.Met.{Met}
-use Rattle.pairs.specs.Judging.{presentAt, meetsAt, seenAt, missedAt, strayAt, oneIf, countOf, Compared}
-
-one-most : (b : Bool) → oneIf b ≤ 1
-one-most true = omega arith
-one-most false = omega arith
+use Rattle.pairs.specs.Judging.{presentAt, meetsAt, seenAt, missedAt, strayAt, countOf, Compared}
 
 pub plus-yes : {b : Bool} (n : ℕ) → b ≡ true → n + 1 ≡ n + oneIf b
 plus-yes n h = rw h
@@ -30,7 +28,7 @@ and-not-are {a} {b} {c} {d} e f = ap (λ (x : Bool). x && not c) e ∙ ap (λ (x
 
 count-most : (test : ℕ → Bool) (n : ℕ) → countOf test n ≤ n
 count-most test zero = omega arith
-count-most test (suc n) = omega (arith, count-most test n, one-most (test n))
+count-most test (suc n) = omega (arith, count-most test n, one-or-none (test n))
 
 -- One more place is counted.
 counted : (test : ℕ → Bool) (n : ℕ) {x y : ℕ} {b : Bool} → x ≡ countOf test n → b ≡ test n → y ≡ x + oneIf b → y ≡ countOf test (n + 1)

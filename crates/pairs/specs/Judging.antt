@@ -1,10 +1,11 @@
 -- What comparing every box with the query gives. Definitions only.
 use Prim.Native.Nat.{ℕ, zero, suc, _+_, _*_}
-use mathlib.Core.Bool.{Bool, cond, not, _&&_}
+use mathlib.Core.Bool.{Bool, not, _&&_}
 use mathlib.Core.List.{List}
 use mathlib.Core.Path.{_≡_}
 use lib.Dec.{eqb}
 use lib.ListN.{getD}
+use Rattle.base.specs.Lists.{oneIf}
 use Rattle.math.specs.declared.aabb.Aabb.{Aabb}
 use Rattle.split.specs.Boxes.{boxAt}
 use Rattle.bvh.specs.Items.{isMarked}
@@ -31,9 +32,6 @@ missedAt words query seen p = meetsAt words query p && not (seenAt seen p)
 -- the place has a mark and is not present
 abbrev pub strayAt : List ℕ → List ℕ → ℕ → Bool
 strayAt words seen p = seenAt seen p && not (presentAt words p)
-
-abbrev pub oneIf : Bool → ℕ
-oneIf b = cond b 1 0
 
 -- how many of the first n places a test holds of
 abbrev pub countOf : (ℕ → Bool) → ℕ → ℕ

@@ -8,7 +8,8 @@ use std::num::wrapping_add_u64;
 ghost use mathlib.Core.Path.{_≡_};
 ghost use mathlib.Core.Bool.{not, _&&_};
 ghost use Prim.Native.Nat.{_+_, _≤_, _<_};
-ghost use Rattle.pairs.specs.Judging.{oneIf, meetsAt, seenAt, Compared};
+ghost use Rattle.base.specs.Lists.{oneIf};
+ghost use Rattle.pairs.specs.Judging.{meetsAt, seenAt, Compared};
 
 // Boxes that meet the query; of those, how many were not handed out; and how many handed out are not present.
 pub struct Met {

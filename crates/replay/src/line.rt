@@ -3,8 +3,8 @@ use crate::operation::Named;
 use crate::operation::Operation;
 ghost use mathlib.Core.Path.{_≡_};
 ghost use mathlib.Core.Bool.{true, false};
-ghost use Prim.Native.Nat.{ℕ, _*_, _≤_};
-ghost use lib.ListN.{length, take, drop};
+ghost use Prim.Native.Nat.{_*_, _≤_};
+ghost use lib.ListN.{length, take};
 ghost use Rattle.replay.specs.Lines.{digitOf, Spells, Fields, Parses};
 
 // The number of a hexadecimal digit in lower case, or 16.

@@ -3,9 +3,10 @@ use borrow.Author.Needs.{needs}
 use Rattle.listing.proofs.reading.put_child.Statement.{statement}
 use Rattle.listing.proofs.reading.put_child.Tie as tie
 use Prim.Native.Nat.{_+_, _*_}
-use mathlib.Core.List.{_++_}
-use mathlib.Core.Path.{ap, _∙_}
-use lib.ListN.{set, take, drop, length-set}
+use mathlib.Core.Path.{refl, ap, _∙_}
+use lib.ListN.{set, length-set}
+use lib.Seq.{sets}
+use Rattle.base.proofs.StoreLaws.{stores-leave}
 use Rattle.split.specs.declared.boxes.BoxWords.{BoxWords}
 use Rattle.split.specs.Boxes.{boxWords}
 use Rattle.listing.specs.Reading.{childBox}
@@ -42,8 +43,8 @@ returns c =
     let entries = a .entries .now in
     let at = 7 * a .i in
     c .before .before .put-box .ensures
-    ∙ ap (λ (b : BoxWords). take (at + 1) (set entries at 1) ++ (boxWords b ++ drop (at + 1 + 6) (set entries at 1)))
-    (c .before .before .before .child-box .ensures)
+    ∙ ap (λ (b : BoxWords). sets (set entries at 1) (at + 1) (boxWords b)) (c .before .before .before .child-box .ensures)
+    ∙ stores-leave (set entries at 1) (boxWords (childBox (a .bytes .now) (32 * a .i))) (at + 1) 6 refl (simp length-set (omega arith))
     ∙ mark-then-box entries (boxWords (childBox (a .bytes .now) (32 * a .i))) at 1 (omega arith)
 
 pub put-child-spec : {M : Type 1} → statement M
