@@ -77,7 +77,7 @@ pub fn box_of(list: &[u32; 4900], place: Place) -> Aabb
     requires { ⌜ place .0 < 700 ⌝ }
     ensures { λ r. ⌜ r ≡ boxValues (boxAt (now (list .entry)) (place .0)) ⌝ }
 {
-    as_floats(split::boxes::box_at(list, split::boxes::Place(place.0)))
+    as_floats(split::boxes::box_at(list, place))
 }
 
 // The same on each axis.
