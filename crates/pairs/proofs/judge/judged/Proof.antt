@@ -24,10 +24,14 @@ plus-if-requires : tie.Need-plus-if-requires
 plus-if-requires c κs = omega (arith, few-meeting _ _ _ _ _ (c .before .before .before .before .before .pre .1))
 
 plus-if-requires-2 : tie.Need-plus-if-requires-2
-plus-if-requires-2 c κs = omega (arith, few-missed _ _ _ _ _ (c .before .before .before .before .before .before .pre .1))
+plus-if-requires-2 c κs =
+    let start = c .before .before .before .before .before .before in
+    omega (arith, few-missed _ _ _ _ _ (start .pre .1))
 
 plus-if-requires-3 : tie.Need-plus-if-requires-3
-plus-if-requires-3 c κs = omega (arith, few-stray _ _ _ _ _ (c .before .before .before .before .before .before .before .pre .1))
+plus-if-requires-3 c κs =
+    let start = c .before .before .before .before .before .before .before in
+    omega (arith, few-stray _ _ _ _ _ (start .pre .1))
 
 returns : tie.Need-returns
 returns c =

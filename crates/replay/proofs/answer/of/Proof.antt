@@ -21,7 +21,9 @@ enum-known-op : tie.Need-enum-known-op
 enum-known-op c = search needs
 
 shared-slice-read-of-word : tie.Need-shared-slice-read-of-word
-shared-slice-read-of-word c = room (c .before .before .before .before .before) _ (c .before .before .op .given .1)
+shared-slice-read-of-word c =
+    let arm = c .before .before in
+    room (arm .before .before .before) _ (arm .op .given .1)
 
 of-word-requires : tie.Need-of-word-requires
 of-word-requires c κs = search needs
@@ -36,7 +38,9 @@ shared-slice-read-of-pair c =
     omega arith
 
 shared-slice-read-of-pair-2 : tie.Need-shared-slice-read-of-pair-2
-shared-slice-read-of-pair-2 c = room (c .before .before .before .before .before .before) _ (c .before .before .before .op2 .given .1)
+shared-slice-read-of-pair-2 c =
+    let arm = c .before .before .before in
+    room (arm .before .before .before) _ (arm .op2 .given .1)
 
 of-pair-requires : tie.Need-of-pair-requires
 of-pair-requires c κs = search needs
@@ -75,7 +79,9 @@ point-requires-3 c κs =
     omega arith
 
 point-requires-4 : tie.Need-point-requires-4
-point-requires-4 c κs = room (c .before .before .before .before .before) _ (c .before .before .op3 .given .1)
+point-requires-4 c κs =
+    let arm = c .before .before in
+    room (arm .before .before .before) _ (arm .op3 .given .1)
 
 of-points-requires : tie.Need-of-points-requires
 of-points-requires c κs = search needs

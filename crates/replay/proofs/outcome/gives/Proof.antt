@@ -2,18 +2,6 @@
 use borrow.Author.Needs.{needs}
 use Rattle.replay.proofs.outcome.gives.Statement.{statement}
 use Rattle.replay.proofs.outcome.gives.Tie as tie
-use mathlib.Core.Path.{_≡_, sym, ap, subst}
-use mathlib.Core.Bool.{Bool}
-use mathlib.Core.List.{List}
-use Prim.Native.Nat.{ℕ}
-use Rattle.replay.specs.Answers.{wordsOf}
-use Rattle.replay.specs.Outcomes.{Holds}
-use Rattle.replay.specs.declared.answer.Answer.{Answer}
-
--- what holds of the words that the answer has holds of the answer's
-by-words : (c : tie.Start) (a : Answer) → c .args .a ≡ a → (r : Bool) → Holds (c .args .words .now ≡ wordsOf a) r
-    → Holds (c .args .words .now ≡ wordsOf (c .args .a)) r
-by-words c a e r h = subst (λ (ws : List ℕ). Holds (c .args .words .now ≡ ws) r) (sym (ap wordsOf e)) h
 
 enum-known-a : tie.Need-enum-known-a
 enum-known-a c = search needs
@@ -52,16 +40,16 @@ same-requires-4 : tie.Need-same-requires-4
 same-requires-4 c κs = search needs
 
 returns : tie.Need-returns
-returns c = by-words (c .before .before .before .before .before .before) _ (c .before .before .before .a .given .1) (c .same .result) (c .same .ensures)
+returns c = rw (c .before .before .before .a .given .1) (c .same .ensures)
 
 returns-2 : tie.Need-returns-2
-returns-2 c = by-words (c .before .before .before .before .before .before) _ (c .before .before .before .a2 .given .1) (c .same2 .result) (c .same2 .ensures)
+returns-2 c = rw (c .before .before .before .a2 .given .1) (c .same2 .ensures)
 
 returns-3 : tie.Need-returns-3
-returns-3 c = by-words (c .before .before .before .before .before .before) _ (c .before .before .before .a3 .given .1) (c .same3 .result) (c .same3 .ensures)
+returns-3 c = rw (c .before .before .before .a3 .given .1) (c .same3 .ensures)
 
 returns-4 : tie.Need-returns-4
-returns-4 c = by-words (c .before .before .before .before .before .before) _ (c .before .before .before .a4 .given .1) (c .same4 .result) (c .same4 .ensures)
+returns-4 c = rw (c .before .before .before .a4 .given .1) (c .same4 .ensures)
 
 pub gives-spec : {M : Type 1} → statement M
 gives-spec =

@@ -43,7 +43,9 @@ loop-less : tie.Need-loop-less Inv-loop μ-loop
 loop-less c = omega arith
 
 loop-again : tie.Need-loop-again Inv-loop μ-loop
-loop-again c = (omega arith, c .before .before .before .before .loop .inv .1, below-more _ _ (c .before .before .before .before .loop .inv .2) (c .if2 .left))
+loop-again c =
+    let l = c .before .before .before .before .loop in
+    (omega arith, l .inv .1, below-more _ _ (l .inv .2) (c .if2 .left))
 
 returns-3 : tie.Need-returns-3 Inv-loop μ-loop
 returns-3 c =
