@@ -13,6 +13,7 @@ use lib.Ieee.{Float, nan, inf, fin, up, down, lt, le, neg, isNan, ofBits, binary
 use lib.Ieee.Fits.{down-pos}
 use lib.Ieee.Nearest.{div-mono}
 use Rattle.float32.specs.Casts.{castI32, shortOf, clampOf, limit, truncatedOf}
+use Rattle.float32.specs.CastStandard.{lowest, highest}
 use Rattle.float32.proofs.Order.{Ordered, from-lowest, to-highest, numbers, le→ordered, lt→strict}
 use Rattle.float32.proofs.OrderLaws.{le-no-nan, le-or-lt, lt-le}
 use Rattle.base.proofs.IntegerOrder.{leZ-refl, leZ-antisym, leZ-neg, leZ-across}
@@ -20,9 +21,9 @@ use Rattle.float32.proofs.ClampLaws.{clampOf-low, clampOf-high, clampOf
 use Rattle.float32.proofs.Low16.{low16-self}
 
 -- ---- Rule F6 (Rust Reference, numeric cast): a NaN gives 0, a number is cut toward zero, and one past either end gives that end. At h = 31 this is `castI32`.
--- the ends, -2 ^ h and 2 ^ h - 1
+-- either end of the range
 abbrev pub end : ℕ → Bool → ℤ
-end h s = cond s (negℤ (pos (2 ^ h))) (pos (2 ^ h - 1))
+end h s = cond s (lowest h) (highest h)
 
 pub toSigned-nan : (h : ℕ) → toSigned h nan ≡ pos 0
 unfolding toSigned

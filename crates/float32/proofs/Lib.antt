@@ -2,6 +2,7 @@ mod Amounts
 pub mod CastLaws
 pub mod ClampLaws
 pub mod CmpLaws
+pub mod CountLaws
 pub mod Exactness
 pub mod ExtremeLaws
 pub mod Halving
@@ -18,6 +19,7 @@ pub mod RoundError
 pub mod Rounding
 pub mod ScaledCasts
 pub mod SignLaws
+pub mod standard
 pub mod SumError
 mod Trichotomy
 mod Truncation

@@ -1,7 +1,7 @@
 -- Each operation on finite values is its exact result, rounded once: a signed fraction (P - Q) / c, of which a zero has either sign. Rounding keeps
 -- the order of such fractions.
 use mathlib.Core.Path.{_≡_, refl, sym, ap, _∙_, subst}
-use mathlib.Core.Bool.{Bool, true, false, not, cond}
+use mathlib.Core.Bool.{Bool, true, false, not, _&&_, cond}
 use Prim.Native.Nat.{ℕ, zero, suc, _+_, _*_, _-_, _^_, _≤_, _<_}
 use native.Mathlib.Nat.{mul-comm, mul-sub, zero-mul, zero-lt-suc}
 use native.Mathlib.Omega.{arith}
@@ -12,9 +12,10 @@ use lib.Ieee.Fits.{round-is}
 use lib.Ieee.Order.{round-mono}
 use lib.Ieee.Scale.{finite, round-same}
 use lib.Ieee.Positive.{num, den, positive}
-use borrow.Author.Tests.{ltb-true, ltb-false, ne-eqb}
+use borrow.Author.Tests.{ltb-true, ltb-false, eqb-true, eqb-false, lt-ltb, le-ltb, ne-eqb}
 use Rattle.base.proofs.NumberLaws.{no-factor}
-use Rattle.float32.proofs.Order.{over, under}
+use Rattle.float32.specs.RoundStandard.{negative, apart}
+use Rattle.float32.specs.ArithmeticStandard.{over, under, signOf}
 use Rattle.float32.proofs.OrderLaws.{le-no-nan, le-trans, neg-neg, neg-le, neg-finite, neg-over, neg-under, neg-den}
 
 -- ---- the sign goes through `round`
@@ -86,41 +87,103 @@ rounded-mono {f} {r} {r'} {P} {Q} {c} {P'} {Q'} {c'} C C' (above p e) (below q e
     let j : Q' - P' ≡ 0 = none (Q' - P') c (Q - P) c' C (omega arith) (gap Q' P' c' Q P c (omega arith)) in
     rw (e ∙ ap (λ (z : ℕ). round f false z c) i ∙ round-zero f false c C, e' ∙ ap (λ (z : ℕ). round f true z c') j ∙ round-zero f true c' C') (unfold le in tt)
 
--- ---- x + y
-sum-apart : (f : Format) (a b c P Q : ℕ) → P ≡ a → Q ≡ b → Rounded f (sum f false a true b c) P Q c
-unfolding sum
-sum-apart f a b c P Q p q = go (ltb a b) (ltb-true a b) (ltb-false a b)
-  where
-    go : (t : Bool) → (t ≡ true → a < b) → (t ≡ false → b ≤ a) → Rounded f (cond t (round f true (b - a) c) (round f false (a - b) c)) P Q c
-    go true h k = let l = h refl in below (omega arith) (ap (λ (z : ℕ). round f true z c) (omega arith))
-    go false h k = let l = k refl in above (omega arith) (ap (λ (z : ℕ). round f false z c) (omega arith))
+-- ---- x + y and x - y, each a difference of naturals with one rule for its sign
+-- (p - q) / c, rounded, and a zero with the sign z
+abbrev pub difference : Format → Bool → ℕ → ℕ → ℕ → Float
+difference f z p q c = round f (signOf z p q) (apart p q) c
 
-sum-across : (f : Format) (a b c P Q : ℕ) → P ≡ b → Q ≡ a → Rounded f (sum f true a false b c) P Q c
-unfolding sum
-sum-across f a b c P Q p q = go (ltb a b) (ltb b a) (ltb-true a b) (ltb-false a b) (ltb-false b a)
+sign-plus : (p q : ℕ) → signOf false p q ≡ ltb p q
+sign-plus p q = go (eqb p q) (eqb-true p q)
   where
-    go : (t u : Bool) → (t ≡ true → a < b) → (t ≡ false → b ≤ a) → (u ≡ false → a ≤ b)
-        → Rounded f (cond t (round f false (b - a) c) (round f u (a - b) c)) P Q c
-    go true u h k l = let i = h refl in above (omega arith) (ap (λ (z : ℕ). round f false z c) (omega arith))
-    go false true h k l = let i = k refl in below (omega arith) (ap (λ (z : ℕ). round f true z c) (omega arith))
-    go false false h k l = let i = k refl in let j = l refl in above (omega arith) (ap (λ (z : ℕ). round f false z c) (omega arith))
+    go : (b : Bool) → (b ≡ true → p ≡ q) → cond b false (ltb p q) ≡ ltb p q
+    go true h = let e = h refl in sym (le-ltb p q (omega arith))
+    go false h = refl
+
+sign-minus : (p q : ℕ) → p ≤ q → signOf true p q ≡ true
+sign-minus p q l = go (eqb p q) (eqb-false p q)
+  where
+    go : (b : Bool) → (b ≡ false → p ≡ q → ⊥) → cond b true (ltb p q) ≡ true
+    go true h = refl
+    go false h = lt-ltb p q (omega (arith, h refl))
+
+round-as : (f : Format) (z : Bool) (p q c : ℕ) (s : Bool) (a : ℕ) → signOf z p q ≡ s → apart p q ≡ a → round f s a c ≡ difference f z p q c
+round-as f z p q c s a e e' = rw (e, e')
+
+-- ± a / c and ± b / c
+sum-is : (f : Format) (s : Bool) (a : ℕ) (t : Bool) (b c p q : ℕ) → p ≡ cond s 0 a + cond t 0 b → q ≡ cond s a 0 + cond t b 0
+    → sum f s a t b c ≡ difference f (s && t) p q c
+unfolding sum
+sum-is f false a false b c p q e e' = round-as f false p q c false (a + b) (sign-plus p q ∙ le-ltb p q (omega arith)) (omega arith)
+sum-is f true a true b c p q e e' = round-as f true p q c true (a + b) (sign-minus p q (omega arith)) (omega arith)
+sum-is f false a true b c p q e e' = go (ltb a b) (ltb-true a b) (ltb-false a b)
+  where
+    go : (u : Bool) → (u ≡ true → a < b) → (u ≡ false → b ≤ a) → cond u (round f true (b - a) c) (round f false (a - b) c) ≡ difference f false p q c
+    go true h k = let l = h refl in round-as f false p q c true (b - a) (sign-plus p q ∙ lt-ltb p q (omega arith)) (omega arith)
+    go false h k = let l = k refl in round-as f false p q c false (a - b) (sign-plus p q ∙ le-ltb p q (omega arith)) (omega arith)
+sum-is f true a false b c p q e e' = go (ltb a b) (ltb-true a b) (ltb-false a b)
+  where
+    p-is : p ≡ b
+    p-is = omega arith
+
+    q-is : q ≡ a
+    q-is = omega arith
+
+    go : (u : Bool) → (u ≡ true → a < b) → (u ≡ false → b ≤ a)
+        → cond u (round f false (b - a) c) (round f (ltb b a) (a - b) c) ≡ difference f false p q c
+    go true h k = let l = h refl in round-as f false p q c false (b - a) (sign-plus p q ∙ le-ltb p q (omega arith)) (omega arith)
+    go false h k = let l = k refl in round-as f false p q c (ltb b a) (a - b) (sign-plus p q ∙ rw (p-is, q-is)) (omega arith)
+
+-- a product with one factor under a sign
+cond-left : (s : Bool) (a d : ℕ) → cond s 0 a * d ≡ cond s 0 (a * d)
+cond-left true a d = omega arith
+cond-left false a d = refl
+
+cond-right : (s : Bool) (a d : ℕ) → cond s a 0 * d ≡ cond s (a * d) 0
+cond-right true a d = refl
+cond-right false a d = omega arith
+
+both : {a b c d : ℕ} → a ≡ b → c ≡ d → a + c ≡ b + d
+both e e' = rw (e, e')
+
+pub add-is : (f : Format) (x y : Float) → T (finite x) → T (finite y)
+    → add f x y ≡ difference f (negative x && negative y) (over x * den y + over y * den x) (under x * den y + under y * den x) (den x * den y)
+unfolding add
+add-is f nan y p q = absurd p
+add-is f (inf s) y p q = absurd p
+add-is f (fin s m e) nan p q = absurd q
+add-is f (fin s m e) (inf t) p q = absurd q
+add-is f (fin s m e) (fin t n d) p q =
+    sum-is f s (m * up e * down d) t (n * up d * down e) (down e * down d) _ _
+    (both (cond-left s (m * up e) (down d)) (cond-left t (n * up d) (down e)))
+    (both (cond-right s (m * up e) (down d)) (cond-right t (n * up d) (down e)))
+
+neg-negative : (y : Float) → T (finite y) → negative (neg y) ≡ not (negative y)
+unfolding neg
+neg-negative nan q = absurd q
+neg-negative (inf t) q = absurd q
+neg-negative (fin t n d) q = refl
+
+pub sub-is : (f : Format) (x y : Float) → T (finite x) → T (finite y)
+    → sub f x y ≡ difference f (negative x && not (negative y)) (over x * den y + under y * den x) (under x * den y + over y * den x) (den x * den y)
+unfolding sub
+sub-is f x y p q = rw (neg-over y, neg-under y, neg-den y, neg-negative y q) at (add-is f x (neg y) p (neg-finite y q))
+
+difference-rounded : (f : Format) (r : Float) (z : Bool) (p q c : ℕ) → r ≡ difference f z p q c → Rounded f r p q c
+difference-rounded f r z p q c e = go (eqb p q) (ltb p q) z (eqb-true p q) (ltb-true p q) (ltb-false p q) e
+  where
+    go : (b l z : Bool) → (b ≡ true → p ≡ q) → (l ≡ true → p < q) → (l ≡ false → q ≤ p) → r ≡ round f (cond b z l) (apart p q) c → Rounded f r p q c
+    go true l true h i j e = let k = h refl in below (omega arith) (e ∙ ap (λ (a : ℕ). round f true a c) (omega arith))
+    go true l false h i j e = let k = h refl in above (omega arith) (e ∙ ap (λ (a : ℕ). round f false a c) (omega arith))
+    go false true z h i j e = let k = i refl in below (omega arith) (e ∙ ap (λ (a : ℕ). round f true a c) (omega arith))
+    go false false z h i j e = let k = j refl in above (omega arith) (e ∙ ap (λ (a : ℕ). round f false a c) (omega arith))
 
 pub add-rounded : (f : Format) (x y : Float) → T (finite x) → T (finite y)
     → Rounded f (add f x y) (over x * den y + over y * den x) (under x * den y + under y * den x) (den x * den y)
-unfolding add
-add-rounded f nan y p q = absurd p
-add-rounded f (inf s) y p q = absurd p
-add-rounded f (fin s m e) nan p q = absurd q
-add-rounded f (fin s m e) (inf t) p q = absurd q
-add-rounded f (fin false m e) (fin false n d) p q = above (omega arith) (unfold sum in ap (λ (z : ℕ). round f false z (down e * down d)) (omega arith))
-add-rounded f (fin false m e) (fin true n d) p q = sum-apart f (m * up e * down d) (n * up d * down e) (down e * down d) _ _ (omega arith) (omega arith)
-add-rounded f (fin true m e) (fin false n d) p q = sum-across f (m * up e * down d) (n * up d * down e) (down e * down d) _ _ (omega arith) (omega arith)
-add-rounded f (fin true m e) (fin true n d) p q = below (omega arith) (unfold sum in ap (λ (z : ℕ). round f true z (down e * down d)) (omega arith))
+add-rounded f x y p q = difference-rounded f (add f x y) _ _ _ _ (add-is f x y p q)
 
 pub sub-rounded : (f : Format) (x y : Float) → T (finite x) → T (finite y)
     → Rounded f (sub f x y) (over x * den y + under y * den x) (under x * den y + over y * den x) (den x * den y)
-unfolding sub
-sub-rounded f x y p q = rw (neg-over y, neg-under y, neg-den y) at (add-rounded f x (neg y) p (neg-finite y q))
+sub-rounded f x y p q = difference-rounded f (sub f x y) _ _ _ _ (sub-is f x y p q)
 
 -- ---- x * y, and x / y for a y above 0
 pub mul-rounded : (f : Format) (x y : Float) → T (finite x) → T (finite y)

@@ -15,7 +15,8 @@ use lib.Ieee.Positive.{den, den-pos, positive, first-pos}
 use borrow.Author.Tests.{eq-eqb}
 use Rattle.base.proofs.NumberLaws.{no-factor}
 use Rattle.float32.specs.Casts.{shortOf, truncatedOf}
-use Rattle.float32.proofs.Order.{over, under, Cross, Ordered, from-lowest, to-highest, numbers, le→ordered, le→cross}
+use Rattle.float32.specs.ArithmeticStandard.{over, under}
+use Rattle.float32.proofs.Order.{Cross, Ordered, from-lowest, to-highest, numbers, le→ordered, le→cross}
 use Rattle.float32.proofs.OrderLaws.{finite-between}
 use Rattle.float32.proofs.Rounding.{positive-not-zero}
 use Rattle.float32.proofs.Monotone.{mul-mono}

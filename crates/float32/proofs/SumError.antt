@@ -1,9 +1,9 @@
 -- The error of a rounded sum or difference: at most 2 ^ -prec of the exact one, however small, since sums of a format's values are whole numbers of
 -- its smallest units.
-use mathlib.Core.Path.{_≡_, sym, ap, _∙_}
+use mathlib.Core.Path.{_≡_, ap, _∙_}
 use mathlib.Core.Bool.{Bool, true, false}
 use Prim.Native.Nat.{ℕ, suc, _+_, _-_, _*_, _^_, _≤_, _<_}
-use native.Mathlib.Nat.{mul-comm, mul-add, mul-sub, lt-of-not-le, le-trans, le-add-left, mul-le-mul-right, mul-pos, le-of-mul-le-mul-right}
+use native.Mathlib.Nat.{lt-of-not-le, le-trans, le-add-left, mul-le-mul-right, mul-pos, le-of-mul-le-mul-right}
 use native.Mathlib.Omega.{arith}
 use native.Mathlib.Decide.{decLe}
 use lib.Dec.{T}
@@ -13,22 +13,13 @@ use lib.Ieee.Fits.{reach}
 use lib.Ieee.Exact.{HasValue, round-exact}
 use lib.Ieee.Scale.{finite}
 use lib.Ieee.Positive.{den, den-pos}
-use Rattle.float32.proofs.Order.{over, under, le→cross}
+use Rattle.float32.specs.RoundStandard.{apart}
+use Rattle.float32.specs.ArithmeticStandard.{over, under}
+use Rattle.float32.proofs.Order.{le→cross}
 use Rattle.float32.proofs.Rounding.{Rounded, above, below, add-rounded, sub-rounded}
 use Rattle.float32.proofs.Exactness.{den-divides}
+use Rattle.float32.proofs.standard.Distances.{apart-above, apart-below, apart-whole}
 use Rattle.float32.proofs.RoundError.{Relative, round-relative, twice, low-is}
-
--- the size of P - Q
-unfoldable pub distance : ℕ → ℕ → ℕ
-distance P Q = P - Q + (Q - P)
-
-pub distance-above : (P Q : ℕ) → Q ≤ P → P - Q ≡ distance P Q
-unfolding distance
-distance-above P Q h = omega arith
-
-pub distance-below : (P Q : ℕ) → P ≤ Q → Q - P ≡ distance P Q
-unfolding distance
-distance-below P Q h = omega arith
 
 -- ---- a whole number of units is exact where it has few digits, and in the normal range where it has many
 exact-relative : (p : ℕ) (x : Float) (s : Bool) (a c : ℕ) → HasValue x s a c → Relative p x a c
@@ -52,22 +43,14 @@ whole-relative f s a c w C e t = go (decLe (2 ^ prec f) w)
         let r : 2 ^ prec f ≤ 2 ^ (low f + suc (emax f)) = pow-mono (le-trans (reach f) (le-add-left (suc (emax f)) (low f))) in
         exact-relative (prec f) (round f s a c) s a c (round-exact f s a c w 0 C l (omega arith) (omega arith))
 
-distance-mul : (P Q l : ℕ) → distance P Q * l ≡ distance (P * l) (Q * l)
-unfolding distance
-distance-mul P Q l = rw (mul-comm (P - Q + (Q - P)) l, mul-add l (P - Q) (Q - P), mul-sub l P Q, mul-sub l Q P, mul-comm l P, mul-comm l Q)
-
--- where P and Q are whole numbers of units, so is their distance
-whole-distance : (P Q l c p q : ℕ) → P * l ≡ p * c → Q * l ≡ q * c → distance P Q * l ≡ distance p q * c
-whole-distance P Q l c p q h k = distance-mul P Q l ∙ rw (h, k) (sym (distance-mul p q c))
-
 rounded-whole : {f : Format} {r : Float} {P Q c : ℕ} (p q : ℕ) → 0 < c → Rounded f r P Q c → P * 2 ^ low f ≡ p * c → Q * 2 ^ low f ≡ q * c
-    → T (finite r) → Relative (prec f) r (distance P Q) c
+    → T (finite r) → Relative (prec f) r (apart P Q) c
 rounded-whole {f} {r} {P} {Q} {c} p q C (above h e) i j t =
-    let k = e ∙ ap (λ (z : ℕ). round f false z c) (distance-above P Q h) in
-    rw k (whole-relative f false (distance P Q) c (distance p q) C (whole-distance P Q (2 ^ low f) c p q i j) (rw k at t))
+    let k = e ∙ ap (λ (z : ℕ). round f false z c) (apart-above P Q h) in
+    rw k (whole-relative f false (apart P Q) c (apart p q) C (apart-whole P Q (2 ^ low f) c p q i j) (rw k at t))
 rounded-whole {f} {r} {P} {Q} {c} p q C (below h e) i j t =
-    let k = e ∙ ap (λ (z : ℕ). round f true z c) (distance-below P Q h) in
-    rw k (whole-relative f true (distance P Q) c (distance p q) C (whole-distance P Q (2 ^ low f) c p q i j) (rw k at t))
+    let k = e ∙ ap (λ (z : ℕ). round f true z c) (apart-below P Q h) in
+    rw k (whole-relative f true (apart P Q) c (apart p q) C (apart-whole P Q (2 ^ low f) c p q i j) (rw k at t))
 
 -- a / d + b / g, in units of 1 / l, for d and g that divide l
 whole-sum : (a b d g l v w : ℕ) → l ≡ v * d → l ≡ w * g → (a * g + b * d) * l ≡ (a * v + b * w) * (d * g)
@@ -77,7 +60,7 @@ whole-sum a b d g l v w h k =
     omega arith
 
 pub add-relative : (f : Format) (x y : Float) → T (finite x) → T (finite y) → T (fits f x) → T (fits f y) → T (finite (add f x y))
-    → Relative (prec f) (add f x y) (distance (over x * den y + over y * den x) (under x * den y + under y * den x)) (den x * den y)
+    → Relative (prec f) (add f x y) (apart (over x * den y + over y * den x) (under x * den y + under y * den x)) (den x * den y)
 add-relative f x y p q a b t =
     let v = den-divides f x p a in
     let w = den-divides f y q b in
@@ -86,7 +69,7 @@ add-relative f x y p q a b t =
     (whole-sum (under x) (under y) (den x) (den y) (2 ^ low f) (v .0) (w .0) (v .1) (w .1)) t
 
 pub sub-relative : (f : Format) (x y : Float) → T (finite x) → T (finite y) → T (fits f x) → T (fits f y) → T (finite (sub f x y))
-    → Relative (prec f) (sub f x y) (distance (over x * den y + under y * den x) (under x * den y + over y * den x)) (den x * den y)
+    → Relative (prec f) (sub f x y) (apart (over x * den y + under y * den x) (under x * den y + over y * den x)) (den x * den y)
 sub-relative f x y p q a b t =
     let v = den-divides f x p a in
     let w = den-divides f y q b in
@@ -99,4 +82,4 @@ pub sub-relative-above : (f : Format) (x y : Float) → T (finite x) → T (fini
     → Relative (prec f) (sub f x y) (over x * den y + under y * den x - (under x * den y + over y * den x)) (den x * den y)
 sub-relative-above f x y p q a b t l =
     let k = le→cross y x q p l in
-    rw (distance-above (over x * den y + under y * den x) (under x * den y + over y * den x) (omega arith)) (sub-relative f x y p q a b t)
+    rw (apart-above (over x * den y + under y * den x) (under x * den y + over y * den x) (omega arith)) (sub-relative f x y p q a b t)

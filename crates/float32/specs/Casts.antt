@@ -1,4 +1,4 @@
--- Floats to integers. Definitions only.
+-- Floats to integers. Definitions only. CastStandard has what the Rust Reference itself says of F6 and F7.
 use Prim.Native.Nat.{ℕ, _-_, _%_}
 use mathlib.Core.Bool.{cond}
 use lib.Dec.{ltb}

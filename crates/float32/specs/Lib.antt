@@ -1,9 +1,12 @@
+pub mod ArithmeticStandard
 pub mod Casts
+pub mod CastStandard
 pub mod Comparison
 pub mod Counts
 pub mod Extremes
 pub mod RootStandard
 pub mod RootSteps
+pub mod RoundStandard
 pub mod Signs
 pub mod SortOrder
 pub mod SquareRoot

@@ -12,11 +12,7 @@ use lib.IntN.{ℤ, pos}
 use lib.Ieee.{Float, nan, inf, fin, Format, lt, fits, toBits}
 use lib.Ieee.Positive.{num, den, positive}
 use lib.Ieee.Scale.{finite}
-
-abbrev pub negative : Float → Bool
-negative nan = false
-negative (inf s) = s
-negative (fin s m e) = s
+use Rattle.float32.specs.RoundStandard.{negative}
 
 -- r + y, times den r * den y, for an r above zero. A sum below zero is put at 0: either lies below twice the root.
 abbrev pub sumOf : Float → Float → ℕ

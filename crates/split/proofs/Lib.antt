@@ -1,3 +1,4 @@
+pub mod AxisRule
 pub mod BoxOrder
 mod Counting
 pub mod DivideLaws

@@ -51,7 +51,8 @@ leads-more f q k (inl z) = inl z
 leads-more f q k (inr h) = inr (omega arith)
 
 -- Where Q, one of q and q + 1, is even, the other has an odd pattern.
-odd-neighbour : (f : Format) (q k Q : ℕ) (r : Float) (Y : ℕ) → q < 2 ^ prec f → Leads f q k → Q % 2 ≡ 0 → toBits f r % 2 ≡ 0 → HasValue r false Y (2 ^ low f)
+pub odd-neighbour : (f : Format) (q k Q : ℕ) (r : Float) (Y : ℕ) → q < 2 ^ prec f → Leads f q k → Q % 2 ≡ 0 → toBits f r % 2 ≡ 0
+    → HasValue r false Y (2 ^ low f)
     → ((Q * 2 ^ k ≡ q * 2 ^ k) × (Y ≡ (q + 1) * 2 ^ k)) ⊎ ((Q * 2 ^ k ≡ (q + 1) * 2 ^ k) × (Y ≡ q * 2 ^ k)) → ⊥
 odd-neighbour f q k Q r Y hi l e o h (inl p) =
     let same : Q ≡ q = eq-of-mul-eq-mul-right (2 ^ k) (pow-pos k) Q q (p .0) in

@@ -1,0 +1,10 @@
+pub mod Arithmetic
+pub mod Casting
+pub mod Distances
+pub mod Examples
+pub mod Kept
+pub mod LowBits
+pub mod OnlyArithmetic
+pub mod Overflow
+pub mod TiesToEven
+pub mod Unique
