@@ -88,7 +88,8 @@ tree-lines e before few =
     let t = treeOf e 1 in
     let ts = map (treeRecord (scaleIn t)) (ranges rangeLimit 0 t) in
     let rest = drop (length (treesWritten e 1)) before in
-    let bytes : joined treeBytes ts ++ rest ≡ over (treesWritten e 1) before = ap (λ (l : List ℕ). l ++ rest) (joined-trees (scaleIn t) (ranges rangeLimit 0 t)) in
+    let bytes : joined treeBytes ts ++ rest ≡ over (treesWritten e 1) before = ap (λ (l : List ℕ). l ++ rest)
+    (joined-trees (scaleIn t) (ranges rangeLimit 0 t)) in
     let count : 0 + length ts ≡ length (ranges rangeLimit 0 t) = zero-add (length ts) ∙ length-map (ranges rangeLimit 0 t) (treeRecord (scaleIn t)) in
     let fit = trees-fit (scaleIn t) 0 (0 + size t) (ranges rangeLimit 0 t) (omega arith) (ranges-rise rangeLimit (omega arith) 0 t) in
     let read = reads-back treeBytes treeAt TreeFits (λ r. tree-bytes r .size) tree-back [] rest 0 ts refl fit in

@@ -23,7 +23,8 @@ fn put_records(
 ) -> usize
     requires { ⌜ (68760 ≤ length (now out)) × (16 * count ≤ length (now «node_bytes»)) × (16 * parts ≤ length (now «tree_bytes»))
         × (count ≤ 513) × (capacity ≤ 513) × (parts ≤ 513) ⌝ }
-    ensures { λ r. ⌜ Put 68760 (recordsText (now («node_bytes» .entry)) count capacity (now («tree_bytes» .entry)) parts) (now (out .entry)) 0 (now (out .exit)) r ⌝ }
+    ensures { λ r. ⌜ Put 68760 (recordsText (now («node_bytes» .entry)) count capacity (now («tree_bytes» .entry)) parts) (now (out .entry))
+        0 (now (out .exit)) r ⌝ }
 {
     let first_node = put_counts(out, 0, count, capacity);
     let first_tree = put_node_lines(out, first_node, node_bytes, count);

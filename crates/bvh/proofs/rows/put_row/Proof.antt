@@ -76,7 +76,8 @@ returns c =
     let asked = c .before .before .before .before .before in
     let room : 8 * asked .args .i + 8 ≤ length (asked .args .rows .now) = asked .pre .0 in
     three-parts _ _ _ _ _ _ room
-    (c .before .before .put-box .ensures ∙ stores-leave (asked .args .rows .now) (boxWords (asked .args .around)) (8 * asked .args .i) 6 refl (omega (arith, room)))
+    (c .before .before .put-box .ensures ∙ stores-leave (asked .args .rows .now) (boxWords (asked .args .around)) (8 * asked .args .i) 6
+    refl (omega (arith, room)))
 
 pub put-row-spec : {M : Type 1} → statement M
 put-row-spec =
