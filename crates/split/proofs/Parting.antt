@@ -56,15 +56,15 @@ at-most-one false k i h = omega arith
 pub record Parting (test : ℕ → Bool) (a₀ t₀ a t : List ℕ) (k i : ℕ) : Type 0 where
   pub upto : i ≤ length a₀
   pub low : k ≤ i
-  pub len-a : length a ≡ length a₀
-  pub len-t : length t ≡ length t₀
+  pub len-places : length a ≡ length a₀
+  pub len-temp : length t ≡ length t₀
   pub left : drop i a ≡ drop i a₀
   pub front : take k a ++ sift test (drop i a₀) ≡ sift test a₀
   pub back : take (i - k) t ++ sift (λ p. not (test p)) (drop i a₀) ≡ sift (λ p. not (test p)) a₀
 
 module _ (test : ℕ → Bool) (a₀ t₀ : List ℕ) where
   pub begin : Parting test a₀ t₀ a₀ t₀ 0 0
-  begin = record { upto = omega arith; low = omega arith; len-a = refl; len-t = refl; left = refl; front = refl; back = refl }
+  begin = record { upto = omega arith; low = omega arith; len-places = refl; len-temp = refl; left = refl; front = refl; back = refl }
 
   -- the next place is still where it was
   next : (a : List ℕ) (i : ℕ) → drop i a ≡ drop i a₀ → i < length a → i < length a₀
@@ -89,8 +89,8 @@ module _ (test : ℕ → Bool) (a₀ t₀ : List ℕ) where
       record {
         upto = omega arith;
         low = at-most-one (test x) k i (q .low);
-        len-a = length-set a k x ∙ q .len-a;
-        len-t = length-set t (i - k) x ∙ q .len-t;
+        len-places = length-set a k x ∙ q .len-places;
+        len-temp = length-set t (i - k) x ∙ q .len-temp;
         left = drop-set-lt (i + 1) a k x (omega arith) ∙ n .1;
         front = stored test (test x) a ys k x (omega arith) refl ∙ ap (λ (l : List ℕ). take k a ++ sift test l) (sym (n .0)) ∙ q .front;
         back = rw (moved (test x) k i (q .low))

@@ -19,13 +19,13 @@ fn middle(n: usize) -> usize
 }
 
 // Sorts the places where a group is empty, to be cut in the middle; where the second group begins.
-fn settle(a: &mut [u32], t: &mut [u32], entries: &[u32], k: usize) -> usize
-    requires { ⌜ (length (now a) ≤ length (now t)) × (Within (length (now entries)) (now a)) ⌝ }
-    ensures { λ r. ⌜ Settled (boxAt (now (entries .entry))) k (now (a .entry)) (now (a .exit)) r ⌝ }
+fn settle(places: &mut [u32], temp: &mut [u32], entries: &[u32], k: usize) -> usize
+    requires { ⌜ (length (now places) ≤ length (now temp)) × (Within (length (now entries)) (now places)) ⌝ }
+    ensures { λ r. ⌜ Settled (boxAt (now (entries .entry))) k (now (places .entry)) (now (places .exit)) r ⌝ }
 {
-    let n = a.len();
+    let n = places.len();
     if k == 0 || k == n {
-        crate::merging::sort(a, t, entries);
+        crate::merging::sort(places, temp, entries);
         return middle(n);
     }
     k
@@ -37,30 +37,31 @@ pub struct Cut {
     pub first: usize,
 }
 
-// The first group, then the second, in place of the places of `a`, by their average, with `t` to work in; how many the first has.
-fn divide_by(a: &mut [u32], t: &mut [u32], entries: &[u32], avg: Vec3, plain: bool) -> usize
-    requires { ⌜ (2 ≤ length (now a)) × (length (now a) < 32768) × (length (now a) ≤ length (now t)) × (Within (length (now entries)) (now a))
-        × (avg ≡ averageOf (boxAt (now entries)) (now a)) × (Plain plain (now entries)) ⌝ }
-    ensures { λ r. ⌜ Divided (boxAt (now (entries .entry))) (now (a .entry)) (now (a .exit)) r ⌝ }
+// The first group, then the second, in place of the places, by their average, with `temp` to work in; how many the first has.
+fn divide_by(places: &mut [u32], temp: &mut [u32], entries: &[u32], avg: Vec3, plain: bool) -> usize
+    requires { ⌜ (2 ≤ length (now places)) × (length (now places) < 32768) × (length (now places) ≤ length (now temp)) ×
+        (Within (length (now entries)) (now places))
+        × (avg ≡ averageOf (boxAt (now entries)) (now places)) × (Plain plain (now entries)) ⌝ }
+    ensures { λ r. ⌜ Divided (boxAt (now (entries .entry))) (now (places .entry)) (now (places .exit)) r ⌝ }
 {
-    let counts = crate::groups::count_below(entries, a, avg, plain);
-    let axis = crate::groups::choose_axis(a.len() as u32, counts);
-    let k = crate::groups::partition(a, t, entries, avg, axis, plain);
-    let h = settle(a, t, entries, k);
-    crate::groups::leader_first(a, t, h)
+    let counts = crate::groups::count_below(entries, places, avg, plain);
+    let axis = crate::groups::choose_axis(places.len() as u32, counts);
+    let k = crate::groups::partition(places, temp, entries, avg, axis, plain);
+    let h = settle(places, temp, entries, k);
+    crate::groups::leader_first(places, temp, h)
 }
 
-// The first group, then the second, in place of the places of `a`, with `t` to work in; their box, and how many the first has.
-pub fn divide(a: &mut [u32], t: &mut [u32], entries: &[u32], plain: bool) -> Cut
-    requires { ⌜ (2 ≤ length (now a)) × (length (now a) < 32768) × (length (now a) ≤ length (now t))
-        × (Within (length (now entries)) (now a)) × (Plain plain (now entries)) ⌝ }
-    ensures { λ r. ⌜ (Divided (boxAt (now (entries .entry))) (now (a .entry)) (now (a .exit)) (r .first))
-        × (r .around ≡ foldBox (boxAt (now (entries .entry))) (now (a .entry))) ⌝ }
+// The first group, then the second, in place of the places, with `temp` to work in; their box, and how many the first has.
+pub fn divide(places: &mut [u32], temp: &mut [u32], entries: &[u32], plain: bool) -> Cut
+    requires { ⌜ (2 ≤ length (now places)) × (length (now places) < 32768) × (length (now places) ≤ length (now temp))
+        × (Within (length (now entries)) (now places)) × (Plain plain (now entries)) ⌝ }
+    ensures { λ r. ⌜ (Divided (boxAt (now (entries .entry))) (now (places .entry)) (now (places .exit)) (r .first))
+        × (r .around ≡ foldBox (boxAt (now (entries .entry))) (now (places .entry))) ⌝ }
 {
-    let m = crate::average::measure(entries, a, plain);
+    let m = crate::average::measure(entries, places, plain);
     let around = m.around;
     Cut {
         around: around,
-        first: divide_by(a, t, entries, m.average, plain),
+        first: divide_by(places, temp, entries, m.average, plain),
     }
 }

@@ -110,60 +110,60 @@ pub fn paste(dst: &mut [u32], at: usize, src: &[u32], n: usize)
 // The places whose centre is above the average on the axis, then the others, in their order; how many are above.
 // Each place is stored at both ends, so that no branch waits for the comparison.
 pub fn partition(
-    a: &mut [u32],
-    t: &mut [u32],
+    places: &mut [u32],
+    temp: &mut [u32],
     entries: &[u32],
     avg: Vec3,
     axis: Axis,
     plain: bool,
 ) -> usize
-    requires { ⌜ (length (now a) ≤ length (now t)) × (Within (length (now entries)) (now a)) × (Plain plain (now entries)) ⌝ }
-    ensures { λ r. ⌜ Parted (above (boxAt (now (entries .entry))) avg axis) (now (a .entry)) (now (a .exit)) r ⌝ }
+    requires { ⌜ (length (now places) ≤ length (now temp)) × (Within (length (now entries)) (now places)) × (Plain plain (now entries)) ⌝ }
+    ensures { λ r. ⌜ Parted (above (boxAt (now (entries .entry))) avg axis) (now (places .entry)) (now (places .exit)) r ⌝ }
 {
-    let n = a.len();
+    let n = places.len();
     let step = step_of(axis);
     let cut = math::axis::coordinate(axis, avg);
     let mut k = 0;
     let mut i = 0;
     while i < n {
-        let p = a[i];
-        a[k] = p;
-        t[i - k] = p;
+        let p = places[i];
+        places[k] = p;
+        temp[i - k] = p;
         k += one_if_above(entries, Place(p), step, cut, plain);
         i += 1;
     }
-    paste(a, k, t, n - k);
+    paste(places, k, temp, n - k);
     k
 }
 
 // The places from h on before the others.
-fn rotate(a: &mut [u32], t: &mut [u32], h: usize)
-    requires { ⌜ (length (now a) ≤ length (now t)) × (h ≤ length (now a)) ⌝ }
-    ensures { λ _. ⌜ now (a .exit) ≡ drop h (now (a .entry)) ++ take h (now (a .entry)) ⌝ }
+fn rotate(places: &mut [u32], temp: &mut [u32], h: usize)
+    requires { ⌜ (length (now places) ≤ length (now temp)) × (h ≤ length (now places)) ⌝ }
+    ensures { λ _. ⌜ now (places .exit) ≡ drop h (now (places .entry)) ++ take h (now (places .entry)) ⌝ }
 {
-    let n = a.len();
-    paste(t, 0, a, n);
+    let n = places.len();
+    paste(temp, 0, places, n);
     let m = n - h;
-    paste(a, m, t, h);
-    paste(a, 0, &t[h..n], m);
+    paste(places, m, temp, h);
+    paste(places, 0, &temp[h..n], m);
 }
 
 // Whether group two, the places from h on, leads group one, the first h: by their sizes, whatever their boxes.
-fn two_leads(a: &[u32], h: usize) -> bool
-    requires { ⌜ h ≤ length (now a) ⌝ }
-    ensures { λ r. ⌜ ((at : ℕ → BoxWords) → r ≡ twoLeads at (take h (now (a .entry))) (drop h (now (a .entry)))) ⌝ }
+fn two_leads(places: &[u32], h: usize) -> bool
+    requires { ⌜ h ≤ length (now places) ⌝ }
+    ensures { λ r. ⌜ ((at : ℕ → BoxWords) → r ≡ twoLeads at (take h (now (places .entry))) (drop h (now (places .entry)))) ⌝ }
 {
-    h < a.len() - h
+    h < places.len() - h
 }
 
 // Of the first h places and the others, the group that leads first; how many it has.
-pub fn leader_first(a: &mut [u32], t: &mut [u32], h: usize) -> usize
-    requires { ⌜ (length (now a) ≤ length (now t)) × (h ≤ length (now a)) ⌝ }
-    ensures { λ r. ⌜ ((at : ℕ → BoxWords) → LeaderFirst at h (now (a .entry)) (now (a .exit)) r) ⌝ }
+pub fn leader_first(places: &mut [u32], temp: &mut [u32], h: usize) -> usize
+    requires { ⌜ (length (now places) ≤ length (now temp)) × (h ≤ length (now places)) ⌝ }
+    ensures { λ r. ⌜ ((at : ℕ → BoxWords) → LeaderFirst at h (now (places .entry)) (now (places .exit)) r) ⌝ }
 {
-    let m = a.len() - h;
-    if two_leads(a, h) {
-        rotate(a, t, h);
+    let m = places.len() - h;
+    if two_leads(places, h) {
+        rotate(places, temp, h);
         return m;
     }
     h

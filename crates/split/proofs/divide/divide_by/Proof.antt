@@ -28,7 +28,7 @@ abbrev boxes-of : tie.Start → ℕ → BoxWords
 boxes-of g = boxAt (g .args .entries .now)
 
 abbrev places-of : tie.Start → List ℕ
-places-of g = g .args .a .now
+places-of g = g .args .places .now
 
 -- the partition is by the rule's own test
 parts : (c : tie.After-partition)

@@ -9,7 +9,7 @@ use mathlib.Core.Logic.{⊎-elim}
 use lib.ListN.{length}
 use Rattle.split.specs.steps.Groups.{oneSided}
 
-either-test : (c : tie.Joined1) → oneSided (c .before .before .before .before .args .k) (length (c .before .before .before .before .args .a .now)) ≡ true
+either-test : (c : tie.Joined1) → oneSided (c .before .before .before .before .args .k) (length (c .before .before .before .before .args .places .now)) ≡ true
 either-test c = ⊎-elim (λ w. rw (eq-eqb _ _ (w .taken))) (λ w. rw (w .1 .taken, or-true)) (c .if1 .came)
 
 sort-requires : tie.Need-sort-requires

@@ -25,7 +25,7 @@ coordinate-requires : tie.Need-coordinate-requires Inv-loop μ-loop
 coordinate-requires c κs = search needs
 
 loop-holds : tie.Need-loop-holds Inv-loop μ-loop
-loop-holds c = begin _ (c .before .before .before .before .before .args .a .now) (c .before .before .before .before .before .args .t .now)
+loop-holds c = begin _ (c .before .before .before .before .before .args .places .now) (c .before .before .before .before .before .args .temp .now)
 
 mul-p : tie.Need-mul-p Inv-loop μ-loop
 mul-p c = omega arith
@@ -33,28 +33,28 @@ mul-p c = omega arith
 slice-read-p : tie.Need-slice-read-p Inv-loop μ-loop
 slice-read-p c = omega arith
 
-mul-a : tie.Need-mul-a Inv-loop μ-loop
-mul-a c = omega arith
+mul-places : tie.Need-mul-places Inv-loop μ-loop
+mul-places c = omega arith
 
-slice-write-a : tie.Need-slice-write-a Inv-loop μ-loop
-slice-write-a c = omega arith
+slice-write-places : tie.Need-slice-write-places Inv-loop μ-loop
+slice-write-places c = omega arith
 
-sub-t : tie.Need-sub-t Inv-loop μ-loop
-sub-t c = omega arith
+sub-temp : tie.Need-sub-temp Inv-loop μ-loop
+sub-temp c = omega arith
 
-mul-t : tie.Need-mul-t Inv-loop μ-loop
-mul-t c = omega arith
+mul-temp : tie.Need-mul-temp Inv-loop μ-loop
+mul-temp c = omega arith
 
-slice-write-t : tie.Need-slice-write-t Inv-loop μ-loop
-slice-write-t c = omega arith
+slice-write-temp : tie.Need-slice-write-temp Inv-loop μ-loop
+slice-write-temp c = omega arith
 
 one-if-above-requires : tie.Need-one-if-above-requires Inv-loop μ-loop
 one-if-above-requires c κs =
     let l = c .before .before .loop in
     let g = c .before .before .before .before .before .before .before .before in
-    let e = next-same _ (g .args .a .now) (g .args .t .now) (l .a) (l .t) (l .k) (l .i) (l .inv) (omega arith) in
+    let e = next-same _ (g .args .places .now) (g .args .temp .now) (l .places) (l .temp) (l .k) (l .i) (l .inv) (omega arith) in
     let step = c .before .before .before .before .step-of in (
-      rw e (within-at _ (g .args .a .now) (l .i) (g .pre .1) (omega arith)),
+      rw e (within-at _ (g .args .places .now) (l .i) (g .pre .1) (omega arith)),
       omega (arith, step .ensures, step-small (g .args .axis)),
       g .pre .2,
     )
@@ -65,7 +65,7 @@ add-k c =
     let g = c .before .before .before .before .before .before .before .before .before .args in
     let step = c .before .before .before .before .before .step-of .result in
     let cut = c .before .before .before .before .coordinate .result in
-    omega (arith, c .one-if-above .ensures, one-or-none (passes (g .entries .now) step cut (getD (l .a) (l .i) 0)))
+    omega (arith, c .one-if-above .ensures, one-or-none (passes (g .entries .now) step cut (getD (l .places) (l .i) 0)))
 
 add-i : tie.Need-add-i Inv-loop μ-loop
 add-i c = omega arith
@@ -78,7 +78,7 @@ loop-again c =
     let l = c .before .before .before .loop in
     let g = c .before .before .before .before .before .before .before .before .before in
     let above = c .one-if-above in
-    turn _ (g .args .a .now) (g .args .t .now) (l .a) (l .t) (l .k) (l .i) (above .result) (l .inv) (omega arith) (g .pre .0) (above .ensures)
+    turn _ (g .args .places .now) (g .args .temp .now) (l .places) (l .temp) (l .k) (l .i) (above .result) (l .inv) (omega arith) (g .pre .0) (above .ensures)
 
 sub-paste : tie.Need-sub-paste Inv-loop μ-loop
 sub-paste c = omega arith
@@ -87,10 +87,10 @@ paste-requires : tie.Need-paste-requires Inv-loop μ-loop
 paste-requires c κs = omega arith
 
 same-length : tie.Need-same-length Inv-loop μ-loop
-same-length c = c .before .before .paste .kept .0 ∙ c .before .before .before .before .before .before .loop .inv .len-a
+same-length c = c .before .before .paste .kept .0 ∙ c .before .before .before .before .before .before .loop .inv .len-places
 
 same-length-2 : tie.Need-same-length-2 Inv-loop μ-loop
-same-length-2 c = c .before .before .before .before .before .before .loop .inv .len-t
+same-length-2 c = c .before .before .before .before .before .before .loop .inv .len-temp
 
 returns : tie.Need-returns Inv-loop μ-loop
 returns c =
@@ -99,10 +99,10 @@ returns c =
     let cut = after .before .coordinate in
     let step = after .before .before .step-of in
     let g = after .before .before .before .before .before .before in
-    let ps = g .args .a .now in
+    let ps = g .args .places .now in
     let e = passes-above (g .args .entries .now) (g .args .avg) (g .args .axis) (step .result) (cut .result) (step .ensures) (cut .ensures) in
     rw (← e, c .before .before .paste .ensures)
-    (parted _ ps (g .args .t .now) (l .a) (l .t) (l .k) (l .i) (l .inv) (omega arith) (g .pre .0))
+    (parted _ ps (g .args .temp .now) (l .places) (l .temp) (l .k) (l .i) (l .inv) (omega arith) (g .pre .0))
 
 pub partition-spec : {M : Type 1} → statement M
 partition-spec =
@@ -115,11 +115,11 @@ partition-spec =
     loop-holds
     mul-p
     slice-read-p
-    mul-a
-    slice-write-a
-    sub-t
-    mul-t
-    slice-write-t
+    mul-places
+    slice-write-places
+    sub-temp
+    mul-temp
+    slice-write-temp
     one-if-above-requires
     add-k
     add-i

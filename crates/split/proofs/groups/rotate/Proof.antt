@@ -40,7 +40,7 @@ returns c =
     let second = third .before .before .before .before .before .before in
     let first = second .before .before .before .before .before in
     let g = first .before .before .before .before .before in
-    rotated (g .args .a .now) (g .args .t .now) (first .paste .last .0) (second .paste2 .last .0) (third .paste3 .last .0) (g .args .h) (g .pre .1)
+    rotated (g .args .places .now) (g .args .temp .now) (first .paste .last .0) (second .paste2 .last .0) (third .paste3 .last .0) (g .args .h) (g .pre .1)
     (first .paste .ensures) (second .paste2 .ensures) (third .paste3 .ensures)
 
 pub rotate-spec : {M : Type 1} → statement M

@@ -13,7 +13,7 @@ returns : tie.Need-returns
 unfolding twoLeads
 returns c at =
     let s = c .args in
-    rw (length-take-le (s .h) (s .a .now) (c .pre), length-drop (s .h) (s .a .now))
+    rw (length-take-le (s .h) (s .places .now) (c .pre), length-drop (s .h) (s .places .now))
 
 pub two-leads-spec : {M : Type 1} → statement M
 two-leads-spec = tie.close (tie.spec sub-result returns)
