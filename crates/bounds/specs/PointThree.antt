@@ -13,8 +13,8 @@ use Rattle.bvh.specs.Build.{Entries}
 use Rattle.bvh.specs.Entry.{Outputs}
 use Rattle.walk.specs.Boxes.{queryOf, meetsBox}
 use Rattle.walk.specs.Walks.{walkOf}
-use Rattle.tree.specs.Pair.{countFor, Ordinary, boxValues}
-use Rattle.tree.specs.WellFormed.{nodeNo, treeNo, itemsAt, itemsHeld, isLeaf, rangesWith, NodeNumbers, RangeNumbers, FromLeaf}
+use Rattle.tree.specs.Pair.{Ordinary, boxValues}
+use Rattle.tree.specs.WellFormed.{countFor, nodeNo, treeNo, itemsAt, itemsHeld, isLeaf, rangesWith, NodeNumbers, RangeNumbers, FromLeaf}
 use Rattle.bounds.specs.declared.BuildAnswer.{BuildAnswer}
 use Rattle.bounds.specs.declared.WalkAnswer.{WalkAnswer}
 use Rattle.bounds.specs.WalkAnswers.{sizesOf, WalkAnswered}
@@ -39,7 +39,7 @@ pub record PointThree (e : Entries) (th : ℕ) (query : Aabb) (r : BuildAnswer) 
   pub each-present-item-in-exactly-one-leaf : (p : ℕ) → List·Memᴰ p (e .places) → occurrences p (itemsHeld th after 0 (r .nodes)) ≡ 1
   pub no-other-item-in-a-leaf : (p : ℕ) → occurrences p (itemsHeld th after 0 (r .nodes)) ≡ occurrences p (e .places)
   -- "no leaf holds more items than the threshold"
-  pub no-leaf-over-the-threshold : (k : ℕ) → k < r .nodes → NodeNumbers th (nodeNo after k)
+  pub no-leaf-over-the-threshold : (k : ℕ) → k < r .nodes → NodeNumbers th (countFor th (e .number) (r .present)) (nodeNo after k)
   -- "each leaf lies in exactly one tree range"
   pub each-leaf-in-exactly-one-range : (k : ℕ) → k < r .nodes → isLeaf (nodeNo after k) ≡ true → rangesWith k after 0 (r .trees) ≡ 1
   -- "and no range has more than 127 nodes"

@@ -41,8 +41,9 @@ use Rattle.walk.specs.Step.{Lent, started}
 use Rattle.walk.specs.Walks.{Outcome, walkOf, walkFrom, ended, statusNumber, unread}
 use Rattle.walk.specs.declared.core.WalkRefusal.the-variants.{BufferTooShort}
 use Rattle.walk.specs.declared.state.Sizes.{Sizes}
-use Rattle.tree.specs.Pair.{countFor, outcomeOf, Ordinary, boxValues}
+use Rattle.tree.specs.Pair.{outcomeOf, Ordinary, boxValues}
 use Rattle.tree.specs.Visit.{hitIn, visitParts, partReads, Hits, FromHit}
+use Rattle.tree.specs.WellFormed.{countFor}
 use Rattle.tree.proofs.HitLaws.{grown-hits}
 use Rattle.tree.proofs.MachineLaws.{Fit, Written, lent, Sound, Covers, walk-covers}
 use Rattle.tree.proofs.MeetLaws.{part-hit}

@@ -207,18 +207,20 @@ module _ (e : Entries) (th : ℕ) (stands : Stands e th) (before : Outputs) wher
         at-most = range-some r m .1;
       }
 
-  node-numbers : (k : ℕ) → k < size t → NodeNumbers th (nodeNo after k)
+  node-numbers : (k : ℕ) → k < size t → NodeNumbers th (itemCount e th) (nodeNo after k)
   unfolding nodeOf
   node-numbers k h =
       let s = standing (rows 0 t) k (omega (arith, length-rows 0 t)) in
       let r = s .item in
+      let m = standing-in (rows 0 t) k r (s .rest) (s .there) in
       let is = node-recorded k r (s .rest) (s .there) in
       record {
         id = idOf th order r;
         count = r .count;
         id-is = ap (λ (x : BvhNode). x .«item_id») is;
         count-is = ap (λ (x : BvhNode). x .«item_count») is;
-        at-most = rows-at-most th 0 t (at-most e th stands) r (standing-in (rows 0 t) k r (s .rest) (s .there));
+        at-most = rows-at-most th 0 t (at-most e th stands) r m;
+        inside = inside-by e th stands (eqb th 1) refl r m;
       }
 
   -- ---- each leaf in one range

@@ -4,7 +4,7 @@ use mathlib.Core.Bool.{true, cond}
 use mathlib.Core.List.{List, List·Memᴰ}
 use mathlib.Core.Logic.{_⊎_}
 use mathlib.Core.Path.{_≡_}
-use lib.Dec.{T, ltb, eqb}
+use lib.Dec.{T, ltb}
 use lib.Ieee.{Float, le, eq}
 use lib.ListN.{length}
 use Rattle.base.specs.Lists.{occurrences}
@@ -24,13 +24,9 @@ use Rattle.walk.specs.Boxes.{queryOf, meetsBox}
 use Rattle.walk.specs.Walks.{Outcome, walkOf, Promise}
 use Rattle.tree.specs.declared.pair.Found.{Found}
 use Rattle.tree.specs.declared.pair.Found.the-variants.{Unbuilt, Walked}
-use Rattle.tree.specs.WellFormed.{itemsAt, FromLeaf, WellFormed}
+use Rattle.tree.specs.WellFormed.{countFor, itemsAt, FromLeaf, WellFormed}
 
 -- ---- what the walk is given
-
--- 01, Walk: as item count the entries at threshold 1, else the present items.
-abbrev pub countFor : ℕ → ℕ → ℕ → ℕ
-countFor th entries present = cond (eqb th 1) entries present
 
 -- Rule P3 (01, Walk: over a build the walk is given its node and tree bytes unchanged, its cen and inverse, its node and tree counts without padding):
 -- what it comes to, over the build that answered b and left these outputs, with an output of so many places.

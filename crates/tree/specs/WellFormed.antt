@@ -1,6 +1,6 @@
 -- The records that a build wrote, as they are read from its bytes (records' `nodeAt` and `treeAt`), and what it promises of them. Definitions only.
 use Prim.Native.Nat.{ℕ, zero, suc, _+_, _-_, _*_, _≤_, _<_}
-use mathlib.Core.Bool.{Bool, true, _&&_, _||_}
+use mathlib.Core.Bool.{Bool, true, cond, _&&_, _||_}
 use mathlib.Core.List.{List, [], _++_, map, List·Memᴰ}
 use mathlib.Core.Path.{_≡_}
 use lib.Dec.{ltb, eqb}
@@ -17,6 +17,10 @@ use Rattle.bvh.specs.Promises.{itemAt}
 use Rattle.walk.specs.Boxes.{meets}
 use Rattle.walk.specs.Refusals.{whole}
 use Rattle.walk.specs.declared.boxes.Query.{Query}
+
+-- 01, Walk: as item count the entries at threshold 1, else the present items.
+abbrev pub countFor : ℕ → ℕ → ℕ → ℕ
+countFor th entries present = cond (eqb th 1) entries present
 
 -- ---- the records that were written
 
@@ -55,13 +59,14 @@ rangesWith k o j (suc n) = oneIf (holdsNode k (treeNo o j)) + rangesWith k o (j 
 
 -- ---- the build
 
--- A node record's id and count are not below 0, and the count is at most the threshold.
-pub record NodeNumbers (th : ℕ) (n : BvhNode) : Type 0 where
+-- A node record's id and count are not below 0, the count is at most the threshold, and a leaf's positions lie below the item count.
+pub record NodeNumbers (th items : ℕ) (n : BvhNode) : Type 0 where
   pub id : ℕ
   pub count : ℕ
   pub id-is : n .«item_id» ≡ pos id
   pub count-is : n .«item_count» ≡ pos count
   pub at-most : count ≤ th
+  pub inside : 0 < count → id + count ≤ items
 
 -- A tree record's range: 0 ≤ first < last ≤ nodes, and at most 127 nodes.
 pub record RangeNumbers (nodes : ℕ) (t : BvhTree) : Type 0 where
@@ -79,7 +84,7 @@ pub record WellFormed (e : Entries) (th : ℕ) (b : BuiltTree) (after : Outputs)
   pub present-once : (p : ℕ) → List·Memᴰ p (e .places) → occurrences p (itemsHeld th after 0 (b .nodes)) ≡ 1
   pub only-present : (p : ℕ) → occurrences p (itemsHeld th after 0 (b .nodes)) ≡ occurrences p (e .places)
   -- none of them more than the threshold
-  pub at-most : (k : ℕ) → k < b .nodes → NodeNumbers th (nodeNo after k)
+  pub at-most : (k : ℕ) → k < b .nodes → NodeNumbers th (countFor th (e .number) (b .present)) (nodeNo after k)
   -- each leaf lies in the range of exactly one tree record
   pub in-one-range : (k : ℕ) → k < b .nodes → isLeaf (nodeNo after k) ≡ true → rangesWith k after 0 (b .trees) ≡ 1
   -- no range has more than 127 nodes

@@ -14,7 +14,8 @@ use Rattle.bvh.specs.Entry.{entriesIn, Outputs, Lent, lengthsOf, Answered}
 use Rattle.walk.specs.Walks.{Outcome, walkOf, Promise}
 use Rattle.walk.specs.declared.core.Walk.{Walk}
 use Rattle.tree.specs.declared.pair.Found.the-variants.{Unbuilt, Walked}
-use Rattle.tree.specs.Pair.{countFor, outcomeOf, Paired}
+use Rattle.tree.specs.Pair.{outcomeOf, Paired}
+use Rattle.tree.specs.WellFormed.{countFor}
 use Rattle.tree.proofs.AnswerLaws.{refusal-numbered, words-listed}
 use Rattle.tree.proofs.PointThree.{records-well-formed, walk-delivers}
 
