@@ -1,3 +1,4 @@
 mod BuildLaws
+pub mod PointThree
 mod Read
 mod WalkLaws

@@ -1,3 +1,4 @@
 pub mod Numbers
+pub mod PointThree
 pub mod Trees
 pub mod WalkAnswers

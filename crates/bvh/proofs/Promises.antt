@@ -1,4 +1,4 @@
--- Every build keeps the promises of the request's point 3 that hold whatever its boxes. The leaves' items, read by the records' ids and counts,
+-- Every tree that is built keeps what point 3 of the request asks whatever the boxes. The leaves' items, read by the rows' ids and counts,
 -- are the leaf order, and that is the present places in another order.
 use Prim.Native.Nat.{ℕ, _+_, _≤_, _<_}
 use native.Mathlib.Omega.{arith}
@@ -7,7 +7,7 @@ use mathlib.Core.Bool.{Bool, true, false, cond}
 use mathlib.Core.List.{List, [], _∷_, _++_, map, append-assoc, append-nil}
 use mathlib.Core.List.{List·Memᴰ, List·Memᴰ·cases-cons, List·Memᴰ·append-cases, List·Memᴰ·eq-of-singleton}
 use mathlib.Core.Logic.{⊎-elim}
-use mathlib.Core.Path.{_≡_, refl, sym, ap, ap₂, _∙_, subst}
+use mathlib.Core.Path.{_≡_, refl, sym, ap, ap₂, _∙_}
 use borrow.Author.Tests.{ne-eqb, eqb-true}
 use lib.Dec.{eqb}
 use lib.ListN.{length, getD, drop}
@@ -16,15 +16,11 @@ use Rattle.base.proofs.NumberLaws.{rising-once}
 use Rattle.base.specs.Lists.{occurrences, Rising, upFrom}
 use Rattle.split.specs.declared.boxes.BoxWords.{BoxWords}
 use Rattle.bvh.specs.Build.{Entries, treeOf}
-use Rattle.bvh.specs.declared.items.BvhItem.{BvhItem}
-use Rattle.bvh.specs.Entry.{entriesIn, entriesOf}
-use Rattle.bvh.specs.Items.{wordsOf}
-use Rattle.bvh.specs.Promises.{itemsIn, itemsOf, WellFormed}
+use Rattle.bvh.specs.Promises.{itemsIn, itemsOf, WellGrown}
 use Rattle.bvh.specs.Ranges.{rangeLimit}
 use Rattle.bvh.specs.Rows.{Row, rows}
 use Rattle.bvh.specs.Tree.{Node, leaf, inner, builder, grow, leafOrder}
 use Rattle.bvh.proofs.Lawful.{lawful}
-use Rattle.bvh.proofs.MarkedLaws.{marked-present, marked-rising}
 use Rattle.bvh.proofs.RangeLaws.{ranges-cut}
 use Rattle.bvh.proofs.TreeLaws.{AtMost, grow-at-most, leaf-order-permutes}
 
@@ -79,9 +75,9 @@ rows-at-most th lo (inner b l r₂) most r m =
 
 -- ---- the promises
 
-pub well-formed : (e : Entries) (th : ℕ) → 0 < th → Rising 0 (e .places) → WellFormed e th
+pub well-grown : (e : Entries) (th : ℕ) → 0 < th → Rising 0 (e .places) → WellGrown e th
 unfolding treeOf
-well-formed e th some rising =
+well-grown e th some rising =
     let b = builder (e .at) in
     let law = lawful (e .at) in
     let t = grow b th (e .places) in
@@ -95,14 +91,3 @@ well-formed e th some rising =
       at-most = rows-at-most th 0 t most;
       cut = ranges-cut rangeLimit (omega arith) t;
     }
-
--- the entries of words
-pub words-well-formed : (n th : ℕ) (ws : List ℕ) → 0 < th → WellFormed (entriesIn n ws) th
-unfolding entriesIn
-words-well-formed n th ws some = well-formed (entriesIn n ws) th some (marked-rising 0 n ws)
-
--- the entries of a list of items
-pub items-well-formed : (items : List BvhItem) (th : ℕ) → 0 < th → WellFormed (entriesOf items) th
-unfolding entriesOf
-items-well-formed items th some =
-    well-formed (entriesOf items) th some (subst (Rising 0) (marked-present items []) (marked-rising 0 (length items) (wordsOf items ++ [])))

@@ -1,4 +1,4 @@
--- What the request's point 3 promises of every build that is not refused, whatever its boxes. Definitions only.
+-- What the tree of a build keeps, whatever its boxes: what the records' promises (tree's specs, Promises) are proved by. Definitions only.
 use Prim.Native.Nat.{ℕ, _≤_}
 use mathlib.Core.Bool.{cond}
 use mathlib.Core.List.{List, [], _∷_, _++_, map, List·Memᴰ}
@@ -27,8 +27,8 @@ abbrev pub itemsOf : ℕ → List ℕ → List Row → List ℕ
 itemsOf th order [] = []
 itemsOf th order (r ∷ rs) = itemsIn th order r ++ itemsOf th order rs
 
--- Point 3, first sentence: each present item in exactly one leaf, no leaf over the threshold, each leaf in exactly one range, no range over 127 nodes.
-pub record WellFormed (e : Entries) (th : ℕ) : Type 0 where
+-- Rule P4, of the tree: each present item in exactly one leaf, no leaf over the threshold, each leaf in exactly one range, no range over 127 nodes.
+pub record WellGrown (e : Entries) (th : ℕ) : Type 0 where
   -- the leaves hold a present item once, and no other at all
   pub present-once : (p : ℕ) → List·Memᴰ p (e .places) → occurrences p (itemsOf th (leafOrder (treeOf e th)) (rows 0 (treeOf e th))) ≡ 1
   pub only-present : (p : ℕ) → occurrences p (itemsOf th (leafOrder (treeOf e th)) (rows 0 (treeOf e th))) ≡ occurrences p (e .places)

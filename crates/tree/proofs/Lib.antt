@@ -5,4 +5,5 @@ pub mod MeetLaws
 pub mod PairLaws
 pub mod PointThree
 pub mod ReadLaws
+pub mod RecordLaws
 pub mod VisitLaws

@@ -35,8 +35,7 @@ use Rattle.walk.specs.declared.state.Status.the-variants.{Going}
 use Rattle.walk.specs.declared.state.WalkState.{WalkState}
 use Rattle.walk.proofs.StepLaws.{step-node, step-tree, node-handing, node-onward, tree-entered, tree-passed}
 use Rattle.walk.proofs.WalkLaws.{walk-more, walk-none}
-use Rattle.tree.specs.Pair.{hitBy}
-use Rattle.tree.specs.Visit.{visit, visitReads, visitParts, rangeReads, partReads}
+use Rattle.tree.specs.Visit.{hitBy, visit, visitReads, visitParts, rangeReads, partReads}
 use Rattle.tree.proofs.ReadLaws.{node-read, tree-read}
 use Rattle.tree.proofs.VisitLaws.{visit-few, parts-few, visit-both, reads-append}
 

@@ -23,7 +23,8 @@ use Rattle.bvh.proofs.MeetLaws.{all-measured, part-below, part-above}
 use Rattle.bvh.specs.Build.{Entries}
 use Rattle.walk.specs.Boxes.{overlap, queryOf, meetsBox, meets}
 use Rattle.walk.specs.declared.boxes.Query.{Query}
-use Rattle.tree.specs.Pair.{Ordinary, boxValues, hitIn}
+use Rattle.tree.specs.Pair.{Ordinary, boxValues}
+use Rattle.tree.specs.Visit.{hitIn}
 
 is-true : (b : Bool) → T b → b ≡ true
 is-true true h = refl

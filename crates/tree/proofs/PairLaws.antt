@@ -1,12 +1,12 @@
--- Point 3 of the request: a walk over a build's records is refused only with 2, and otherwise hands out every present item that meets the query,
--- none twice, none from a leaf that misses it, within the bound on the readings.
+-- Point 3 of the request, in terms of the tree: a walk over a build's records is refused only with 2, and otherwise hands out every present item
+-- that meets the query, none twice, none from a leaf that misses it, within the bound on the readings. RecordLaws says it of the records.
 -- The walk is the visit (MachineLaws), and the visit has these properties (VisitLaws, HitLaws, MeetLaws).
 use Prim.Native.Nat.{ℕ, _+_, _-_, _*_, _≤_, _<_}
 use native.Mathlib.Omega.{arith}
 use mathlib.Core.Bool.{Bool, true, false, cond}
 use mathlib.Core.List.{List, [], _∷_, _++_, map, append-assoc, append-nil}
 use mathlib.Core.List.{List·Memᴰ, List·Memᴰ·not-nil, List·Memᴰ·cases-cons, List·Memᴰ·append-cases, List·Memᴰ·eq-of-singleton}
-use mathlib.Core.Logic.{⊎-elim, inl, inr}
+use mathlib.Core.Logic.{⊎-elim}
 use mathlib.Core.Path.{_≡_, refl, sym, ap, _∙_, subst}
 use borrow.Author.Tests.{le-ltb, ne-eqb, eqb-true}
 use lib.Dec.{ltb, eqb}
@@ -20,7 +20,7 @@ use Rattle.records.specs.declared.scale.Scale.{Scale}
 use Rattle.records.specs.Scale.{scaleOfBox}
 use Rattle.split.specs.Folding.{foldBox}
 use Rattle.split.specs.declared.boxes.BoxWords.{BoxWords}
-use Rattle.bvh.specs.Build.{Entries, treeOf, scaleIn, nodesWritten, treesWritten}
+use Rattle.bvh.specs.Build.{Entries, treeOf, scaleIn, builtOf, nodesWritten, treesWritten}
 use Rattle.bvh.specs.Entry.{outputs}
 use Rattle.bvh.specs.steps.Decode.{Small, SmallRows}
 use Rattle.bvh.specs.steps.Flat.{Full, Filled}
@@ -41,16 +41,42 @@ use Rattle.walk.specs.Step.{Lent, started}
 use Rattle.walk.specs.Walks.{Outcome, walkOf, walkFrom, ended, statusNumber, unread}
 use Rattle.walk.specs.declared.core.WalkRefusal.the-variants.{BufferTooShort}
 use Rattle.walk.specs.declared.state.Sizes.{Sizes}
-use Rattle.tree.specs.Pair.{itemCount, sizesOf, outcomeOf, Ordinary, boxValues, hitIn, itemsHanded, Delivered}
-use Rattle.tree.specs.Visit.{visitParts, partReads, Hits, FromHit}
+use Rattle.tree.specs.Pair.{outcomeOf, Ordinary, boxValues}
+use Rattle.tree.specs.Visit.{hitIn, visitParts, partReads, Hits, FromHit}
+use Rattle.tree.specs.WellFormed.{countFor}
 use Rattle.tree.proofs.HitLaws.{grown-hits}
 use Rattle.tree.proofs.MachineLaws.{Fit, Written, lent, Sound, Covers, walk-covers}
 use Rattle.tree.proofs.MeetLaws.{part-hit}
 use Rattle.tree.proofs.VisitLaws.{parts-all, parts-at-most, parts-from, parts-reads}
 
+-- ---- the walk, by the tree
+
+-- the walk's item count
+abbrev pub itemCount : Entries → ℕ → ℕ
+itemCount e th = countFor th (e .number) (length (e .places))
+
+unfoldable pub sizesOf : Entries → ℕ → Sizes
+sizesOf e th = record { nodes = size (treeOf e th); trees = length (ranges rangeLimit 0 (treeOf e th)); items = itemCount e th }
+
+-- the items that some positions stand for
+abbrev pub itemsBy : Entries → ℕ → List ℕ → List ℕ
+itemsBy e th is = map (itemAt th (leafOrder (treeOf e th))) is
+
+-- What `Delivered` says of the records, of the tree.
+pub record Visited (e : Entries) (th : ℕ) (query : Aabb) (room : ℕ) (o : Outcome) : Type 0 where
+  pub refused-exactly : o .number ≡ cond (ltb room (itemCount e th)) 2 0
+  pub every-item-that-meets : Ordinary e → o .number ≡ 0 → (p : ℕ) → List·Memᴰ p (e .places) → meetsBox (boxValues (e .at p)) query ≡ true
+      → occurrences p (itemsBy e th (o .given)) ≡ 1
+  pub none-twice : (p : ℕ) → occurrences p (itemsBy e th (o .given)) ≤ 1
+  pub only-present : (p : ℕ) → occurrences p (itemsBy e th (o .given)) ≤ occurrences p (e .places)
+  pub from-leaves-that-meet : (i : ℕ) → List·Memᴰ i (o .given)
+      → FromHit (hitIn query (scaleIn (treeOf e th))) th (leafOrder (treeOf e th)) (rows 0 (treeOf e th)) i
+  pub count-is : o .counts .handed ≡ length (o .given)
+  pub reads-at-most : o .counts .reads ≤ size (treeOf e th) + length (ranges rangeLimit 0 (treeOf e th))
+
 -- ---- the rows of a tree
 
-small-member : (th : ℕ) (order : List ℕ) (rs : List Row) (r : Row) → SmallRows th order rs → List·Memᴰ r rs → Small th order r
+pub small-member : (th : ℕ) (order : List ℕ) (rs : List Row) (r : Row) → SmallRows th order rs → List·Memᴰ r rs → Small th order r
 small-member th order [] r s m = absurd (List·Memᴰ·not-nil m)
 small-member th order (x ∷ rs) r s m = ⊎-elim (λ e. subst (Small th order) (sym e) (s .0)) (small-member th order rs r (s .1)) (List·Memᴰ·cases-cons m)
 
@@ -115,11 +141,11 @@ module _ (e : Entries) (th : ℕ) (stands : Stands e th) where
   abbrev order : List ℕ
   order = leafOrder t
 
-  size-few : size t ≤ 32767
+  pub size-few : size t ≤ 32767
   unfolding treeOf
   size-few = stands .nodes-few
 
-  order-long : length order ≡ length (e .places)
+  pub order-long : length order ≡ length (e .places)
   order-long = leaf-order-length b law th (stands .threshold) (e .places)
 
   order-below : Below (e .number) order
@@ -128,15 +154,15 @@ module _ (e : Entries) (th : ℕ) (stands : Stands e th) where
       (leaf-order-within b law th (stands .threshold) (7 * e .number) (e .places)
       (below-within (e .number) (7 * e .number) (e .places) (omega arith) (stands .below)))
 
-  at-most : AtMost th t
+  pub at-most : AtMost th t
   at-most = grow-at-most b law th (stands .threshold) (e .places)
 
-  rows-small : SmallRows th order (rows 0 t)
+  pub rows-small : SmallRows th order (rows 0 t)
   rows-small =
       small-rows th t (below-wider (e .number) 32768 order (omega (arith, stands .few)) order-below)
       (omega (arith, order-long, stands .present, stands .few)) (omega (arith, size-few))
 
-  inside-by : (q : Bool) → eqb th 1 ≡ q → (r : Row) → List·Memᴰ r (rows 0 t) → 0 < r .count
+  pub inside-by : (q : Bool) → eqb th 1 ≡ q → (r : Row) → List·Memᴰ r (rows 0 t) → 0 < r .count
       → cond (eqb (r .count) 0) (r .head) (cond q (getD order (r .head) 0) (r .head)) + r .count ≤ cond q (e .number) (length (e .places))
   inside-by true one r m h =
       let some : eqb (r .count) 0 ≡ false = ne-eqb (r .count) 0 (λ z. omega arith) in
@@ -248,13 +274,13 @@ module _ (e : Entries) (th : ℕ) (stands : Stands e th) where
 
     -- ---- the promises
 
-    delivered-by : (o : Outcome) → o .number ≡ 0 → o .given ≡ given → o .counts .handed ≡ length given
+    delivered-by : (room : ℕ) → ltb room (itemCount e th) ≡ false → (o : Outcome) → o .number ≡ 0 → o .given ≡ given → o .counts .handed ≡ length given
         → o .counts .reads ≡ partReads (hitIn query scale) (parts rangeLimit 0 t)
-        → Delivered e th query o
-    unfolding treeOf itemsHanded
-    delivered-by o en eg eh er =
+        → Visited e th query room o
+    unfolding treeOf
+    delivered-by room enough o en eg eh er =
         record {
-          refused-only-with-2 = inl en;
+          refused-exactly = en ∙ sym (ap (λ (q : Bool). cond q 2 0) enough);
           every-item-that-meets = λ ordinary z p m meets.
               let once = rising-once 0 p (e .places) (stands .rising) m in
               rw eg (omega (arith, given-once p, given-all ordinary p meets, once));
@@ -265,11 +291,11 @@ module _ (e : Entries) (th : ℕ) (stands : Stands e th) where
           reads-at-most = omega (arith, er, parts-reads (hitIn query scale) th order rangeLimit limit-some 0 t);
         }
 
-    delivered-unread : Delivered e th query (unread BufferTooShort)
-    unfolding treeOf itemsHanded
-    delivered-unread =
+    delivered-unread : (room : ℕ) → ltb room (itemCount e th) ≡ true → Visited e th query room (unread BufferTooShort)
+    unfolding treeOf
+    delivered-unread room short =
         record {
-          refused-only-with-2 = inr refl;
+          refused-exactly = sym (ap (λ (q : Bool). cond q 2 0) short);
           every-item-that-meets = λ ordinary z. absurd (omega arith);
           none-twice = λ p. omega arith;
           only-present = λ p. omega arith;
@@ -278,17 +304,18 @@ module _ (e : Entries) (th : ℕ) (stands : Stands e th) where
           reads-at-most = omega arith;
         }
 
-    delivered-read : Delivered e th query (ended (walkFrom bytes started))
-    delivered-read =
-        delivered-by (ended (walkFrom bytes started))
+    delivered-read : (room : ℕ) → ltb room (itemCount e th) ≡ false → Visited e th query room (ended (walkFrom bytes started))
+    delivered-read room enough =
+        delivered-by room enough (ended (walkFrom bytes started))
         (ap (λ (l : Lent). statusNumber (walkFrom l started .state .status)) (sym lent-is) ∙ ap statusNumber (covers .going-on))
         (ap (λ (l : Lent). walkFrom l started .given) (sym lent-is) ∙ covers .given-are)
         (ap (λ (l : Lent). walkFrom l started .state .handed) (sym lent-is) ∙ covers .handed-are)
         (ap (λ (l : Lent). walkFrom l started .state .reads) (sym lent-is) ∙ covers .reads-are)
 
-    either : (q : Bool) → Delivered e th query (cond q (unread BufferTooShort) (ended (walkFrom bytes started)))
-    either true = delivered-unread
-    either false = delivered-read
+    either : (room : ℕ) (q : Bool) → ltb room (itemCount e th) ≡ q
+        → Visited e th query room (cond q (unread BufferTooShort) (ended (walkFrom bytes started)))
+    either room true short = delivered-unread room short
+    either room false enough = delivered-read room enough
 
     items-few : (q : Bool) → cond q (e .number) (length (e .places)) ≤ 65535
     items-few true = omega (arith, stands .few)
@@ -307,13 +334,14 @@ module _ (e : Entries) (th : ℕ) (stands : Stands e th) where
         let written = treesBytes scale (ranges rangeLimit 0 t) in
         omega (arith, length-append written (drop (length written) trees), length-trees scale (ranges rangeLimit 0 t))
 
-    pub delivered : (written-order : List ℕ) (room : ℕ)
-        → Delivered e th query (outcomeOf e th query (outputs (over (nodesWritten e th) nodes) (over (treesWritten e th) trees) written-order) room)
+    pub visited : (written-order : List ℕ) (room : ℕ)
+        → Visited e th query room
+        (outcomeOf e th query (builtOf e th (treeOf e th)) (outputs (over (nodesWritten e th) nodes) (over (treesWritten e th) trees) written-order) room)
     unfolding treeOf outcomeOf sizesOf
-    delivered written-order room =
+    visited written-order room =
         let few-trees = ranges-few rangeLimit limit-some 0 t in
         let runs =
         walk-runs query (scale .cen) (scale .inverse) (sizesOf e th) (bytes .nodes) (bytes .trees) room
         (omega (arith, size-few)) (omega (arith, size-few, few-trees)) (items-few (eqb th 1)) nodes-long trees-long in
-        subst (Delivered e th query) (sym runs)
-        (either (ltb room (sizesOf e th .items)))
+        subst (Visited e th query room) (sym runs)
+        (either room (ltb room (itemCount e th)) refl)

@@ -5,11 +5,24 @@ use mathlib.Core.List.{List, [], _∷_, _++_, List·Memᴰ}
 use mathlib.Core.Path.{_≡_}
 use lib.ListN.{length}
 use Rattle.base.specs.Lists.{occurrences, upFrom}
+use Rattle.math.specs.declared.aabb.Aabb.{Aabb}
+use Rattle.records.specs.Quantise.{quantiseOf}
+use Rattle.records.specs.declared.scale.Scale.{Scale}
 use Rattle.split.specs.declared.boxes.BoxWords.{BoxWords}
 use Rattle.bvh.specs.Output.{idOf}
 use Rattle.bvh.specs.Ranges.{Subtree}
 use Rattle.bvh.specs.Rows.{Row}
 use Rattle.bvh.specs.Tree.{Node, leaf, inner, boxOf, leafOrder}
+use Rattle.walk.specs.Boxes.{queryOf, meets}
+use Rattle.walk.specs.declared.boxes.Query.{Query}
+
+-- Rule W2: whether a record with this box, in units of the scale, meets the quantised query.
+abbrev pub hitBy : Query → Scale → BoxWords → Bool
+hitBy q s b = meets q (quantiseOf (b .min) (s .cen) (s .inverse)) (quantiseOf (b .max) (s .cen) (s .inverse))
+
+-- the same for a query as floats
+abbrev pub hitIn : Aabb → Scale → BoxWords → Bool
+hitIn query s b = hitBy (queryOf query (s .cen) (s .inverse)) s b
 
 -- Rule P1 (01, Walk): the positions handed out from a node on, where `hit` tells which boxes' records meet the query.
 -- None where the node misses; a leaf's by its record's id and count; an inner node's are its children's.

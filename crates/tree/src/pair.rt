@@ -14,7 +14,8 @@ ghost use lib.Dec.{eqb};
 ghost use mathlib.Core.Bool.{false};
 ghost use Rattle.bvh.specs.Entry.{entriesIn, outputs, lent};
 ghost use Rattle.bvh.specs.Promises.{itemAt};
-ghost use Rattle.tree.specs.Pair.{countFor, Paired};
+ghost use Rattle.tree.specs.Pair.{Paired};
+ghost use Rattle.tree.specs.WellFormed.{countFor};
 
 // A build that is refused leaves nothing to walk. Any other is walked: what was built, and how the walk over its records ended.
 pub enum Found {

@@ -1,18 +1,25 @@
 -- What holds of every walk's outcome, whatever the bytes: its reads are within what the trees allow, its count is that of its positions,
--- there are no more of them than items, and a walk that was not refused has read everything that it had to.
+-- there are no more of them than items, each is below the item count, and a walk that was not refused has read everything that it had to.
 use mathlib.Core.Path.{_≡_, refl}
 use mathlib.Core.Bool.{Bool, true, false, cond, _||_}
 use mathlib.Core.List.{List}
-use Prim.Native.Nat.{ℕ, _-_, _≤_}
+use Prim.Native.Nat.{ℕ, zero, suc, _+_, _-_, _≤_, _<_, max}
 use native.Mathlib.Omega.{arith}
-use lib.Dec.{ltb}
+use lib.Dec.{ltb, eqb}
+use lib.IntN.{pos}
 use lib.ListN.{length}
-use borrow.Author.Tests.{ltb-false}
+use lib.Signed.{ltZ}
+use borrow.Author.Tests.{ltb-false, ne-eqb}
+use Rattle.base.proofs.EveryLaws.{every-append}
+use Rattle.base.proofs.NumberLaws.{up-below}
 use Rattle.base.proofs.Truth.{neither}
+use Rattle.base.specs.Lists.{Below, upFrom}
 use Rattle.math.specs.declared.aabb.Aabb.{Aabb}
 use Rattle.math.specs.declared.vec3.Vec3.{Vec3}
+use Rattle.records.specs.declared.BvhNode.{BvhNode}
 use Rattle.walk.specs.Boxes.{queryOf}
-use Rattle.walk.specs.Step.{Lent, lentOf, started, more}
+use Rattle.walk.specs.Refusals.{whole, badNode}
+use Rattle.walk.specs.Step.{Lent, lentOf, Turn, started, more, handedOf, handing, stepOf}
 use Rattle.walk.specs.Walks.{allowance, walkFrom, unread, ended, tooMany, tooShort, walkOf, Outcome, refusalNumber, statusNumber}
 use Rattle.walk.specs.declared.core.WalkRefusal.{WalkRefusal}
 use Rattle.walk.specs.declared.core.WalkRefusal.the-variants.{TooMany, BufferTooShort, TreeRange, NodeRecord, TooManyHandedOut}
@@ -20,7 +27,40 @@ use Rattle.walk.specs.declared.state.Sizes.{Sizes}
 use Rattle.walk.specs.declared.state.Status.{Status}
 use Rattle.walk.specs.declared.state.Status.the-variants.{Going, Stopped}
 use Rattle.walk.specs.declared.state.WalkState.{WalkState}
-use Rattle.walk.proofs.WalkLaws.{walk-reads, walk-handed, walk-within, walk-ends}
+use Rattle.walk.proofs.WalkLaws.{nodeOf, Reading, refused-tree, entered-tree, passed-tree, refused-node, met-node, missed-node, reading}
+use Rattle.walk.proofs.WalkLaws.{walk-reads, walk-handed, walk-within, walk-ends, walk-ind}
+
+-- ---- the positions that a walk hands out
+
+-- of a leaf that refusal 10 let pass, as many of its positions as are handed out lie within the items
+leaf-below : (at last items m : ℕ) (n : BvhNode) → badNode at last items n ≡ false → m ≤ whole (n .«item_count»)
+    → Below items (upFrom (whole (n .«item_id»)) m)
+unfolding badNode
+leaf-below at last items zero n e h = tt
+leaf-below at last items (suc m) n e h =
+    let id = whole (n .«item_id») in
+    let count = whole (n .«item_count») in
+    let signs = ltZ (n .«item_count») (pos 0) || ltZ (n .«item_id») (pos 0) in
+    let test = cond (eqb count 0) (ltb last (at + max id 1)) (ltb items (id + count)) in
+    let some : eqb count 0 ≡ false = ne-eqb count 0 (λ z. omega arith) in
+    let passed : ltb items (id + count) ≡ false = rw some at (neither signs test e .1) in
+    up-below id (suc m) items (omega (arith, ltb-false items (id + count) passed))
+
+given-below : (l : Lent) (s : WalkState) {u : Turn} → Reading l s u → Below (l .sizes .items) (u .given)
+given-below l s (refused-tree h e) = tt
+given-below l s (entered-tree h e m) = tt
+given-below l s (passed-tree h e m) = tt
+given-below l s (refused-node h e) = tt
+given-below l s (met-node h e m) =
+    unfold handing in
+    leaf-below (s .at) (s .last) (l .sizes .items) (handedOf (l .sizes .items) (nodeOf l s) s) (nodeOf l s) e (omega arith)
+given-below l s (missed-node h e m) = tt
+
+-- Rule W6 (01, Walk, 10): whatever the records hold.
+pub walk-below : (l : Lent) (s : WalkState) → Below (l .sizes .items) (walkFrom l s .given)
+walk-below l s =
+    walk-ind l (λ (s : WalkState) (u : Turn). Below (l .sizes .items) (u .given)) (λ s e. tt)
+    (λ s u e rest. every-append (λ x. x < l .sizes .items) (stepOf l s .given) (u .given) (given-below l s (reading l s)) rest) s
 
 -- What holds of a refusal before reading, and of every walk that reads, holds of every outcome.
 module _ (box : Aabb) (cen inverse : Vec3) (z : Sizes) (nodes trees : List ℕ) (room : ℕ) where
@@ -54,6 +94,10 @@ module _ (box : Aabb) (cen inverse : Vec3) (z : Sizes) (nodes trees : List ℕ) 
   pub handed-few : outcome .counts .handed ≤ z .items
   handed-few =
       each (λ (o : Outcome). o .counts .handed ≤ z .items) (omega arith) (omega arith) (walk-within lent started (omega arith))
+
+  -- each position is below the item count
+  pub positions-below : Below (z .items) (outcome .given)
+  positions-below = each (λ (o : Outcome). Below (z .items) (o .given)) tt tt (walk-below lent started)
 
 -- A walk that ends with the number 0 has read all trees, and every range that it entered to its end.
 pub record Exhausted (trees : ℕ) (s : WalkState) : Type 0 where
