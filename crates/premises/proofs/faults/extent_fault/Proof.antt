@@ -1,0 +1,61 @@
+-- `faults::extent_fault` meets its contract: the half extents are those of the words' floats.
+use borrow.Author.Needs.{needs}
+use Rattle.premises.proofs.faults.extent_fault.Statement.{statement}
+use Rattle.premises.proofs.faults.extent_fault.Tie as tie
+use Rattle.premises.proofs.faults.extent_fault.Reads as reads
+use Rattle.premises.proofs.faults.extent_fault.Lts as lts
+use Rattle.math.proofs.words3.values.Reads as values-reads
+use Rattle.premises.proofs.faults.failing.Reads as failing-reads
+use Rattle.premises.proofs.faults.sound_between.Reads as sound-between-reads
+use mathlib.Core.Path.{_≡_, ap, ap₂, _∙_}
+use mathlib.Core.Bool.{Bool}
+use Rattle.math.specs.declared.vec3.Vec3.{Vec3}
+use Rattle.records.specs.Axis.{extent}
+use Rattle.premises.specs.Faults.{sound, failing, extentFault}
+
+-- src/faults.rt:88:9
+values-requires : tie.Need-values-requires
+values-requires c κs = search needs
+
+-- src/faults.rt:89:9
+values-requires-2 : tie.Need-values-requires-2
+values-requires-2 c κs = search needs
+
+-- src/faults.rt:90:9
+sound-between-requires : tie.Need-sound-between-requires
+sound-between-requires c κs = search needs
+
+-- src/faults.rt:91:9
+sound-between-requires-2 : tie.Need-sound-between-requires-2
+sound-between-requires-2 c κs = search needs
+
+-- src/faults.rt:92:9
+sound-between-requires-3 : tie.Need-sound-between-requires-3
+sound-between-requires-3 c κs = search needs
+
+-- src/faults.rt:93:5
+failing-requires : tie.Need-failing-requires
+failing-requires c κs = search needs
+
+-- src/faults.rt:85:1
+returns : tie.Need-returns
+unfolding extentFault
+returns c =
+    let l = c .before .before .before .before .before .values .ensures in
+    let h = c .before .before .before .before .values2 .ensures in
+    let x = c .before .before .before .sound-between .ensures ∙ ap₂ (λ (l h : Vec3). sound (extent (l .x) (h .x))) l h in
+    let y = c .before .before .sound-between2 .ensures ∙ ap₂ (λ (l h : Vec3). sound (extent (l .y) (h .y))) l h in
+    let z = c .before .sound-between3 .ensures ∙ ap₂ (λ (l h : Vec3). sound (extent (l .z) (h .z))) l h in
+    c .failing .ensures ∙ (λ i. failing 10 (x i) (y i) (z i) 0)
+
+pub extent-fault-spec : {M : Type 1} → statement M
+extent-fault-spec =
+    tie.close
+    (tie.spec
+    values-requires
+    values-requires-2
+    sound-between-requires
+    sound-between-requires-2
+    sound-between-requires-3
+    failing-requires
+    returns)
