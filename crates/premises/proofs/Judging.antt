@@ -1,10 +1,8 @@
 -- What `judge` and `ordinary` answer at each place where they return.
 use Prim.Native.Nat.{ℕ, _*_, _≤_, _<_}
 use mathlib.Core.Path.{_≡_, sym, ap, _∙_}
-use mathlib.Core.Bool.{Bool, cond}
 use mathlib.Core.List.{List}
 use borrow.Author.Tests.{lt-ltb, le-ltb}
-use lib.Dec.{ltb}
 use Rattle.base.proofs.Truth.{when, unless}
 use Rattle.bvh.specs.Entry.{entriesIn}
 use Rattle.bvh.specs.Items.{marked}

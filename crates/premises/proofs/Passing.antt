@@ -1,7 +1,7 @@
 -- The list by its words, an entry at a time: what the loops keep, and the answers of `ordinary`.
-use Prim.Native.Nat.{ℕ, zero, suc, _+_, _-_, _*_, _≤_, _<_}
+use Prim.Native.Nat.{ℕ, _+_, _-_, _*_, _≤_, _<_}
 use native.Mathlib.Omega.{arith}
-use mathlib.Core.Path.{_≡_, refl, sym, ap, _∙_, subst}
+use mathlib.Core.Path.{_≡_, refl, sym, ap, _∙_}
 use mathlib.Core.Bool.{Bool, true, false, cond, not}
 use mathlib.Core.List.{List, [], _∷_}
 use borrow.Author.Tests.{eq-eqb, ne-eqb}
@@ -13,7 +13,6 @@ use Rattle.bvh.proofs.MarkedLaws.{marked-next}
 use Rattle.split.specs.Boxes.{boxAt}
 use Rattle.split.specs.Folding.{startBox, foldStep, foldFrom}
 use Rattle.split.specs.declared.boxes.BoxWords.{BoxWords}
-use Rattle.premises.specs.declared.ordinary.Premises.{Premises}
 use Rattle.premises.specs.Faults.{boxFault}
 use Rattle.premises.specs.Judgement.{faulty, firstFault}
 

@@ -6,20 +6,18 @@ use mathlib.Core.Logic.{_⊎_, inl, inr}
 use mathlib.Core.Bool.{Bool, true, false, cond, _||_}
 use mathlib.Core.List.{List, [], _∷_}
 use lib.Dec.{T, eqb, eqb→eq, ltb}
-use lib.Ieee.{Float, nan, inf, fin, binary32, ofBits, le, eq}
+use lib.Ieee.{Float, nan, inf, fin, le, eq}
 use lib.Ieee.Fits.{eq→eqb}
 use lib.Ieee.Scale.{finite}
 use mir.Facts.{or-yes}
 use Rattle.base.specs.Lists.{Among}
 use Rattle.base.proofs.ListLaws.{among-head, among-tail, among-cases}
-use Rattle.base.proofs.Truth.{when, unless}
+use Rattle.base.proofs.Truth.{when}
 use Rattle.float32.specs.Signs.{absOf}
 use Rattle.math.specs.declared.axis.Axis.{Axis}
 use Rattle.math.specs.declared.axis.Axis.the-variants.{X, Y, Z}
-use Rattle.math.specs.declared.words3.Words3.{Words3}
-use Rattle.math.specs.Axes.{wordOn}
 use Rattle.records.specs.Axis.{largest, smallest, nought}
-use Rattle.split.specs.Ends.{low, high, Proper, Bounded, Each}
+use Rattle.split.specs.Ends.{low, high, Proper, Bounded}
 use Rattle.split.specs.Folding.{foldBox}
 use Rattle.split.specs.declared.boxes.BoxWords.{BoxWords}
 use Rattle.bvh.specs.Build.{Entries}

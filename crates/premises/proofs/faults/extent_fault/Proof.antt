@@ -2,42 +2,29 @@
 use borrow.Author.Needs.{needs}
 use Rattle.premises.proofs.faults.extent_fault.Statement.{statement}
 use Rattle.premises.proofs.faults.extent_fault.Tie as tie
-use Rattle.premises.proofs.faults.extent_fault.Reads as reads
-use Rattle.premises.proofs.faults.extent_fault.Lts as lts
-use Rattle.math.proofs.words3.values.Reads as values-reads
-use Rattle.premises.proofs.faults.failing.Reads as failing-reads
-use Rattle.premises.proofs.faults.sound_between.Reads as sound-between-reads
-use mathlib.Core.Path.{_≡_, ap, ap₂, _∙_}
-use mathlib.Core.Bool.{Bool}
+use mathlib.Core.Path.{ap₂, _∙_}
 use Rattle.math.specs.declared.vec3.Vec3.{Vec3}
 use Rattle.records.specs.Axis.{extent}
 use Rattle.premises.specs.Faults.{sound, failing, extentFault}
 
--- src/faults.rt:88:9
 values-requires : tie.Need-values-requires
 values-requires c κs = search needs
 
--- src/faults.rt:89:9
 values-requires-2 : tie.Need-values-requires-2
 values-requires-2 c κs = search needs
 
--- src/faults.rt:90:9
 sound-between-requires : tie.Need-sound-between-requires
 sound-between-requires c κs = search needs
 
--- src/faults.rt:91:9
 sound-between-requires-2 : tie.Need-sound-between-requires-2
 sound-between-requires-2 c κs = search needs
 
--- src/faults.rt:92:9
 sound-between-requires-3 : tie.Need-sound-between-requires-3
 sound-between-requires-3 c κs = search needs
 
--- src/faults.rt:93:5
 failing-requires : tie.Need-failing-requires
 failing-requires c κs = search needs
 
--- src/faults.rt:85:1
 returns : tie.Need-returns
 unfolding extentFault
 returns c =

@@ -2,34 +2,26 @@
 use borrow.Author.Needs.{needs}
 use Rattle.premises.proofs.faults.failing.Statement.{statement}
 use Rattle.premises.proofs.faults.failing.Tie as tie
-use Rattle.premises.proofs.faults.failing.Reads as reads
-use Rattle.premises.proofs.faults.failing.Lts as lts
 use Rattle.premises.specs.Faults.{failing}
 
--- src/faults.rt:30:34
 add-result : tie.Need-add-result
 add-result c = search needs
 
--- src/faults.rt:32:13
 add-result-2 : tie.Need-add-result-2
 add-result-2 c = search needs
 
--- src/faults.rt:24:1
 returns : tie.Need-returns
 unfolding failing
 returns c = rw (c .before .before .if1 .taken, c .before .if2 .taken, c .if3 .taken)
 
--- src/faults.rt:24:1
 returns-2 : tie.Need-returns-2
 unfolding failing
 returns-2 c = rw (c .before .before .if1 .taken, c .before .if2 .taken, c .if3 .left)
 
--- src/faults.rt:24:1
 returns-3 : tie.Need-returns-3
 unfolding failing
 returns-3 c = rw (c .before .if1 .taken, c .if2 .left)
 
--- src/faults.rt:24:1
 returns-4 : tie.Need-returns-4
 unfolding failing
 returns-4 c = rw (c .if1 .left)

@@ -2,26 +2,18 @@
 use borrow.Author.Needs.{needs}
 use Rattle.premises.proofs.faults.half_extent.Statement.{statement}
 use Rattle.premises.proofs.faults.half_extent.Tie as tie
-use Rattle.premises.proofs.faults.half_extent.Reads as reads
-use Rattle.premises.proofs.faults.half_extent.Lts as lts
-use Rattle.float32.proofs.extremes.vmax.Reads as vmax-reads
-use Rattle.float32.proofs.signs.abs.Reads as abs-reads
 use mathlib.Core.Path.{ap₂, _∙_}
 use Rattle.float32.specs.Extremes.{vmaxOf}
 
--- src/faults.rt:65:29
 abs-requires : tie.Need-abs-requires
 abs-requires c κs = search needs
 
--- src/faults.rt:65:60
 abs-requires-2 : tie.Need-abs-requires-2
 abs-requires-2 c κs = search needs
 
--- src/faults.rt:65:5
 vmax-requires : tie.Need-vmax-requires
 vmax-requires c κs = search needs
 
--- src/faults.rt:61:1
 returns : tie.Need-returns
 returns c = c .vmax .ensures ∙ ap₂ vmaxOf (c .before .before .abs .ensures) (c .before .abs2 .ensures)
 

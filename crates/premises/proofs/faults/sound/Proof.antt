@@ -2,9 +2,6 @@
 use borrow.Author.Needs.{needs}
 use Rattle.premises.proofs.faults.sound.Statement.{statement}
 use Rattle.premises.proofs.faults.sound.Tie as tie
-use Rattle.premises.proofs.faults.sound.Reads as reads
-use Rattle.premises.proofs.faults.sound.Lts as lts
-use Rattle.float32.proofs.words.value.Reads as value-reads
 use mathlib.Core.Path.{_≡_, sym, ap, _∙_}
 use mathlib.Core.Bool.{true, false}
 use lib.Ieee.{Float, ofBits, le, eq}
@@ -13,7 +10,6 @@ use Rattle.records.specs.Axis.{smallest, nought}
 use Rattle.premises.proofs.Powers.{at-least}
 use Rattle.premises.specs.Faults.{sound}
 
--- src/faults.rt:73:9
 returns : tie.Need-returns
 unfolding sound ofBits
 returns c =
@@ -21,11 +17,9 @@ returns c =
     let e : eq q nought ≡ true = c .if1 .taken in
     sym (or-yes (le smallest q) e)
 
--- src/faults.rt:75:5
 value-requires : tie.Need-value-requires
 value-requires c κs = search needs
 
--- src/faults.rt:69:1
 returns-2 : tie.Need-returns-2
 unfolding sound ofBits
 returns-2 c =

@@ -2,43 +2,31 @@
 use borrow.Author.Needs.{needs}
 use Rattle.premises.proofs.ordinary.entry_fault.Statement.{statement}
 use Rattle.premises.proofs.ordinary.entry_fault.Tie as tie
-use Rattle.premises.proofs.ordinary.entry_fault.Reads as reads
-use Rattle.premises.proofs.ordinary.entry_fault.Lts as lts
-use Rattle.premises.proofs.faults.box_fault.Reads as box-fault-reads
-use Rattle.split.proofs.boxes.box_at.Reads as box-at-reads
 use mathlib.Core.Path.{ap, _∙_}
 use Rattle.premises.proofs.Passing.{unmarked, is-marked}
 use Rattle.premises.specs.Faults.{boxFault}
 
--- src/ordinary.rt:29:16
 mul-if1 : tie.Need-mul-if1
 mul-if1 c = search needs
 
--- src/ordinary.rt:29:8
 mul-if1-2 : tie.Need-mul-if1-2
 mul-if1-2 c = search needs
 
--- src/ordinary.rt:29:8
 shared-slice-read-if1 : tie.Need-shared-slice-read-if1
 shared-slice-read-if1 c = search needs
 
--- src/ordinary.rt:30:9
 returns : tie.Need-returns
 returns c = unmarked _ _ _ (c .if1 .taken)
 
--- src/ordinary.rt:32:66
 cast-t6 : tie.Need-cast-t6
 cast-t6 c = search needs
 
--- src/ordinary.rt:32:30
 box-at-requires : tie.Need-box-at-requires
 box-at-requires c κs = search needs
 
--- src/ordinary.rt:32:5
 box-fault-requires : tie.Need-box-fault-requires
 box-fault-requires c κs = search needs
 
--- src/ordinary.rt:25:1
 returns-2 : tie.Need-returns-2
 returns-2 c = c .box-fault .ensures ∙ ap boxFault (c .before .box-at .ensures) ∙ is-marked _ _ _ (c .before .before .if1 .left)
 

@@ -2,49 +2,35 @@
 use borrow.Author.Needs.{needs}
 use Rattle.premises.proofs.ordinary.fold_entry.Statement.{statement}
 use Rattle.premises.proofs.ordinary.fold_entry.Tie as tie
-use Rattle.premises.proofs.ordinary.fold_entry.Reads as reads
-use Rattle.premises.proofs.ordinary.fold_entry.Lts as lts
-use Rattle.math.proofs.words3.vmax_words.Reads as vmax-words-reads
-use Rattle.math.proofs.words3.vmin_words.Reads as vmin-words-reads
-use Rattle.split.proofs.boxes.box_at.Reads as box-at-reads
-use mathlib.Core.Path.{_≡_, ap, _∙_}
+use mathlib.Core.Path.{ap, _∙_}
 use Rattle.math.specs.Stored.{vminWordsOf, vmaxWordsOf}
 use Rattle.split.specs.declared.boxes.BoxWords.{BoxWords}
 use Rattle.premises.proofs.Passing.{unmarked, is-marked}
 
--- src/ordinary.rt:64:16
 mul-if1 : tie.Need-mul-if1
 mul-if1 c = search needs
 
--- src/ordinary.rt:64:8
 mul-if1-2 : tie.Need-mul-if1-2
 mul-if1-2 c = search needs
 
--- src/ordinary.rt:64:8
 shared-slice-read-if1 : tie.Need-shared-slice-read-if1
 shared-slice-read-if1 c = search needs
 
--- src/ordinary.rt:65:9
 returns : tie.Need-returns
 returns c = unmarked _ _ _ (c .if1 .taken)
 
--- src/ordinary.rt:67:49
 cast-t8 : tie.Need-cast-t8
 cast-t8 c = search needs
 
--- src/ordinary.rt:67:9
 box-at-requires : tie.Need-box-at-requires
 box-at-requires c κs = search needs
 
--- src/ordinary.rt:69:14
 vmin-words-requires : tie.Need-vmin-words-requires
 vmin-words-requires c κs = search needs
 
--- src/ordinary.rt:70:14
 vmax-words-requires : tie.Need-vmax-words-requires
 vmax-words-requires c κs = search needs
 
--- src/ordinary.rt:60:1
 returns-2 : tie.Need-returns-2
 returns-2 c =
     let acc = c .before .before .before .before .before .before .args .acc in

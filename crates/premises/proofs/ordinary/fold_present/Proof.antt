@@ -1,10 +1,6 @@
 -- `ordinary::fold_present` meets its contract. The loop's invariant, `Folded`: the rest folded onto the box so far is the whole fold.
 use Rattle.premises.proofs.ordinary.fold_present.Statement.{statement}
 use Rattle.premises.proofs.ordinary.fold_present.Tie as tie
-use Rattle.premises.proofs.ordinary.fold_present.Reads as reads
-use Rattle.premises.proofs.ordinary.fold_present.Lts as lts
-use Rattle.premises.proofs.ordinary.fold_entry.Reads as fold-entry-reads
-use Rattle.split.proofs.boxes.start_box.Reads as start-box-reads
 use Prim.Native.Nat.{_-_}
 use Rattle.split.specs.Folding.{foldBox}
 use Rattle.premises.proofs.Passing.{Folded, folded-begin, folded-next, folded-end}
@@ -16,31 +12,24 @@ Inv-loop entries n acc₀ p₀ acc p = Folded entries n p acc
 abbrev μ-loop : tie.MeasureT-loop
 μ-loop entries n acc₀ p₀ acc p = n - p
 
--- src/ordinary.rt:79:9
 start-box-requires : tie.Need-start-box-requires Inv-loop μ-loop
 start-box-requires c κs = search needs
 
--- src/ordinary.rt:81:5
 loop-holds : tie.Need-loop-holds Inv-loop μ-loop
 loop-holds c = folded-begin _ _ _ (c .start-box .ensures)
 
--- src/ordinary.rt:82:9
 fold-entry-requires : tie.Need-fold-entry-requires Inv-loop μ-loop
 fold-entry-requires c κs = search needs
 
--- src/ordinary.rt:83:9
 add-p : tie.Need-add-p Inv-loop μ-loop
 add-p c = search needs
 
--- src/ordinary.rt:81:5
 loop-less : tie.Need-loop-less Inv-loop μ-loop
 loop-less c = search needs
 
--- src/ordinary.rt:81:5
 loop-again : tie.Need-loop-again Inv-loop μ-loop
 loop-again c = folded-next _ _ _ _ _ (c .before .before .loop .inv) (c .before .loop-test .taken) (c .fold-entry .ensures)
 
--- src/ordinary.rt:75:1
 returns : tie.Need-returns Inv-loop μ-loop
 unfolding foldBox
 returns c = folded-end _ _ _ _ (c .before .loop .inv) (c .loop-test .left)

@@ -2,30 +2,20 @@
 use borrow.Author.Needs.{needs}
 use Rattle.premises.proofs.ordinary.judge.Statement.{statement}
 use Rattle.premises.proofs.ordinary.judge.Tie as tie
-use Rattle.premises.proofs.ordinary.judge.Reads as reads
-use Rattle.premises.proofs.ordinary.judge.Lts as lts
-use Rattle.premises.proofs.faults.extent_fault.Reads as extent-fault-reads
-use Rattle.premises.proofs.ordinary.first_fault.Reads as first-fault-reads
-use Rattle.premises.proofs.ordinary.fold_present.Reads as fold-present-reads
 use Rattle.premises.proofs.Judging.{found-first, found-last}
 
--- src/ordinary.rt:92:9
 first-fault-requires : tie.Need-first-fault-requires
 first-fault-requires c κs = search needs
 
--- src/ordinary.rt:94:9
 returns : tie.Need-returns
 returns c = found-first _ _ _ (c .before .before .first-fault .ensures) (c .if1 .taken)
 
--- src/ordinary.rt:98:44
 fold-present-requires : tie.Need-fold-present-requires
 fold-present-requires c κs = search needs
 
--- src/ordinary.rt:98:16
 extent-fault-requires : tie.Need-extent-fault-requires
 extent-fault-requires c κs = search needs
 
--- src/ordinary.rt:88:1
 returns-2 : tie.Need-returns-2
 returns-2 c = found-last _ _ _ _ _ (c .before .before .before .before .first-fault .ensures) (c .before .before .if1 .left) (c .before .fold-present .ensures) (c .extent-fault .ensures)
 
