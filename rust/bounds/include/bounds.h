@@ -142,6 +142,25 @@ bounds_walk_answer bounds_walk(bounds_aabb query, bounds_vec3 cen, bounds_vec3 i
                                const uint8_t *tree_bytes, size_t tree_bytes_len, size_t tree_count, size_t item_count,
                                uint16_t *out, size_t out_len);
 
+/* ---- the premises of the walk's promise ----
+ *
+ * A walk over a build's records hands out every present item whose box meets the query as floats, if all present boxes
+ * are finite with min at most max, no coordinate exceeds 2^100 in size, and on each axis the half extent of the box
+ * around them all is 0 or at least 2^-100. Outside these premises items can be missed.
+ */
+
+typedef struct {
+    uint32_t refusal;  /* as Build's: 1 over 32,767 entries, 2 fewer words than 7n; then nothing was read */
+    uint32_t fault;    /* what breaks the premises first; 0: they hold, if there is no refusal
+                        * 1 to 6    min x, y, z, max x, y, z of the entry is not finite, or above 2^100 in size
+                        * 7 to 9    min is above max on x, y, z in the entry
+                        * 10 to 12  the half extent of the box around all on x, y, z */
+    uint32_t place;    /* the first such entry's number in the list, for faults 1 to 9 */
+} bounds_premises;
+
+/* Whether n entries, of seven words each as a build reads them, meet the premises. */
+bounds_premises bounds_ordinary(size_t entry_count, const uint32_t *entries, size_t entries_len);
+
 #ifdef __cplusplus
 }
 #endif

@@ -72,6 +72,15 @@ pub struct WalkAnswer {
     pub handed: usize,
 }
 
+/// `bounds_premises`.
+#[derive(Clone, Copy)]
+#[repr(C)]
+pub struct Premises {
+    pub refusal: u32,
+    pub fault: u32,
+    pub place: u32,
+}
+
 unsafe extern "C" {
     // Scalars by value: no memory is reached. The numbers that stand for an order are read as numbers, so that none of
     // them would be invalid.
@@ -154,6 +163,7 @@ unsafe extern "C" {
         out: *mut u16,
         out_len: usize,
     ) -> WalkAnswer;
+    fn bounds_ordinary(entry_count: usize, entries: *const u32, entries_len: usize) -> Premises;
 }
 
 /// `bounds_build_bvh`; what it works in is lent in four parts: places, temp, stack and rows.
@@ -223,6 +233,13 @@ pub fn walk(query: Aabb, cen: Vec3, inverse: Vec3, records: &Records, out: &mut 
     }
 }
 
+/// `bounds_ordinary`.
+pub fn ordinary(entry_count: usize, entries: &[u32]) -> Premises {
+    // SAFETY: the pointer comes from a slice, which is only read, and goes with its length. The count may be any number:
+    // the library reads entries only where it found the slice long enough for them.
+    unsafe { bounds_ordinary(entry_count, entries.as_ptr(), entries.len()) }
+}
+
 // The layouts that the header gives: a change of a struct stops the build here.
 const _: () = {
     assert!(size_of::<Vec3>() == 12 && align_of::<Vec3>() == 4);
@@ -233,6 +250,7 @@ const _: () = {
     assert!(size_of::<Scale>() == 36 && align_of::<Scale>() == 4);
     assert!(size_of::<BuildAnswer>() == 104 && align_of::<BuildAnswer>() == 8);
     assert!(size_of::<WalkAnswer>() == 24 && align_of::<WalkAnswer>() == 8);
+    assert!(size_of::<Premises>() == 12 && align_of::<Premises>() == 4);
     assert!(size_of::<Bvh>() == 96 && align_of::<Bvh>() == 8);
 };
 
@@ -278,5 +296,20 @@ mod tests {
             assert_eq!((refused.nodes, refused.min.x), (0, 0), "a refusal has no values");
         }
         assert_eq!(PARTS.iter().sum::<usize>() as u64, bounds_work_len(ENTRIES as u32));
+    }
+
+    #[test]
+    fn premises_are_refused_where_entries_are_short_or_too_many() {
+        let entries = entries();
+        let answer = |n, len| {
+            let Premises { refusal, fault, place } = ordinary(n, &entries[..len]);
+            (refusal, fault, place)
+        };
+        assert_eq!(answer(ENTRIES, 7 * ENTRIES), (0, 0, 0));
+        assert_eq!(answer(ENTRIES, 7 * ENTRIES - 1), (2, 0, 0));
+        assert_eq!(answer(ENTRIES - 1, 7 * ENTRIES - 1), (0, 0, 0));
+        assert_eq!(answer(32_767, 7 * ENTRIES), (2, 0, 0));
+        assert_eq!(answer(32_768, 7 * ENTRIES), (1, 0, 0));
+        assert_eq!(answer(usize::MAX, 7 * ENTRIES), (1, 0, 0));
     }
 }

@@ -163,7 +163,18 @@ fn pair(case: &Case, seed: u64) -> Result<Option<Pair<'_>>, Wrong> {
         }
     };
     let leaves = well_formed(&ours).map_err(|why| (Sort::Promise, why))?;
-    Ok(Some(Pair { leaves, broken: broken(&case.items), ours, theirs }))
+    let broken = broken(&case.items);
+    let found = premises(case);
+    if found.is_ok() != broken.is_none() {
+        return Err((Sort::Answer, format!("premises: {found:?}, expected {broken:?}")));
+    }
+    Ok(Some(Pair { leaves, broken, ours, theirs }))
+}
+
+/// What the library says of the premises.
+fn premises(case: &Case) -> Result<(), bounds::premises::Broken> {
+    let items: Vec<Option<BvhItem>> = case.items.iter().map(|item| item.map(ours)).collect();
+    bounds::ordinary(&items)
 }
 
 /// The library's tree, in buffers that held other bytes.

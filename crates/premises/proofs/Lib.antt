@@ -1,0 +1,4 @@
+mod Judging
+mod Passing
+mod Powers
+pub mod PremisesLaws

@@ -1,0 +1,131 @@
+//! Whether a list of boxes meets the premises under which a walk misses no item, and what breaks them first.
+//!
+//! ```
+//! use bounds::premises::{ordinary, Axis, Broken, Corner};
+//! use bounds::{BvhItem, Vec3};
+//!
+//! let good = BvhItem { min: Vec3::new(0.0, 0.0, 0.0), max: Vec3::new(1.0, 1.0, 1.0) };
+//! let huge = BvhItem { min: Vec3::new(0.0, 0.0, 0.0), max: Vec3::new(1.0, 2e30, 1.0) };
+//! assert_eq!(ordinary(&[Some(good), None, Some(good)]), Ok(()));
+//! let broken = ordinary(&[Some(good), None, Some(huge)]).unwrap_err();
+//! assert_eq!(broken, Broken::Size { place: 2, corner: Corner::Max, axis: Axis::Y });
+//! assert_eq!(broken.to_string(), "entry 2: max y is not finite, or above 2^100 in size");
+//! ```
+
+use crate::bvh::BvhItem;
+use crate::{ffi, Refusal};
+use std::fmt;
+
+/// An axis.
+#[derive(Clone, Copy, Debug, PartialEq, Eq, Hash)]
+#[allow(missing_docs)]
+pub enum Axis {
+    X,
+    Y,
+    Z,
+}
+
+/// A corner of a box.
+#[derive(Clone, Copy, Debug, PartialEq, Eq, Hash)]
+#[allow(missing_docs)]
+pub enum Corner {
+    Min,
+    Max,
+}
+
+/// What breaks the premises first.
+#[derive(Clone, Copy, Debug, PartialEq, Eq, Hash)]
+pub enum Broken {
+    /// This coordinate of the entry at the place is a NaN, infinite, or above 2^100 in size.
+    #[allow(missing_docs)]
+    Size { place: usize, corner: Corner, axis: Axis },
+    /// On this axis the min of the entry at the place is above its max.
+    #[allow(missing_docs)]
+    Order { place: usize, axis: Axis },
+    /// No entry by itself: on this axis the half extent of the box around all is neither 0 nor at least 2^-100.
+    #[allow(missing_docs)]
+    Extent { axis: Axis },
+    /// The list was not read: it is over its limit.
+    Refused(Refusal),
+}
+
+/// Whether the list meets the premises: all present boxes are finite with min at most max, no coordinate exceeds 2^100
+/// in size, and on each axis the half extent of the box around them all is 0 or at least 2^-100. Over a tree of such a
+/// list a walk hands out every item whose box meets the query. A list without a present entry meets them.
+///
+/// # Errors
+///
+/// What breaks them first: the first entry that does so by itself, and in it the first coordinate (min x, y, z, then
+/// max) before the first axis with min above max; else the first axis of the box around all. [`Broken::Refused`] where
+/// there are over 32,767 entries, which no build takes.
+///
+/// ```
+/// # use bounds::{premises::*, BvhItem, Refusal, Vec3};
+/// let point = |x: f32| Some(BvhItem { min: Vec3::new(x, 0.0, 0.0), max: Vec3::new(x, 0.0, 0.0) });
+/// assert_eq!(ordinary(&[]), Ok(()));
+/// assert_eq!(ordinary(&[point(1.0)]), Ok(()));
+/// assert_eq!(ordinary(&[point(0.0), point(1e-35)]), Err(Broken::Extent { axis: Axis::X }));
+/// let turned = BvhItem { min: Vec3::new(0.0, 0.0, 1.0), max: Vec3::ZERO };
+/// assert_eq!(ordinary(&[point(0.0), Some(turned)]), Err(Broken::Order { place: 1, axis: Axis::Z }));
+/// assert_eq!(ordinary(&[None; 32_768]), Err(Broken::Refused(Refusal::ListTooLong)));
+/// ```
+pub fn ordinary(items: &[Option<BvhItem>]) -> Result<(), Broken> {
+    let entries: Vec<u32> = items.iter().flat_map(words).collect();
+    let answer = ffi::ordinary(items.len(), &entries);
+    if answer.refusal != 0 {
+        return Err(Broken::Refused(Refusal::from_number(answer.refusal).expect("one of the numbered refusals")));
+    }
+    let place = answer.place as usize;
+    let axis = |number: u32| [Axis::X, Axis::Y, Axis::Z][number as usize];
+    match answer.fault {
+        0 => Ok(()),
+        n @ 1..=3 => Err(Broken::Size { place, corner: Corner::Min, axis: axis(n - 1) }),
+        n @ 4..=6 => Err(Broken::Size { place, corner: Corner::Max, axis: axis(n - 4) }),
+        n @ 7..=9 => Err(Broken::Order { place, axis: axis(n - 7) }),
+        n @ 10..=12 => Err(Broken::Extent { axis: axis(n - 10) }),
+        n => unreachable!("fault {n}: the library numbers them up to 12"),
+    }
+}
+
+/// The seven words of an entry.
+fn words(item: &Option<BvhItem>) -> [u32; 7] {
+    let Some(BvhItem { min, max }) = item else { return [0; 7] };
+    let [a, b, c, d, e, f] = [min.x, min.y, min.z, max.x, max.y, max.z].map(f32::to_bits);
+    [1, a, b, c, d, e, f]
+}
+
+impl fmt::Display for Axis {
+    fn fmt(&self, f: &mut fmt::Formatter) -> fmt::Result {
+        f.write_str(match self {
+            Axis::X => "x",
+            Axis::Y => "y",
+            Axis::Z => "z",
+        })
+    }
+}
+
+impl fmt::Display for Corner {
+    fn fmt(&self, f: &mut fmt::Formatter) -> fmt::Result {
+        f.write_str(match self {
+            Corner::Min => "min",
+            Corner::Max => "max",
+        })
+    }
+}
+
+impl fmt::Display for Broken {
+    fn fmt(&self, f: &mut fmt::Formatter) -> fmt::Result {
+        match self {
+            Broken::Size { place, corner, axis } => {
+                write!(f, "entry {place}: {corner} {axis} is not finite, or above 2^100 in size")
+            }
+            Broken::Order { place, axis } => write!(f, "entry {place}: min {axis} is above max {axis}"),
+            Broken::Extent { axis } => {
+                write!(f, "the box around all: its half extent on {axis} is neither 0 nor at least 2^-100")
+            }
+            Broken::Refused(refusal) => refusal.fmt(f),
+        }
+    }
+}
+
+impl std::error::Error for Broken {}
