@@ -1,3 +1,3 @@
-mod BuildLaws
+pub mod BuildLaws
 mod Read
 mod WalkLaws

@@ -35,7 +35,7 @@ ghost use Rattle.bvh.specs.Build.{refusalNumber as buildRefusal};
 ghost use Rattle.bvh.specs.Entry.{entriesOf, outputs, lent, lengthsOf};
 ghost use Rattle.bounds.specs.Numbers.{relationNumber, orderingNumber};
 ghost use Rattle.walk.specs.Walks.{refusalNumber as walkRefusal, walkOf};
-ghost use Rattle.bounds.specs.Trees.{refusedBy, treeValues, buildAnswer, Answers, HeaderWritten};
+ghost use Rattle.bounds.specs.Trees.{refusedBy, treeValues, buildAnswer, workLen, Answers, HeaderWritten};
 ghost use Rattle.bounds.specs.WalkAnswers.{sizesOf, counted, walkAnswer, WalkAnswered};
 
 // ---- words and floats
@@ -420,7 +420,7 @@ fn build_answer(b: Build) -> BuildAnswer
 // the rows.
 #[no_mangle]
 pub extern "C" fn bounds_work_len(entries: u32) -> u64
-    ensures { λ r. ⌜ r ≡ 26 * entries + 8 ⌝ }
+    ensures { λ r. ⌜ r ≡ workLen entries ⌝ }
 {
     26 * (entries as u64) + 8
 }
