@@ -1,4 +1,4 @@
-mod BuildLaws
+pub mod BuildLaws
 pub mod PointThree
 mod Read
 mod WalkLaws

@@ -2,6 +2,7 @@
 use bvh::core::Build;
 use bvh::core::BuildRefusal;
 use bvh::core::BuiltTree;
+use bvh::items::BvhItem;
 use float32::compare::Relation;
 use float32::sorting::Ordering;
 use math::aabb::Aabb;
@@ -19,7 +20,7 @@ use walk::state::Sizes;
 ghost use mathlib.Core.Path.{_≡_};
 ghost use Prim.Native.Nat.{_+_, _*_};
 ghost use lib.Ieee.{binary32, ofBits, toBits};
-ghost use lib.ListN.{length, take};
+ghost use lib.ListN.{length};
 ghost use Rattle.float32.specs.Casts.{castI32, low16, shortOf, vertexOf};
 ghost use Rattle.float32.specs.Comparison.{relationOf};
 ghost use Rattle.float32.specs.Counts.{ofCount};
@@ -31,10 +32,10 @@ ghost use Rattle.math.specs.Transform.{pointOf, vectorOf, transformBox};
 ghost use Rattle.math.specs.Vec3s.{addOf, subOf, scaleOf, negOf, absOf, dotOf, crossOf, lengthOf, vmulOf, vdivOf, vaddOf, normOf, vmin3Of, vmax3Of, cmpVec3Of};
 ghost use Rattle.records.specs.Header.{headerNumber};
 ghost use Rattle.bvh.specs.Build.{refusalNumber as buildRefusal};
-ghost use Rattle.bvh.specs.Entry.{entriesIn, outputs, lent, lengthsOf};
+ghost use Rattle.bvh.specs.Entry.{entriesOf, outputs, lent, lengthsOf};
 ghost use Rattle.bounds.specs.Numbers.{relationNumber, orderingNumber};
 ghost use Rattle.walk.specs.Walks.{refusalNumber as walkRefusal, walkOf};
-ghost use Rattle.bounds.specs.Trees.{refusedBy, treeValues, buildAnswer, Answers, HeaderWritten};
+ghost use Rattle.bounds.specs.Trees.{refusedBy, treeValues, buildAnswer, workLen, Answers, HeaderWritten};
 ghost use Rattle.bounds.specs.WalkAnswers.{sizesOf, counted, walkAnswer, WalkAnswered};
 
 // ---- words and floats
@@ -415,42 +416,42 @@ fn build_answer(b: Build) -> BuildAnswer
     }
 }
 
-// The words that a build of n entries reads and works in, all parts together: 7n for the entries, n each for places, temp and stack,
-// 8(2n + 1) for the rows.
+// The words that a build of n entries works in, all parts together: 7n for the entries, n each for places, temp and stack, 8(2n + 1) for
+// the rows.
 #[no_mangle]
 pub extern "C" fn bounds_work_len(entries: u32) -> u64
-    ensures { λ r. ⌜ r ≡ 26 * entries + 8 ⌝ }
+    ensures { λ r. ⌜ r ≡ workLen entries ⌝ }
 {
     26 * (entries as u64) + 8
 }
 
-// The tree of the present entries, of which `entries` holds seven words each: a mark (0 for absent), min, max.
+// The tree of the present items. What it works in is lent in five parts: entries, places, temp, stack and rows.
 #[no_mangle]
 pub extern "C" fn bounds_build_bvh(
-    entry_count: usize,
+    items: &[BvhItem],
     threshold: u32,
-    entries: &[u32],
     node_bytes: &mut [u8],
     tree_bytes: &mut [u8],
     order: &mut [u16],
+    entries: &mut [u32],
     places: &mut [u32],
     temp: &mut [u32],
     stack: &mut [u32],
     rows: &mut [u32],
 ) -> BuildAnswer
-    ensures { λ r. ⌜ Answers (entriesIn «entry_count» (take (7 * «entry_count») (now (entries .entry)))) threshold
+    ensures { λ r. ⌜ Answers (entriesOf (now (items .entry))) threshold
         (lengthsOf (outputs (now («node_bytes» .entry)) (now («tree_bytes» .entry)) (now (order .entry)))
         (lent (now (entries .entry)) (now (places .entry)) (now (temp .entry)) (now (stack .entry)) (now (rows .entry)))) r
         (outputs (now («node_bytes» .entry)) (now («tree_bytes» .entry)) (now (order .entry)))
         (outputs (now («node_bytes» .exit)) (now («tree_bytes» .exit)) (now (order .exit))) ⌝ }
 {
-    build_answer(bvh::core::build_core(
-        entry_count,
+    build_answer(bvh::entry::build_bvh(
+        items,
         threshold,
-        entries,
         node_bytes,
         tree_bytes,
         order,
+        entries,
         places,
         temp,
         stack,

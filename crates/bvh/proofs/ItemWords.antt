@@ -3,18 +3,11 @@ use Prim.Native.Nat.{ℕ, _+_, _*_, _≤_, _<_}
 use native.Mathlib.Numerals.{add-one}
 use native.Mathlib.Omega.{arith}
 use mathlib.Core.Path.{_≡_, refl, ap, _∙_}
-use mathlib.Core.Bool.{Bool, true, false, cond}
 use mathlib.Core.List.{List, [], _∷_, _++_, append-assoc}
-use mir.Val.{boolByte}
 use lib.ListN.{length, getD, set, take, drop, length-append, length-drop}
 use lib.Seq.{take-suc-set, drop-set-lt, take-at, drop-at, drop-drop, take-suc, take-length, length-take-le}
 use Rattle.bvh.specs.declared.items.BvhItem.{BvhItem}
 use Rattle.bvh.specs.Items.{absent, itemWords, wordsOf}
-
--- the machine's cast of a mark
-pub mark-is : (b : Bool) → boolByte b ≡ cond b 1 0
-mark-is true = refl
-mark-is false = refl
 
 -- a store, and then six words after it
 pub mark-then-box : (l bs : List ℕ) (at v : ℕ) → at < length l

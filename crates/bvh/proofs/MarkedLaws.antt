@@ -12,21 +12,17 @@ use Rattle.bvh.specs.declared.items.BvhItem.{BvhItem}
 use Rattle.bvh.specs.Items.{present, itemWords, wordsOf, isMarked, marked}
 use Rattle.base.proofs.NumberLaws.{below-wider, below-kept, rising-kept}
 
-is-marked : (b : Bool) → isMarked (cond b 1 0) ≡ b
-is-marked true = refl
-is-marked false = refl
-
 marked-onto : (at : ℕ) (before : List ℕ) (is : List BvhItem) (rest : List ℕ) → length before ≡ 7 * at
     → marked at (length is) (before ++ (wordsOf is ++ rest)) ≡ present at is
 marked-onto at before [] rest e = refl
 marked-onto at before (i ∷ is) rest e =
     let ws : List ℕ = before ++ (wordsOf (i ∷ is) ++ rest) in
-    let mark : getD ws (7 * at) 0 ≡ cond (i .present) 1 0 = getD-at before (cond (i .present) 1 0) _ 0 (7 * at) e in
+    let mark : getD ws (7 * at) 0 ≡ i .present = getD-at before (i .present) _ 0 (7 * at) e in
     let moved : ws ≡ (before ++ itemWords i) ++ (wordsOf is ++ rest) = sym (append-assoc before (itemWords i) (wordsOf is ++ rest)) in
     let longer : length (before ++ itemWords i) ≡ 7 * (at + 1) = omega (arith, length-append before (itemWords i)) in
     let others : marked (at + 1) (length is) ws ≡ present (at + 1) is =
     ap (marked (at + 1) (length is)) moved ∙ marked-onto (at + 1) (before ++ itemWords i) is rest longer in
-    ap₂ (λ (b : Bool) (ps : List ℕ). cond b (at ∷ ps) ps) (ap isMarked mark ∙ is-marked (i .present)) others
+    ap₂ (λ (b : Bool) (ps : List ℕ). cond b (at ∷ ps) ps) (ap isMarked mark) others
 
 -- The marks in the entries' words are those of the entries.
 pub marked-present : (is : List BvhItem) (rest : List ℕ) → marked 0 (length is) (wordsOf is ++ rest) ≡ present 0 is

@@ -28,7 +28,7 @@ fn put_item(entries: &mut [u32], i: usize, item: BvhItem)
     let at = 7 * i;
     let min = item.min;
     let max = item.max;
-    entries[at] = item.present as u32;
+    entries[at] = item.present;
     split::boxes::put_box(entries, at + 1, BoxWords { min: min, max: max });
 }
 

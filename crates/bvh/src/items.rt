@@ -7,10 +7,11 @@ ghost use Rattle.base.specs.Lists.{oneIf};
 ghost use Rattle.bvh.specs.Items.{isMarked};
 ghost use Rattle.bvh.specs.steps.Decode.{Gathered};
 
-// An entry: a box and whether it is there, in the place of the source's `Option`. It is known by its place in the list.
+// An entry: a mark, 0 for absent, and a box, in the place of the source's `Option`. It is known by its place in the list.
+// Seven words without padding: every pattern of bits has a meaning.
 #[repr(C)]
 pub struct BvhItem {
-    pub present: bool,
+    pub present: u32,
     pub min: Words3,
     pub max: Words3,
 }

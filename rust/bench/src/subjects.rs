@@ -64,8 +64,7 @@ fn builds(boxes: Vec<Aabb>, threshold: u32) -> [Pass; 2] {
     let n = boxes.len();
     let items: Vec<Option<Aabb>> = boxes.iter().copied().map(Some).collect();
     let mut theirs = tree::builder(&items, threshold as usize);
-    let item = |b: Aabb| Some(BvhItem { min: vec3(b.min), max: vec3(b.max) });
-    let items: Vec<Option<BvhItem>> = boxes.into_iter().map(item).collect();
+    let items: Vec<BvhItem> = boxes.into_iter().map(|b| BvhItem::new(vec3(b.min), vec3(b.max))).collect();
     let (mut nodes, mut trees) = (vec![0; records_len(n)], vec![0; records_len(n)]);
     let (mut order, mut work) = (vec![0; n], vec![0; work_len(n)]);
     let mut ours =

@@ -30,35 +30,39 @@ static void record(const char *what, const uint8_t *record, const int16_t want[8
     wrong |= !same;
 }
 
-static void put_entry(uint32_t *words, const float box[6]) {
-    words[0] = 1; /* present */
-    memcpy(words + 1, box, 6 * sizeof *box);
+static bounds_item item(const float min[3], const float max[3]) {
+    bounds_item item = {.present = 1};
+    memcpy(&item.min, min, sizeof item.min);
+    memcpy(&item.max, max, sizeof item.max);
+    return item;
 }
 
-/* The work buffer is one; its parts lie one behind the other, the entries first. */
-static bounds_build_answer build(uint32_t threshold, uint8_t *nodes, uint8_t *trees, uint16_t *order, uint32_t *work,
-                                 size_t rows_len) {
-    enum { N = ENTRIES };
-    uint32_t *places = work + 7 * N, *temp = places + N, *stack = temp + N, *rows = stack + N;
-    return bounds_build_bvh(N, threshold, work, 7 * N, nodes, 16 * ROWS, trees, 16 * ROWS, order, N, places, N, temp, N,
-                            stack, N, rows, rows_len);
+static bounds_build_answer build(const bounds_item *items, uint32_t threshold, uint8_t *nodes, uint8_t *trees,
+                                 uint16_t *order, uint32_t *work, size_t work_len) {
+    return bounds_build_bvh_in(items, ENTRIES, threshold, nodes, 16 * ROWS, trees, 16 * ROWS, order, ENTRIES, work,
+                               work_len);
 }
 
 int main(void) {
-    const float left[6] = {-1, -1, -1, -0.5f, 1, 1}, right[6] = {0.5f, -1, -1, 1, 1, 1};
+    const bounds_item items[ENTRIES] = {
+        item((float[]){-1, -1, -1}, (float[]){-0.5f, 1, 1}),
+        item((float[]){0.5f, -1, -1}, (float[]){1, 1, 1}),
+    };
     uint8_t nodes[16 * ROWS] = {0}, trees[16 * ROWS] = {0}, header[128] = {0};
     uint16_t order[ENTRIES] = {0};
     number("work_len(2)", (int64_t)bounds_work_len(ENTRIES), 26 * ENTRIES + 8);
-    uint32_t *work = calloc(bounds_work_len(ENTRIES), sizeof *work);
+    size_t words = bounds_work_len(ENTRIES);
+    uint32_t *work = calloc(words, sizeof *work);
     if (!work) return 2;
-    put_entry(work, left);
-    put_entry(work + 7, right);
 
-    number("threshold 0: refused", build(0, nodes, trees, order, work, 8 * ROWS).refusal, 3);
-    number("work buffer short: refused", build(1, nodes, trees, order, work, 8 * ROWS - 1).refusal, 2);
+    number("size of an item", sizeof(bounds_item), 28);
+    number("threshold 0: refused", build(items, 0, nodes, trees, order, work, words).refusal, 3);
+    for (size_t len = 0; len < words; len++)
+        wrong |= build(items, 1, nodes, trees, order, work, len).refusal != 2;
+    number("work buffer short: refused", wrong, 0);
     number("no byte of it written", nodes[12], 0);
 
-    bounds_build_answer built = build(1, nodes, trees, order, work, 8 * ROWS);
+    bounds_build_answer built = build(items, 1, nodes, trees, order, work, words);
     number("refusal", built.refusal, 0);
     number("nodes", (int64_t)built.nodes, 3);
     number("capacity", (int64_t)built.capacity, 5);

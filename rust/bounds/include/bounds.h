@@ -81,6 +81,12 @@ bounds_aabb bounds_transform_box(bounds_aabb b, bounds_mat4 m);
  * output buffer. 0 stands for no refusal.
  */
 
+/* An entry of the list: a mark, 0 for absent, and the words of a box. It is known by its place in the list. */
+typedef struct {
+    uint32_t present;
+    bounds_words3 min, max;
+} bounds_item;
+
 typedef struct { bounds_vec3 cen, inverse, quantum; } bounds_units;
 
 typedef struct {
@@ -102,24 +108,47 @@ typedef struct {
 /* Words of entries, places, temp, stack and rows together for so many entries: 26 each, and 8. */
 uint64_t bounds_work_len(uint32_t entries);
 
-/* Builds the tree of the present ones among n entries, a leaf of which holds at most `threshold`. Refusals 1 (over
- * 32,767 entries), 3 (outside 1 to 32,767), 2, 4 (over 32,767 nodes), looked for in this order. Read are:
- *   entries     for each a mark (0 for absent), then min and max in words; 7n are needed
+/* Builds the tree of the present ones among n items, a leaf of which holds at most `threshold`. Refusals 1 (over
+ * 32,767 items, absent ones included), 3 (outside 1 to 32,767), 2, 4 (over 32,767 nodes), looked for in this order.
  * Written are:
  *   node_bytes  16 bytes a node; 16 * (2n + 1) are needed
  *   tree_bytes  16 bytes a range of nodes; 16 * (2n + 1) are needed
  *   order       the places of the items; n are needed
  * and what lies behind stays as it was. What these hold does not matter, nor what they hold afterwards:
- *   places      n are needed
+ *   entries     7n are needed
+ *   places      n
  *   temp        n
  *   stack       n
  *   rows        8 * (2n + 1) */
-bounds_build_answer bounds_build_bvh(size_t entry_count, uint32_t threshold,
-                                     const uint32_t *entries, size_t entries_len,
+bounds_build_answer bounds_build_bvh(const bounds_item *items, size_t item_count, uint32_t threshold,
                                      uint8_t *node_bytes, size_t node_bytes_len,
                                      uint8_t *tree_bytes, size_t tree_bytes_len, uint16_t *order, size_t order_len,
-                                     uint32_t *places, size_t places_len, uint32_t *temp, size_t temp_len,
-                                     uint32_t *stack, size_t stack_len, uint32_t *rows, size_t rows_len);
+                                     uint32_t *entries, size_t entries_len, uint32_t *places, size_t places_len,
+                                     uint32_t *temp, size_t temp_len, uint32_t *stack, size_t stack_len,
+                                     uint32_t *rows, size_t rows_len);
+
+/* The length of a part of which `least` are needed, taken off what is left. */
+static inline size_t bounds_part(size_t least, size_t *left) {
+    size_t part = least < *left ? least : *left;
+    *left -= part;
+    return part;
+}
+
+/* bounds_build_bvh in one work buffer, of which bounds_work_len(n) words are needed: each part gets its length or what
+ * is left, and the last all that is left. */
+static inline bounds_build_answer bounds_build_bvh_in(const bounds_item *items, size_t item_count, uint32_t threshold,
+                                                      uint8_t *node_bytes, size_t node_bytes_len,
+                                                      uint8_t *tree_bytes, size_t tree_bytes_len,
+                                                      uint16_t *order, size_t order_len,
+                                                      uint32_t *work, size_t work_len) {
+    size_t n = item_count < 32767 ? item_count : 32767, left = work_len;
+    size_t entries = bounds_part(7 * n, &left), places = bounds_part(n, &left);
+    size_t temp = bounds_part(n, &left), stack = bounds_part(n, &left);
+    uint32_t *places_at = work + entries, *temp_at = places_at + places, *stack_at = temp_at + temp;
+    return bounds_build_bvh(items, item_count, threshold, node_bytes, node_bytes_len, tree_bytes, tree_bytes_len, order,
+                            order_len, work, entries, places_at, places, temp_at, temp, stack_at, stack,
+                            stack_at + stack, left);
+}
 
 /* Writes the 128 bytes of a tree's header. Refusals 1 (over 65,535 trees), 2 (under 128 bytes), in this order. */
 uint32_t bounds_tree_header(uint8_t *out, size_t out_len, bounds_bvh bvh);

@@ -4,9 +4,9 @@
 //! use bounds::bvh::{build_bvh, records_len, tree_header, work_len, BvhItem};
 //! use bounds::Vec3;
 //!
-//! let left = BvhItem { min: Vec3::new(-1.0, -1.0, -1.0), max: Vec3::new(-0.5, 1.0, 1.0) };
-//! let right = BvhItem { min: Vec3::new(0.5, -1.0, -1.0), max: Vec3::new(1.0, 1.0, 1.0) };
-//! let items = [Some(left), Some(right)];
+//! let left = BvhItem::new(Vec3::new(-1.0, -1.0, -1.0), Vec3::new(-0.5, 1.0, 1.0));
+//! let right = BvhItem::new(Vec3::new(0.5, -1.0, -1.0), Vec3::new(1.0, 1.0, 1.0));
+//! let items = [left, right];
 //! let (mut nodes, mut trees) = (vec![0; records_len(2)], vec![0; records_len(2)]);
 //! let (mut order, mut work) = (vec![0; 2], vec![0; work_len(2)]);
 //! let built = build_bvh(&items, 1, &mut nodes, &mut trees, &mut order, &mut work)?;
@@ -22,12 +22,35 @@
 use crate::ffi::{self, Words3};
 use crate::{Refusal, Vec3};
 
-/// An entry of the list: the box of an item, which is known by its place in the list. Any floats will do.
+/// An entry of the list: a mark and the box of an item, which is known by its place in the list. Any floats will do.
+///
+/// It is lent to the library as it lies in memory, as `bounds_item` of the C interface: seven words.
 #[derive(Clone, Copy, Debug, Default, PartialEq)]
 #[allow(missing_docs)]
+#[repr(C)]
 pub struct BvhItem {
+    /// Any number but 0 where the entry is present.
+    pub present: u32,
     pub min: Vec3,
     pub max: Vec3,
+}
+
+impl BvhItem {
+    /// An entry that is not there; what its box is does not matter.
+    pub const ABSENT: BvhItem =
+        BvhItem { present: 0, min: Vec3 { x: 0.0, y: 0.0, z: 0.0 }, max: Vec3 { x: 0.0, y: 0.0, z: 0.0 } };
+
+    /// A present entry with this box.
+    pub fn new(min: Vec3, max: Vec3) -> BvhItem {
+        BvhItem { present: 1, min, max }
+    }
+}
+
+/// The two corners of a box, if there is one.
+impl From<Option<[Vec3; 2]>> for BvhItem {
+    fn from(corners: Option<[Vec3; 2]>) -> BvhItem {
+        corners.map_or(BvhItem::ABSENT, |[min, max]| BvhItem::new(min, max))
+    }
 }
 
 /// The values of a tree that was built. The box is copied from the items, a NaN with its bits; the rest was computed.
@@ -132,28 +155,21 @@ pub fn work_len(entries: usize) -> usize {
 /// # use bounds::{bvh::*, Refusal};
 /// let (mut records, mut trees, mut work) = ([7; 16], [7; 16], [0; 8]);
 /// assert_eq!(build_bvh(&[], 0, &mut records, &mut trees, &mut [], &mut work), Err(Refusal::Threshold));
-/// assert_eq!(build_bvh(&[None], 1, &mut records, &mut trees, &mut [], &mut work), Err(Refusal::BufferTooShort));
+/// assert_eq!(build_bvh(&[BvhItem::ABSENT], 1, &mut records, &mut trees, &mut [], &mut work), Err(Refusal::BufferTooShort));
 /// assert_eq!(records, [7; 16]);
 /// let built = build_bvh(&[], 1, &mut records, &mut trees, &mut [], &mut work)?;
 /// assert_eq!((built.nodes_count, built.items_count), (1, 0));
 /// # Ok::<(), Refusal>(())
 /// ```
 pub fn build_bvh(
-    items: &[Option<BvhItem>],
+    items: &[BvhItem],
     threshold: u32,
     node_bytes: &mut [u8],
     tree_bytes: &mut [u8],
     order: &mut [u16],
     work: &mut [u32],
 ) -> Result<BuiltTree, Refusal> {
-    let [entries, work @ ..] = cut(work, items.len());
-    if items.len() <= ENTRIES {
-        // A part that is too short is refused before it is read.
-        for (words, item) in entries.chunks_exact_mut(7).zip(items) {
-            words.copy_from_slice(&item.map_or([0; 7], entry));
-        }
-    }
-    let answer = ffi::build_bvh(items.len(), threshold, entries, node_bytes, tree_bytes, order, work);
+    let answer = ffi::build_bvh(items, threshold, node_bytes, tree_bytes, order, cut(work, items.len()));
     match Refusal::from_number(answer.refusal) {
         Some(refusal) => Err(refusal),
         None => Ok(BuiltTree {
@@ -202,8 +218,8 @@ pub fn tree_header(out: &mut [u8], bvh: &Bvh) -> Result<(), Refusal> {
     }
 }
 
-/// The work buffer in five parts: the entries, and what the library works in: places, temp, stack, rows. Each gets its
-/// length or what is left, and the last all that is left: the library then finds a part too short where the whole is.
+/// The work buffer in five parts: entries, places, temp, stack, rows. Each gets its length or what is left, and the last
+/// all that is left: the library then finds a part too short where the whole is.
 fn cut(work: &mut [u32], entries: usize) -> [&mut [u32]; 5] {
     let n = entries.min(ENTRIES);
     let mut rest = work;
@@ -213,12 +229,6 @@ fn cut(work: &mut [u32], entries: usize) -> [&mut [u32]; 5] {
         (part, rest) = whole.split_at_mut(len.min(whole.len()));
         part
     })
-}
-
-/// The seven words of an entry that is present.
-fn entry(item: BvhItem) -> [u32; 7] {
-    let (min, max) = (bits(item.min), bits(item.max));
-    [1, min.x, min.y, min.z, max.x, max.y, max.z]
 }
 
 fn bits(v: Vec3) -> Words3 {

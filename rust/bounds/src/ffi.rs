@@ -6,6 +6,7 @@
 //! every argument that its C signature admits.
 #![allow(unsafe_code)]
 
+use crate::bvh::BvhItem;
 use crate::math::{Mat4, Vec3, Vec4};
 use crate::walk::Records;
 
@@ -129,16 +130,17 @@ unsafe extern "C" {
 
     // Memory is reached, and only through each pointer and the length behind it: called below, with slices.
     fn bounds_build_bvh(
-        entry_count: usize,
+        items: *const BvhItem,
+        items_len: usize,
         threshold: u32,
-        entries: *const u32,
-        entries_len: usize,
         node_bytes: *mut u8,
         node_bytes_len: usize,
         tree_bytes: *mut u8,
         tree_bytes_len: usize,
         order: *mut u16,
         order_len: usize,
+        entries: *mut u32,
+        entries_len: usize,
         places: *mut u32,
         places_len: usize,
         temp: *mut u32,
@@ -166,31 +168,31 @@ unsafe extern "C" {
     fn bounds_ordinary(entry_count: usize, entries: *const u32, entries_len: usize) -> Premises;
 }
 
-/// `bounds_build_bvh`; what it works in is lent in four parts: places, temp, stack and rows.
+/// `bounds_build_bvh`; what it works in is lent in five parts: entries, places, temp, stack and rows.
 pub fn build_bvh(
-    entry_count: usize,
+    items: &[BvhItem],
     threshold: u32,
-    entries: &[u32],
     node_bytes: &mut [u8],
     tree_bytes: &mut [u8],
     order: &mut [u16],
-    [places, temp, stack, rows]: [&mut [u32]; 4],
+    [entries, places, temp, stack, rows]: [&mut [u32]; 5],
 ) -> BuildAnswer {
     // SAFETY: each pointer comes from a slice and goes with that slice's length, and all its cells are initialised. The
-    // entries are only read; the others, being exclusive borrows, overlap neither them nor one another. Count and
-    // threshold may be any number: the library reads entries only where it found the slices long enough for them.
+    // items are only read: seven words each, as `bounds_item` has them, and any words will do. The others, being
+    // exclusive borrows, overlap neither them nor one another. The threshold may be any number.
     unsafe {
         bounds_build_bvh(
-            entry_count,
+            items.as_ptr(),
+            items.len(),
             threshold,
-            entries.as_ptr(),
-            entries.len(),
             node_bytes.as_mut_ptr(),
             node_bytes.len(),
             tree_bytes.as_mut_ptr(),
             tree_bytes.len(),
             order.as_mut_ptr(),
             order.len(),
+            entries.as_mut_ptr(),
+            entries.len(),
             places.as_mut_ptr(),
             places.len(),
             temp.as_mut_ptr(),
@@ -247,6 +249,7 @@ const _: () = {
     assert!(size_of::<Aabb>() == 24 && align_of::<Aabb>() == 4);
     assert!(size_of::<Mat4>() == 64 && align_of::<Mat4>() == 4);
     assert!(size_of::<Words3>() == 12 && align_of::<Words3>() == 4);
+    assert!(size_of::<BvhItem>() == 28 && align_of::<BvhItem>() == 4);
     assert!(size_of::<Scale>() == 36 && align_of::<Scale>() == 4);
     assert!(size_of::<BuildAnswer>() == 104 && align_of::<BuildAnswer>() == 8);
     assert!(size_of::<WalkAnswer>() == 24 && align_of::<WalkAnswer>() == 8);
@@ -263,21 +266,20 @@ mod tests {
     const PARTS: [usize; 5] = [7 * ENTRIES, ENTRIES, ENTRIES, ENTRIES, 8 * (2 * ENTRIES + 1)];
 
     /// Boxes 2i to 2i + 1 on each axis; any mark but 0 says present.
-    fn entries() -> Vec<u32> {
-        let entry = |i: usize| {
-            let (low, high) = ((2.0 * i as f32).to_bits(), (2.0 * i as f32 + 1.0).to_bits());
-            [[1, 0x8000_0000, u32::MAX][i], low, low, low, high, high, high]
-        };
-        (0..ENTRIES).flat_map(entry).collect()
+    fn items() -> [BvhItem; ENTRIES] {
+        let corner = |x: f32| Vec3::new(x, x, x);
+        [(1, 0.0), (0x8000_0000, 2.0), (u32::MAX, 4.0)].map(|(present, low)| BvhItem {
+            present,
+            min: corner(low),
+            max: corner(low + 1.0),
+        })
     }
 
-    fn build([entries_len, work @ ..]: [usize; 5]) -> (BuildAnswer, Vec<u8>) {
-        let mut entries = entries();
-        entries.resize(entries_len, 0);
-        let mut work = work.map(|len| vec![0; len]);
+    fn build(parts: [usize; 5]) -> (BuildAnswer, Vec<u8>) {
+        let mut work = parts.map(|len| vec![0; len]);
         let work = work.each_mut().map(|part| &mut part[..]);
         let (mut nodes, mut trees, mut order) = (vec![7; 112], vec![7; 112], vec![7; ENTRIES]);
-        let built = build_bvh(ENTRIES, 1, &entries, &mut nodes, &mut trees, &mut order, work);
+        let built = build_bvh(&items(), 1, &mut nodes, &mut trees, &mut order, work);
         (built, nodes)
     }
 

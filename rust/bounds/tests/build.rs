@@ -18,7 +18,7 @@ impl Tree {
     }
 }
 
-fn build(items: &[Option<BvhItem>], threshold: u32) -> Result<Tree, Refusal> {
+fn build(items: &[BvhItem], threshold: u32) -> Result<Tree, Refusal> {
     let n = items.len();
     let (mut nodes, mut trees) = (vec![0xA5; records_len(n)], vec![0xA5; records_len(n)]);
     let (mut order, mut work) = (vec![0xA5A5; n], vec![0xA5A5_A5A5; work_len(n)]);
@@ -33,9 +33,9 @@ fn build(items: &[Option<BvhItem>], threshold: u32) -> Result<Tree, Refusal> {
 }
 
 /// Boxes of which no two are alike.
-fn row(n: usize) -> Vec<Option<BvhItem>> {
-    let at = |i: f32| BvhItem { min: Vec3::new(i, 0.0, 0.0), max: Vec3::new(i + 0.5, 1.0, 1.0) };
-    (0..n).map(|i| Some(at(i as f32))).collect()
+fn row(n: usize) -> Vec<BvhItem> {
+    let at = |i: f32| BvhItem::new(Vec3::new(i, 0.0, 0.0), Vec3::new(i + 0.5, 1.0, 1.0));
+    (0..n).map(|i| at(i as f32)).collect()
 }
 
 #[test]
@@ -68,9 +68,9 @@ fn boxes_16384_pass_and_16385_are_refused() {
 
 #[test]
 fn two_boxes_have_the_bytes_of_the_listing() {
-    let left = BvhItem { min: Vec3::new(-1.0, -1.0, -1.0), max: Vec3::new(-0.5, 1.0, 1.0) };
-    let right = BvhItem { min: Vec3::new(0.5, -1.0, -1.0), max: Vec3::new(1.0, 1.0, 1.0) };
-    let tree = build(&[Some(left), Some(right)], 1).expect("two boxes");
+    let left = BvhItem::new(Vec3::new(-1.0, -1.0, -1.0), Vec3::new(-0.5, 1.0, 1.0));
+    let right = BvhItem::new(Vec3::new(0.5, -1.0, -1.0), Vec3::new(1.0, 1.0, 1.0));
+    let tree = build(&[left, right], 1).expect("two boxes");
     let record = |r: [i16; 8]| r.map(i16::to_le_bytes).concat();
     let expected = [
         [-32767, -32767, -32767, 32767, 32767, 32767, 3, 0],
@@ -88,7 +88,8 @@ fn two_boxes_have_the_bytes_of_the_listing() {
 #[test]
 fn absent_entries_count_for_the_padding_and_keep_their_places() {
     let mut items = row(3);
-    items.insert(1, None);
+    items.insert(1, BvhItem { present: 0, ..items[0] });
+    items[0].present = u32::MAX;
     let tree = build(&items, 1).expect("three boxes");
     assert_eq!((tree.built.nodes_count, tree.built.nodes_capacity, tree.built.items_count), (5, 9, 3));
     assert_eq!(tree.order, [0, 2, 3, 0xA5A5]);
@@ -96,7 +97,7 @@ fn absent_entries_count_for_the_padding_and_keep_their_places() {
 
 #[test]
 fn a_list_without_a_present_entry_is_one_empty_leaf() {
-    for items in [vec![], vec![None; 5]] {
+    for items in [vec![], vec![BvhItem::ABSENT; 5]] {
         let tree = build(&items, 2).expect("no boxes");
         assert_eq!((tree.built.nodes_count, tree.built.trees_count, tree.built.items_count), (1, 1, 0));
         assert_eq!(
@@ -109,8 +110,8 @@ fn a_list_without_a_present_entry_is_one_empty_leaf() {
 #[test]
 fn a_copied_nan_keeps_its_bits() {
     let nan = f32::from_bits(0xFFA5_A5A5); // signalling
-    let item = BvhItem { min: Vec3::new(nan, 0.0, 0.0), max: Vec3::new(1.0, nan, 1.0) };
-    let tree = build(&[Some(item)], 1).expect("one box");
+    let item = BvhItem::new(Vec3::new(nan, 0.0, 0.0), Vec3::new(1.0, nan, 1.0));
+    let tree = build(&[item], 1).expect("one box");
     assert_eq!((tree.built.bb_min.x.to_bits(), tree.built.bb_max.y.to_bits()), (0xFFA5_A5A5, 0xFFA5_A5A5));
     assert!(tree.built.quantum.x.is_nan());
 }

@@ -116,7 +116,7 @@ fn differs(case: &Case, theirs: &Result<Built, u32>, seed: u64) -> Result<(), St
     let mut trees = Lent::<u8>::new(trees, seed ^ 1);
     let mut order = Lent::<u16>::new(order, seed ^ 2);
     let mut work = Lent::<u32>::new(work, seed ^ 3);
-    let items: Vec<Option<BvhItem>> = case.items.iter().map(|item| item.map(ours)).collect();
+    let items: Vec<BvhItem> = case.items.iter().copied().map(ours).collect();
     let (n, t, o, w) = (nodes.buffer(), trees.buffer(), order.buffer(), work.buffer());
     let answer = build_bvh(&items, case.threshold, n, t, o, w);
     work.check_guards().map_err(|e| format!("work buffer: {e}"))?;
@@ -134,8 +134,8 @@ fn differs(case: &Case, theirs: &Result<Built, u32>, seed: u64) -> Result<(), St
     order.check(&places).map_err(|e| format!("order list: {e}"))
 }
 
-pub(crate) fn ours(b: Aabb) -> BvhItem {
-    BvhItem { min: vec3(b.min), max: vec3(b.max) }
+pub(crate) fn ours(item: Option<Aabb>) -> BvhItem {
+    BvhItem::from(item.map(|b| [vec3(b.min), vec3(b.max)]))
 }
 
 fn vec3(p: [f32; 3]) -> Vec3 {

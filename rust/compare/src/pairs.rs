@@ -183,7 +183,7 @@ pub fn library(case: &Case, seed: u64) -> Result<Tree<'_>, u32> {
     let behind = seed as u8 | 1;
     let (mut nodes, mut trees) = (vec![behind; records_len(n)], vec![behind; records_len(n)]);
     let (mut order, mut work) = (vec![0; n], vec![seed as u32; work_len(n)]);
-    let items: Vec<Option<BvhItem>> = case.items.iter().map(|item| item.map(ours)).collect();
+    let items: Vec<BvhItem> = case.items.iter().copied().map(ours).collect();
     let built = build_bvh(&items, case.threshold, &mut nodes, &mut trees, &mut order, &mut work)
         .map_err(|refused| refused.number())?;
     order.truncate(built.items_count as usize);

@@ -4,19 +4,15 @@ use Rattle.bvh.proofs.entry.put_item.Statement.{statement}
 use Rattle.bvh.proofs.entry.put_item.Tie as tie
 use Prim.Native.Nat.{_+_, _*_}
 use lib.ListN.{set, length-set}
-use mir.Val.{boolByte}
 use mathlib.Core.Path.{refl, _∙_}
 use Rattle.base.proofs.StoreLaws.{stores-leave}
 use Rattle.split.specs.Boxes.{boxWords}
 use Rattle.bvh.specs.Items.{itemBox}
-use Rattle.bvh.proofs.ItemWords.{mark-is, mark-then-box}
+use Rattle.bvh.proofs.ItemWords.{mark-then-box}
 use native.Mathlib.Omega.{arith}
 
 mul-at : tie.Need-mul-at
 mul-at c = search needs
-
-cast-entries : tie.Need-cast-entries
-cast-entries c = search needs
 
 mul-entries : tie.Need-mul-entries
 mul-entries c = search needs
@@ -35,18 +31,17 @@ same-length c = c .before .before .put-box .kept .0 ∙ simp length-set
 
 returns : tie.Need-returns
 returns c =
-    let a = c .before .before .before .before .before .before .before .before .args in
+    let a = c .before .before .before .before .before .before .before .args in
     c .before .before .put-box .ensures
-    ∙ stores-leave (set (a .entries .now) (7 * a .i) (boolByte (a .item .present))) (boxWords (itemBox (a .item))) (7 * a .i + 1) 6 refl
+    ∙ stores-leave (set (a .entries .now) (7 * a .i) (a .item .present)) (boxWords (itemBox (a .item))) (7 * a .i + 1) 6 refl
     (simp length-set (omega arith))
-    ∙ rw (← mark-is (a .item .present)) (mark-then-box (a .entries .now) (boxWords (itemBox (a .item))) (7 * a .i) _ (omega arith))
+    ∙ mark-then-box (a .entries .now) (boxWords (itemBox (a .item))) (7 * a .i) _ (omega arith)
 
 pub put-item-spec : {M : Type 1} → statement M
 put-item-spec =
     tie.close
     (tie.spec
     mul-at
-    cast-entries
     mul-entries
     slice-write-entries
     add-put-box
