@@ -1,7 +1,7 @@
 //! The premises of the walk's promise: the library's answer against a plain check, on every special float at every place
 //! of a box and on random lists.
 
-use bounds::premises::{Axis, Broken, Corner, ordinary};
+use bounds::premises::{ordinary, Axis, Broken, Corner};
 use bounds::{BvhItem, Vec3};
 
 const AXES: [Axis; 3] = [Axis::X, Axis::Y, Axis::Z];
