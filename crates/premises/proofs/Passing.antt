@@ -49,7 +49,8 @@ module _ (ws : List ℕ) where
   abbrev fault : ℕ → ℕ
   fault p = cond (mark p) (boxFault (boxAt ws p)) 0
 
-  fault-next : (n p : ℕ) → p < n → firstFault (boxAt ws) (rest n p) ≡ cond (eqb (fault p) 0) (firstFault (boxAt ws) (rest n (p + 1))) (faulty (fault p) p)
+  fault-next : (n p : ℕ) → p < n
+      → firstFault (boxAt ws) (rest n p) ≡ cond (eqb (fault p) 0) (firstFault (boxAt ws) (rest n (p + 1))) (faulty (fault p) p)
   fault-next n p h = ap (firstFault (boxAt ws)) (marked-next ws p n h) ∙ go (mark p)
     where
       go : (b : Bool) → firstFault (boxAt ws) (cond b (p ∷ rest n (p + 1)) (rest n (p + 1)))

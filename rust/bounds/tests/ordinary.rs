@@ -85,7 +85,8 @@ fn every_special_float_at_every_place_of_a_box() {
             for axis in 0..3 {
                 let mut c = [0.0; 6];
                 (c[axis], c[axis + 3]) = (a, b);
-                for items in [&[item(c)][..], &[None, good, item(c)], &[item(c), good], &[good, item(c), item([a; 6])]] {
+                for items in [&[item(c)][..], &[None, good, item(c)], &[item(c), good], &[good, item(c), item([a; 6])]]
+                {
                     found[same(items).is_ok() as usize] += 1;
                 }
             }

@@ -28,8 +28,9 @@ failing-requires c κs = search needs
 returns : tie.Need-returns
 unfolding extentFault
 returns c =
-    let l = c .before .before .before .before .before .values .ensures in
-    let h = c .before .before .before .before .values2 .ensures in
+    let high = c .before .before .before .before in
+    let l = high .before .values .ensures in
+    let h = high .values2 .ensures in
     let x = c .before .before .before .sound-between .ensures ∙ ap₂ (λ (l h : Vec3). sound (extent (l .x) (h .x))) l h in
     let y = c .before .before .sound-between2 .ensures ∙ ap₂ (λ (l h : Vec3). sound (extent (l .y) (h .y))) l h in
     let z = c .before .sound-between3 .ensures ∙ ap₂ (λ (l h : Vec3). sound (extent (l .z) (h .z))) l h in

@@ -19,8 +19,10 @@ failing-requires c κs = search needs
 returns : tie.Need-returns
 unfolding orderFault
 returns c =
+    let high = c .before .before .before .before .before .before .before in
     c .failing .ensures
-    ∙ ap₂ (λ (l h : Vec3). failing 7 (le (l .x) (h .x)) (le (l .y) (h .y)) (le (l .z) (h .z)) 0) (c .before .before .before .before .before .before .before .before .values .ensures) (c .before .before .before .before .before .before .before .values2 .ensures)
+    ∙ ap₂ (λ (l h : Vec3). failing 7 (le (l .x) (h .x)) (le (l .y) (h .y)) (le (l .z) (h .z)) 0) (high .before .values .ensures)
+    (high .values2 .ensures)
 
 pub order-fault-spec : {M : Type 1} → statement M
 order-fault-spec = tie.close (tie.spec values-requires values-requires-2 failing-requires returns)

@@ -17,7 +17,9 @@ extent-fault-requires : tie.Need-extent-fault-requires
 extent-fault-requires c κs = search needs
 
 returns-2 : tie.Need-returns-2
-returns-2 c = found-last _ _ _ _ _ (c .before .before .before .before .first-fault .ensures) (c .before .before .if1 .left) (c .before .fold-present .ensures) (c .extent-fault .ensures)
+returns-2 c =
+    let clean = c .before .before in
+    found-last _ _ _ _ _ (clean .before .before .first-fault .ensures) (clean .if1 .left) (c .before .fold-present .ensures) (c .extent-fault .ensures)
 
 pub judge-spec : {M : Type 1} → statement M
 judge-spec =

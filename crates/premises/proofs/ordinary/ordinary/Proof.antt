@@ -21,7 +21,9 @@ slice-aggregate-judge : tie.Need-slice-aggregate-judge
 slice-aggregate-judge c = sym (length-take-le _ _ (c .before .if2 .left))
 
 judge-requires : tie.Need-judge-requires
-judge-requires c κs = (omega (arith, length-take-le (7 * c .before .before .before .before .args .n) (c .before .before .before .before .args .entries .now) (c .before .if2 .left)), c .before .before .if1 .left)
+judge-requires c κs =
+    let a = c .before .before .before .before .args in
+    (omega (arith, length-take-le (7 * a .n) (a .entries .now) (c .before .if2 .left)), c .before .before .if1 .left)
 
 returns-3 : tie.Need-returns-3
 returns-3 c = read _ _ _ _ (c .before .before .before .if1 .left) (c .before .before .if2 .left) (c .judge .ensures)
