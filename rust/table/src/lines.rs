@@ -1,6 +1,6 @@
 //! What `replay` reads beside the reference's answers: the hard cases with their right answers, then lines that are
 //! wrong, so many for each operation as its number says, and lines that are no case.
-use crate::cases::{BOXES, COUNTS, INTEGERS, MATRICES, POINTS, WORDS};
+use crate::cases::{BOXES, COUNTS, FACTORS, INTEGERS, MATRICES, POINTS, WORDS};
 use crate::operation::{all, is_open, Operation};
 use std::io::{self, Write};
 
@@ -18,6 +18,7 @@ fn hard(op: &Operation) -> Vec<Vec<u32>> {
         (_, 1) => words,
         (_, 2) => crossed(&words, &words),
         (_, 3) => points.collect(),
+        (_, 4) => crossed(&points.collect::<Vec<_>>(), &FACTORS.map(|k| vec![k])),
         (_, 6) => crossed(&points.clone().collect::<Vec<_>>(), &points.collect::<Vec<_>>()),
         (_, 19) => crossed(&MATRICES.map(|m| m.to_vec()), &points.collect::<Vec<_>>()),
         _ => MATRICES.iter().flat_map(|m| BOXES.iter().map(|b| [&b[..], &m[..]].concat())).collect(),
@@ -37,7 +38,7 @@ const BAD: [&str; 16] = [
     "1",
     "01",
     "00 00000000 00000000",
-    "16 00000000 00000000",
+    "24 00000000 00000000",
     "0g 00000000 00000000",
     "01 00000000",
     "01 00000000 0000000",

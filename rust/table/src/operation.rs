@@ -32,7 +32,20 @@ pub struct Operation {
 
 fn op(number: usize, inputs: usize, answer: fn(&[u32]) -> Vec<u32>) -> Operation { Operation { number, inputs, answer } }
 
-/// All of them, by number.
+/// 0 for a NaN, else 2^31 and the magnitude's bits above or below it.
+fn order_key(word: u32) -> u32 {
+    let x = value(word);
+    if x.is_nan() {
+        0
+    } else if x.is_sign_negative() {
+        (1 << 31) - x.abs().to_bits()
+    } else {
+        (1 << 31) + x.to_bits()
+    }
+}
+
+/// All of them, by number. Those from 16 hexadecimal on have no vectors: `order_key`, `abs`, `vmin`, `vmax`; of points
+/// `add`, `sub`, `vmul`, `vdiv`, `vmin`, `vmax`, `neg`, `abs`; of a point and a word `scale`, `vadd_f`.
 pub fn all() -> Vec<Operation> {
     vec![
         op(0x01, 1, |w| vec![made(value(w[0]))]),
@@ -60,6 +73,20 @@ pub fn all() -> Vec<Operation> {
             let (min, max) = source::transform_box(point(w), point(&w[3..]), matrix(&w[6..]));
             [made3(min), made3(max)].concat()
         }),
+        op(0x16, 1, |w| vec![order_key(w[0])]),
+        op(0x17, 1, |w| vec![made(value(w[0]).abs())]),
+        op(0x18, 2, |w| vec![made(source::vmin(value(w[0]), value(w[1])))]),
+        op(0x19, 2, |w| vec![made(source::vmax(value(w[0]), value(w[1])))]),
+        op(0x1a, 6, |w| made3(point(w).add(point(&w[3..])))),
+        op(0x1b, 6, |w| made3(point(w).sub(point(&w[3..])))),
+        op(0x1c, 6, |w| made3(source::vmul(point(w), point(&w[3..])))),
+        op(0x1d, 6, |w| made3(source::vdiv(point(w), point(&w[3..])))),
+        op(0x1e, 6, |w| made3(point(w).both(point(&w[3..]), source::vmin))),
+        op(0x1f, 6, |w| made3(point(w).both(point(&w[3..]), source::vmax))),
+        op(0x20, 3, |w| made3(point(w).neg())),
+        op(0x21, 3, |w| made3(point(w).abs())),
+        op(0x22, 4, |w| made3(point(w).scale(value(w[3])))),
+        op(0x23, 4, |w| made3(source::vadd_f(point(w), value(w[3])))),
     ]
 }
 
