@@ -3,3 +3,4 @@ mod LineLaws
 pub mod Numbering
 mod SignedWords
 mod Spelling
+mod TallyLaws

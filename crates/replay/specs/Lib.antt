@@ -3,4 +3,4 @@ pub mod Lines
 pub mod Numbers
 pub mod Operations
 pub mod Outcomes
-pub mod Tables
+pub mod Tallies

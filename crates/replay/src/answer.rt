@@ -61,7 +61,7 @@ fn of_pair(step: PairStep, a: u32, b: u32) -> u32
 }
 
 // The point of three words.
-pub fn point(words: &[u32], at: usize) -> Vec3
+fn point(words: &[u32], at: usize) -> Vec3
     requires { ⌜ at + 3 ≤ length (now words) ⌝ }
     ensures { λ r. ⌜ r ≡ pointAt (now (words .entry)) at ⌝ }
 {
@@ -85,7 +85,7 @@ fn row(words: &[u32], at: usize) -> Vec4
 }
 
 // The matrix of sixteen words, row after row.
-pub fn matrix(words: &[u32], at: usize) -> Mat4
+fn matrix(words: &[u32], at: usize) -> Mat4
     requires { ⌜ at + 16 ≤ length (now words) ⌝ }
     ensures { λ r. ⌜ r ≡ matrixAt (now (words .entry)) at ⌝ }
 {

@@ -1,20 +1,28 @@
 // Counts of cases and of mismatches, by the operation's number. Place 0 counts the lines that are no case.
 use crate::outcome::Outcome;
+ghost use mathlib.Core.Path.{_≡_};
 ghost use Prim.Native.Nat.{_≤_, _<_};
-ghost use lib.ListN.{length};
+ghost use lib.ListN.{length, take};
+ghost use Rattle.replay.specs.Tallies.{oneMore, bumped, placeOf, casesAfter, missesAfter, stateOf, After, Fed, finished, totalFrom};
 
-// One more at a place, where that is a u64.
-fn bump(counts: &mut [u64], place: usize) {
-    if place < counts.len() {
-        let n = counts[place];
-        if n < u64::MAX {
-            counts[place] = n + 1;
-        }
-    }
+// One more, where that is a u64.
+fn one_more(n: u64) -> u64
+    ensures { λ r. ⌜ r ≡ oneMore n ⌝ }
+{
+    if n < u64::MAX { n + 1 } else { n }
+}
+
+fn bump(counts: &mut [u64], place: usize)
+    requires { ⌜ place < length (now counts) ⌝ }
+    ensures { λ _. ⌜ now (counts .exit) ≡ bumped (now (counts .entry)) place ⌝ }
+{
+    counts[place] = one_more(counts[place]);
 }
 
 fn count(o: Outcome, cases: &mut [u64], misses: &mut [u64])
-    requires { ⌜ (22 ≤ length (now cases)) × (22 ≤ length (now misses)) ⌝ }
+    requires { ⌜ (placeOf o < length (now cases)) × (placeOf o < length (now misses)) ⌝ }
+    ensures { λ _. ⌜ now (cases .exit) ≡ casesAfter o (now (cases .entry)) ⌝ }
+    ensures { λ _. ⌜ now (misses .exit) ≡ missesAfter o (now (misses .entry)) ⌝ }
 {
     match o {
         Outcome::Match(n) => bump(cases, n as usize),
@@ -28,8 +36,11 @@ fn count(o: Outcome, cases: &mut [u64], misses: &mut [u64])
 
 // Takes one byte. The line so far is the first `at` bytes of `line`, and the answer is how many there are then.
 fn step(line: &mut [u8], at: usize, byte: u8, cases: &mut [u64], misses: &mut [u64]) -> usize
-    requires { ⌜ (256 ≤ length (now line)) × (at ≤ 256) × (22 ≤ length (now cases)) × (22 ≤ length (now misses)) ⌝ }
+    requires { ⌜ (length (now line) ≡ 256) × (at ≤ 256) × (22 ≤ length (now cases)) × (22 ≤ length (now misses)) ⌝ }
     ensures { λ r. ⌜ r ≤ 256 ⌝ }
+    ensures { λ r. ⌜
+        After (stateOf (take at (now (line .entry))) (now (cases .entry)) (now (misses .entry))) byte
+        (stateOf (take r (now (line .exit))) (now (cases .exit)) (now (misses .exit))) ⌝ }
 {
     if byte == b'\n' {
         count(crate::outcome::of(&line[..at]), cases, misses);
@@ -42,10 +53,13 @@ fn step(line: &mut [u8], at: usize, byte: u8, cases: &mut [u64], misses: &mut [u
     at
 }
 
-// Takes a text.
+// Takes a text, byte after byte.
 pub fn feed(text: &[u8], line: &mut [u8], at: usize, cases: &mut [u64], misses: &mut [u64]) -> usize
-    requires { ⌜ (256 ≤ length (now line)) × (at ≤ 256) × (22 ≤ length (now cases)) × (22 ≤ length (now misses)) ⌝ }
+    requires { ⌜ (length (now line) ≡ 256) × (at ≤ 256) × (22 ≤ length (now cases)) × (22 ≤ length (now misses)) ⌝ }
     ensures { λ r. ⌜ r ≤ 256 ⌝ }
+    ensures { λ r. ⌜
+        Fed (now (text .entry)) (stateOf (take at (now (line .entry))) (now (cases .entry)) (now (misses .entry)))
+        (stateOf (take r (now (line .exit))) (now (cases .exit)) (now (misses .exit))) ⌝ }
 {
     let mut length = at;
     let mut i = 0;
@@ -59,14 +73,17 @@ pub fn feed(text: &[u8], line: &mut [u8], at: usize, cases: &mut [u64], misses: 
 // A line that the input leaves without its end is no case.
 pub fn finish(at: usize, cases: &mut [u64])
     requires { ⌜ 22 ≤ length (now cases) ⌝ }
+    ensures { λ _. ⌜ now (cases .exit) ≡ finished at (now (cases .entry)) ⌝ }
 {
     if at > 0 {
         bump(cases, 0);
     }
 }
 
-// The sum of all places.
-pub fn total(counts: &[u64]) -> u64 {
+// The sum of all places, as a u64.
+pub fn total(counts: &[u64]) -> u64
+    ensures { λ r. ⌜ r ≡ totalFrom 0 (now (counts .entry)) ⌝ }
+{
     let mut sum: u64 = 0;
     let mut i = 0;
     while i < counts.len() {

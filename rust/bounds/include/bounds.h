@@ -165,7 +165,13 @@ typedef struct {
     size_t reads, handed;  /* records read; positions at the start of the output */
 } bounds_walk_answer;
 
-/* Hands out the positions of the items in leaves whose boxes meet the query. Any bytes will do. */
+/* Hands out the positions of the items in leaves whose boxes meet the query. Any bytes will do.
+ *
+ * Over a build: give its node and tree bytes as they are, its scale.cen and scale.inverse, its nodes and trees (not
+ * capacity, which counts the padding), and as item_count the number of entries at threshold 1, else present. A
+ * position stands for an item: at threshold 1 for the one at that place of the list, above 1 for the one at the place
+ * order[position]. Its leaf's record meets the query, its box perhaps not: compare them as floats. examples/query.c
+ * does all of this. */
 bounds_walk_answer bounds_walk(bounds_aabb query, bounds_vec3 cen, bounds_vec3 inverse,
                                const uint8_t *node_bytes, size_t node_bytes_len, size_t node_count,
                                const uint8_t *tree_bytes, size_t tree_bytes_len, size_t tree_count, size_t item_count,

@@ -170,20 +170,18 @@ pub fn build_bvh(
     work: &mut [u32],
 ) -> Result<BuiltTree, Refusal> {
     let answer = ffi::build_bvh(items, threshold, node_bytes, tree_bytes, order, cut(work, items.len()));
-    match Refusal::from_number(answer.refusal) {
-        Some(refusal) => Err(refusal),
-        None => Ok(BuiltTree {
-            nodes_count: answer.nodes as u32,
-            nodes_capacity: answer.capacity as u32,
-            trees_count: answer.trees as u32,
-            items_count: answer.present as u32,
-            bb_min: floats(answer.min),
-            bb_max: floats(answer.max),
-            bb_center: answer.scale.cen,
-            quantum_inverse: answer.scale.inverse,
-            quantum: answer.scale.quantum,
-        }),
-    }
+    Refusal::check(answer.refusal)?;
+    Ok(BuiltTree {
+        nodes_count: answer.nodes as u32,
+        nodes_capacity: answer.capacity as u32,
+        trees_count: answer.trees as u32,
+        items_count: answer.present as u32,
+        bb_min: floats(answer.min),
+        bb_max: floats(answer.max),
+        bb_center: answer.scale.cen,
+        quantum_inverse: answer.scale.inverse,
+        quantum: answer.scale.quantum,
+    })
 }
 
 /// Writes the [`HEADER`] bytes of a tree's header; what lies behind stays as it was.
@@ -212,10 +210,7 @@ pub fn tree_header(out: &mut [u8], bvh: &Bvh) -> Result<(), Refusal> {
         trees_address: bvh.trees_address,
         trees_count: bvh.trees_count,
     };
-    match Refusal::from_number(ffi::tree_header(out, header)) {
-        Some(refusal) => Err(refusal),
-        None => Ok(()),
-    }
+    Refusal::check(ffi::tree_header(out, header))
 }
 
 /// The work buffer in five parts: entries, places, temp, stack, rows. Each gets its length or what is left, and the last

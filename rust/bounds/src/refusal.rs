@@ -32,10 +32,12 @@ pub enum Refusal {
     Address = 12,
     /// The input ends inside a record.
     RaggedInput = 13,
+    /// The library answered with a number that is no refusal: it and this crate do not belong together.
+    Unknown = 255,
 }
 
 impl Refusal {
-    /// Every refusal, by its number.
+    /// Every refusal that an operation may answer with, by its number.
     pub const ALL: [Refusal; 13] = [
         Refusal::ListTooLong,
         Refusal::BufferTooShort,
@@ -75,6 +77,22 @@ impl Refusal {
         Refusal::ALL.into_iter().find(|r| r.number() == number)
     }
 
+    /// What an answer's number stands for: nothing refused, a refusal, or [`Refusal::Unknown`], but never success by
+    /// mistake.
+    ///
+    /// ```
+    /// # use bounds::Refusal;
+    /// assert_eq!(Refusal::check(0), Ok(()));
+    /// assert_eq!(Refusal::check(4), Err(Refusal::TooManyNodes));
+    /// assert_eq!(Refusal::check(14), Err(Refusal::Unknown));
+    /// ```
+    pub fn check(number: u32) -> Result<(), Refusal> {
+        match number {
+            0 => Ok(()),
+            _ => Err(Refusal::from_number(number).unwrap_or(Refusal::Unknown)),
+        }
+    }
+
     /// What was refused, and what to change.
     fn words(self) -> &'static str {
         match self {
@@ -91,6 +109,7 @@ impl Refusal {
             Refusal::TooManyHandedOut => "more items would be handed out than there are; the records are damaged",
             Refusal::Address => "the bytes would pass the last address; place them lower",
             Refusal::RaggedInput => "the input ends inside a record; its length must be a multiple of 32",
+            Refusal::Unknown => "the library's refusal is not known here; build both from one version",
         }
     }
 }
@@ -108,3 +127,24 @@ impl fmt::Display for Refusal {
 }
 
 impl std::error::Error for Refusal {}
+
+#[cfg(test)]
+mod tests {
+    use super::Refusal;
+
+    /// 0 alone is success, and each number has one refusal.
+    #[test]
+    fn every_other_number_is_an_error() {
+        for number in (0..=1000).chain([u32::MAX]) {
+            let expected = match number {
+                0 => Ok(()),
+                1..=13 => Err(Refusal::ALL[number as usize - 1]),
+                _ => Err(Refusal::Unknown),
+            };
+            assert_eq!(Refusal::check(number), expected, "{number}");
+        }
+        for (refusal, number) in Refusal::ALL.into_iter().zip(1..) {
+            assert_eq!(refusal.number(), number);
+        }
+    }
+}

@@ -85,8 +85,8 @@ pub fn walk(
 ) -> Result<Counts, Refused> {
     let answer = ffi::walk(ffi::Aabb { min, max }, bb_center, quantum_inverse, records, out);
     let counts = Counts { reads: answer.reads, handed: answer.handed };
-    match Refusal::from_number(answer.refusal) {
-        Some(refusal) => Err(Refused { refusal, counts }),
-        None => Ok(counts),
+    match Refusal::check(answer.refusal) {
+        Ok(()) => Ok(counts),
+        Err(refusal) => Err(Refused { refusal, counts }),
     }
 }

@@ -28,6 +28,8 @@
 //! | 13 | `transform_point` | 16 of the matrix by rows, x y z | 4 |
 //! | 14 | `transform_vector` | 16 of the matrix by rows, x y z | 3 |
 //! | 15 | `transform_box` | min x y z, max x y z, 16 of the matrix by rows | 6: min x y z, max x y z |
+//!
+//! `replay` knows more operations, from 16 hexadecimal on: rust/table has them, and writes their lines.
 
 use crate::check::hard_cases;
 use crate::inputs::Inputs;

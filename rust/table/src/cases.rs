@@ -1,4 +1,4 @@
-//! The hard cases, by their bits. `crates/replay` has the same in its src/data.rt.
+//! The hard cases, by their bits.
 
 /// Floats at which some step is easily got wrong.
 pub const WORDS: [u32; 40] = [

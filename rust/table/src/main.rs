@@ -1,17 +1,19 @@
 //! What the proved programs must print: worked out with Rust's own operators and casts, `boxes` and `pairs` by the
 //! reference.
 //!
-//!     table < CASES            the table of hard cases, and the recorded cases counted  (crates/replay/stdin, stdout)
+//!     table --lines            hard cases, wrong lines and lines that are no case       (crates/replay/stdin, its end)
+//!     table < LINES            such lines judged and counted                            (crates/replay/stdout)
 //!     table --boxes FOLDER     inputs of `boxes`, as files there                        (crates/boxes_cases/data, stdout)
 //!     table --pairs            lists built and walked                                   (crates/pairs/stdout)
 //!
-//! The recorded cases are those of `compare --write-vectors`.
+//! crates/replay/stdin is what `compare --write-vectors` writes, then the lines of `table --lines`.
 mod boxes;
 mod cases;
 mod count;
+mod lines;
+mod operation;
 mod pairs;
 mod source;
-mod table;
 
 use std::io::{self, Write};
 
@@ -23,10 +25,8 @@ fn fail(why: &str) -> ! {
 fn main() -> io::Result<()> {
     let mut out = io::BufWriter::new(io::stdout().lock());
     match std::env::args().nth(1).as_deref() {
-        None => {
-            table::print(&mut out)?;
-            count::print(io::stdin().lock(), &mut out)?;
-        }
+        None => count::print(io::stdin().lock(), &mut out)?,
+        Some("--lines") => lines::print(&mut out)?,
         Some("--boxes") => match (std::env::args().nth(2), oracle::missing()) {
             (Some(folder), None) => boxes::print(&mut out, folder.as_ref())?,
             (None, _) => fail("--boxes needs a folder for the inputs"),
@@ -36,7 +36,7 @@ fn main() -> io::Result<()> {
             None => pairs::print(&mut out)?,
             Some(missing) => fail(missing),
         },
-        Some(other) => fail(&format!("unknown word {other}; give none, --boxes or --pairs")),
+        Some(other) => fail(&format!("unknown word {other}; give none, --lines, --boxes or --pairs")),
     }
     out.flush()
 }

@@ -1,21 +1,26 @@
--- `tally::feed` is safe and ends: i counts the bytes, and the line so far has at most 256.
+-- `tally::feed` meets its contract: i counts the bytes, and what is left of the text does, from where it was taken to, what all of it does.
 use borrow.Author.Needs.{needs}
 use Prim.Native.Nat.{_-_, _≤_}
-use mathlib.Core.Path.{_≡_}
-use lib.ListN.{length as Len}
+use mathlib.Core.Path.{_≡_, refl}
+use native.Mathlib.Omega.{arith}
+use lib.ListN.{length as Len, take}
+use Rattle.replay.specs.Tallies.{stateOf}
+use Rattle.replay.proofs.TallyLaws.{Taking, start, taken, ended}
 use Rattle.replay.proofs.tally.feed.Statement.{statement}
 use Rattle.replay.proofs.tally.feed.Tie as tie
 
 abbrev Inv-loop : tie.InvT-loop
 Inv-loop text line₀ at cases₀ misses₀ length₀ i₀ line cases misses length i =
-    (i ≤ Len text) × (length ≤ 256) × (256 ≤ Len line) × (22 ≤ Len cases) × (22 ≤ Len misses)
+    (i ≤ Len text) × (length ≤ 256) × (Len line ≡ 256) × (22 ≤ Len cases) × (22 ≤ Len misses)
     × (Len line ≡ Len line₀) × (Len cases ≡ Len cases₀) × (Len misses ≡ Len misses₀)
+    × Taking text i (stateOf (take at line₀) cases₀ misses₀) (stateOf (take length line) cases misses)
 
 abbrev μ-loop : tie.MeasureT-loop
 μ-loop text line₀ at cases₀ misses₀ length₀ i₀ line cases misses length i = Len text - i
 
 loop-holds : tie.Need-loop-holds Inv-loop μ-loop
-loop-holds c = search needs
+loop-holds c =
+    (omega arith, omega arith, omega arith, omega arith, omega arith, refl, refl, refl, start _ _)
 
 shared-slice-read-step : tie.Need-shared-slice-read-step Inv-loop μ-loop
 shared-slice-read-step c = search needs
@@ -30,7 +35,22 @@ loop-less : tie.Need-loop-less Inv-loop μ-loop
 loop-less c = search needs
 
 loop-again : tie.Need-loop-again Inv-loop μ-loop
-loop-again c = search needs
+loop-again c =
+    let stepped = c .before .before .before .before .before .before in
+    let turn = stepped .before .before .before .before .before in
+    let l = turn .before .loop in
+    let k = l .inv in
+    let next = taken _ _ _ _ _ (turn .loop-test .taken) (k .8) (stepped .step .ensures .1) in (
+      omega arith,
+      stepped .step .ensures .0,
+      search needs,
+      search needs,
+      search needs,
+      search needs,
+      search needs,
+      search needs,
+      next,
+    )
 
 same-length : tie.Need-same-length Inv-loop μ-loop
 same-length c = search needs
@@ -42,7 +62,9 @@ same-length-3 : tie.Need-same-length-3 Inv-loop μ-loop
 same-length-3 c = search needs
 
 returns : tie.Need-returns Inv-loop μ-loop
-returns c = search needs
+returns c =
+    let k = c .before .loop .inv in
+    (k .1, ended _ _ _ _ (k .0) (c .loop-test .left) (k .8))
 
 pub feed-spec : {M : Type 1} → statement M
 feed-spec =
