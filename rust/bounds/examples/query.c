@@ -24,20 +24,19 @@ static int meets(bounds_aabb a, bounds_aabb b) {
 int main(void) {
     static uint8_t nodes[16 * ROWS], trees[16 * ROWS], header[128];
     static uint16_t order[ENTRIES], out[ENTRIES];
-    uint32_t *entries = calloc(bounds_work_len(ENTRIES), sizeof *entries);
-    if (!entries) return 2;
-    uint32_t *places = entries + 7 * ENTRIES, *temp = places + ENTRIES, *stack = temp + ENTRIES;
-    uint32_t *rows = stack + ENTRIES;
+    static bounds_item items[ENTRIES];
+    size_t words = bounds_work_len(ENTRIES);
+    uint32_t *work = malloc(words * sizeof *work);
+    if (!work) return 2;
     for (int i = 0; i < ENTRIES; i++) {
         bounds_aabb box = box_of(i);
-        entries[7 * i] = present(i);
-        memcpy(entries + 7 * i + 1, &box, sizeof box);
+        items[i].present = present(i);
+        memcpy(&items[i].min, &box, sizeof box);
     }
 
-    bounds_build_answer built = bounds_build_bvh(ENTRIES, THRESHOLD, entries, 7 * ENTRIES, nodes, sizeof nodes, trees,
-                                                 sizeof trees, order, ENTRIES, places, ENTRIES, temp, ENTRIES, stack,
-                                                 ENTRIES, rows, 8 * ROWS);
-    free(entries);
+    bounds_build_answer built = bounds_build_bvh_in(items, ENTRIES, THRESHOLD, nodes, sizeof nodes, trees, sizeof trees,
+                                                    order, ENTRIES, work, words);
+    free(work);
     if (built.refusal) return printf("build refused: %u\n", (unsigned)built.refusal), 1;
 
     bounds_bvh bvh = {.nodes_address = 0x50000080, .nodes_count = (uint32_t)built.nodes,
@@ -48,10 +47,10 @@ int main(void) {
     if (refusal) return printf("header refused: %u\n", (unsigned)refusal), 1;
 
     /* Counts without padding; the item count is that of the list at threshold 1, else that of the present items. */
-    size_t items = THRESHOLD == 1 ? ENTRIES : built.present;
+    size_t item_count = THRESHOLD == 1 ? ENTRIES : built.present;
     bounds_aabb query = {{50, 0, 0}, {80, 0, 0}};
     bounds_walk_answer walked = bounds_walk(query, built.scale.cen, built.scale.inverse, nodes, sizeof nodes,
-                                            built.nodes, trees, sizeof trees, built.trees, items, out, ENTRIES);
+                                            built.nodes, trees, sizeof trees, built.trees, item_count, out, ENTRIES);
     if (walked.refusal) return printf("walk refused: %u\n", (unsigned)walked.refusal), 1;
 
     int met[ENTRIES] = {0}, wrong = 0;

@@ -235,6 +235,13 @@ pub fn walk(query: Aabb, cen: Vec3, inverse: Vec3, records: &Records, out: &mut 
     }
 }
 
+/// The items' words, seven each, as they lie in memory.
+pub fn item_words(items: &[BvhItem]) -> &[u32] {
+    // SAFETY: an item is `repr(C)`, a u32 and six f32, 28 bytes without padding and aligned as a u32 is (checked below),
+    // and each pattern of a float's bits is a u32. The words are borrowed for as long as the items.
+    unsafe { std::slice::from_raw_parts(items.as_ptr().cast(), 7 * items.len()) }
+}
+
 /// `bounds_ordinary`.
 pub fn ordinary(entry_count: usize, entries: &[u32]) -> Premises {
     // SAFETY: the pointer comes from a slice, which is only read, and goes with its length. The count may be any number:
@@ -302,7 +309,8 @@ mod tests {
 
     #[test]
     fn premises_are_refused_where_entries_are_short_or_too_many() {
-        let entries = entries();
+        let items = items();
+        let entries = item_words(&items);
         let answer = |n, len| {
             let Premises { refusal, fault, place } = ordinary(n, &entries[..len]);
             (refusal, fault, place)

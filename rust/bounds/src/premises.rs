@@ -4,10 +4,10 @@
 //! use bounds::premises::{ordinary, Axis, Broken, Corner};
 //! use bounds::{BvhItem, Vec3};
 //!
-//! let good = BvhItem { min: Vec3::new(0.0, 0.0, 0.0), max: Vec3::new(1.0, 1.0, 1.0) };
-//! let huge = BvhItem { min: Vec3::new(0.0, 0.0, 0.0), max: Vec3::new(1.0, 2e30, 1.0) };
-//! assert_eq!(ordinary(&[Some(good), None, Some(good)]), Ok(()));
-//! let broken = ordinary(&[Some(good), None, Some(huge)]).unwrap_err();
+//! let good = BvhItem::new(Vec3::new(0.0, 0.0, 0.0), Vec3::new(1.0, 1.0, 1.0));
+//! let huge = BvhItem::new(Vec3::new(0.0, 0.0, 0.0), Vec3::new(1.0, 2e30, 1.0));
+//! assert_eq!(ordinary(&[good, BvhItem::ABSENT, good]), Ok(()));
+//! let broken = ordinary(&[good, BvhItem::ABSENT, huge]).unwrap_err();
 //! assert_eq!(broken, Broken::Size { place: 2, corner: Corner::Max, axis: Axis::Y });
 //! assert_eq!(broken.to_string(), "entry 2: max y is not finite, or above 2^100 in size");
 //! ```
@@ -61,20 +61,17 @@ pub enum Broken {
 ///
 /// ```
 /// # use bounds::{premises::*, BvhItem, Refusal, Vec3};
-/// let point = |x: f32| Some(BvhItem { min: Vec3::new(x, 0.0, 0.0), max: Vec3::new(x, 0.0, 0.0) });
+/// let point = |x: f32| BvhItem::new(Vec3::new(x, 0.0, 0.0), Vec3::new(x, 0.0, 0.0));
 /// assert_eq!(ordinary(&[]), Ok(()));
 /// assert_eq!(ordinary(&[point(1.0)]), Ok(()));
 /// assert_eq!(ordinary(&[point(0.0), point(1e-35)]), Err(Broken::Extent { axis: Axis::X }));
-/// let turned = BvhItem { min: Vec3::new(0.0, 0.0, 1.0), max: Vec3::ZERO };
-/// assert_eq!(ordinary(&[point(0.0), Some(turned)]), Err(Broken::Order { place: 1, axis: Axis::Z }));
-/// assert_eq!(ordinary(&[None; 32_768]), Err(Broken::Refused(Refusal::ListTooLong)));
+/// let turned = BvhItem::new(Vec3::new(0.0, 0.0, 1.0), Vec3::ZERO);
+/// assert_eq!(ordinary(&[point(0.0), turned]), Err(Broken::Order { place: 1, axis: Axis::Z }));
+/// assert_eq!(ordinary(&[BvhItem::ABSENT; 32_768]), Err(Broken::Refused(Refusal::ListTooLong)));
 /// ```
-pub fn ordinary(items: &[Option<BvhItem>]) -> Result<(), Broken> {
-    let entries: Vec<u32> = items.iter().flat_map(words).collect();
-    let answer = ffi::ordinary(items.len(), &entries);
-    if answer.refusal != 0 {
-        return Err(Broken::Refused(Refusal::from_number(answer.refusal).expect("one of the numbered refusals")));
-    }
+pub fn ordinary(items: &[BvhItem]) -> Result<(), Broken> {
+    let answer = ffi::ordinary(items.len(), ffi::item_words(items));
+    Refusal::check(answer.refusal).map_err(Broken::Refused)?;
     let place = answer.place as usize;
     let axis = |number: u32| [Axis::X, Axis::Y, Axis::Z][number as usize];
     match answer.fault {
@@ -85,13 +82,6 @@ pub fn ordinary(items: &[Option<BvhItem>]) -> Result<(), Broken> {
         n @ 10..=12 => Err(Broken::Extent { axis: axis(n - 10) }),
         n => unreachable!("fault {n}: the library numbers them up to 12"),
     }
-}
-
-/// The seven words of an entry.
-fn words(item: &Option<BvhItem>) -> [u32; 7] {
-    let Some(BvhItem { min, max }) = item else { return [0; 7] };
-    let [a, b, c, d, e, f] = [min.x, min.y, min.z, max.x, max.y, max.z].map(f32::to_bits);
-    [1, a, b, c, d, e, f]
 }
 
 impl fmt::Display for Axis {

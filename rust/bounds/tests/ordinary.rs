@@ -31,8 +31,8 @@ fn special() -> Vec<f32> {
     words.iter().flat_map(|&w| [w, w | 0x8000_0000]).map(f32::from_bits).collect()
 }
 
-fn item(c: [f32; 6]) -> Option<BvhItem> {
-    Some(BvhItem { min: Vec3::new(c[0], c[1], c[2]), max: Vec3::new(c[3], c[4], c[5]) })
+fn item(c: [f32; 6]) -> BvhItem {
+    BvhItem::new(Vec3::new(c[0], c[1], c[2]), Vec3::new(c[3], c[4], c[5]))
 }
 
 fn corners(item: &BvhItem) -> [f32; 6] {
@@ -40,8 +40,8 @@ fn corners(item: &BvhItem) -> [f32; 6] {
 }
 
 /// The premises as one would write them in Rust, in doubles where the source's floats do not matter.
-fn plain(items: &[Option<BvhItem>]) -> Result<(), Broken> {
-    let present = || items.iter().enumerate().filter_map(|(place, item)| item.as_ref().map(|i| (place, corners(i))));
+fn plain(items: &[BvhItem]) -> Result<(), Broken> {
+    let present = || items.iter().enumerate().filter(|(_, item)| item.present != 0).map(|(place, item)| (place, corners(item)));
     for (place, c) in present() {
         for (at, &v) in c.iter().enumerate() {
             if !v.is_finite() || (v as f64).abs() > 100f64.exp2() {
@@ -70,7 +70,7 @@ fn plain(items: &[Option<BvhItem>]) -> Result<(), Broken> {
     Ok(())
 }
 
-fn same(items: &[Option<BvhItem>]) -> Result<(), Broken> {
+fn same(items: &[BvhItem]) -> Result<(), Broken> {
     let found = ordinary(items);
     assert_eq!(found, plain(items), "{items:?}");
     found
@@ -85,7 +85,7 @@ fn every_special_float_at_every_place_of_a_box() {
             for axis in 0..3 {
                 let mut c = [0.0; 6];
                 (c[axis], c[axis + 3]) = (a, b);
-                for items in [&[item(c)][..], &[None, good, item(c)], &[item(c), good], &[good, item(c), item([a; 6])]]
+                for items in [&[item(c)][..], &[BvhItem::ABSENT, good, item(c)], &[item(c), good], &[good, item(c), item([a; 6])]]
                 {
                     found[same(items).is_ok() as usize] += 1;
                 }
@@ -99,7 +99,7 @@ fn every_special_float_at_every_place_of_a_box() {
 fn half_extents_by_two_points() {
     for a in special() {
         for b in special() {
-            let _ = same(&[item([0.0, a, 0.0, 0.0, a, 0.0]), None, item([0.0, b, 0.0, 0.0, b, 0.0])]);
+            let _ = same(&[item([0.0, a, 0.0, 0.0, a, 0.0]), BvhItem::ABSENT, item([0.0, b, 0.0, 0.0, b, 0.0])]);
         }
     }
 }
@@ -107,7 +107,7 @@ fn half_extents_by_two_points() {
 #[test]
 fn without_present_entries_they_hold() {
     for n in [0, 1, 5, 32_767] {
-        assert_eq!(same(&vec![None; n]), Ok(()));
+        assert_eq!(same(&vec![BvhItem::ABSENT; n]), Ok(()));
     }
 }
 
@@ -135,7 +135,7 @@ fn random_lists() {
                 if hostile && random(4) == 0 {
                     c[random(6) as usize] = special[random(special.len() as u64) as usize];
                 }
-                (random(5) != 0).then(|| item(c)).flatten()
+                if random(5) != 0 { item(c) } else { BvhItem::ABSENT }
             })
             .collect();
         found[same(&items).is_ok() as usize] += 1;

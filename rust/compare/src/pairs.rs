@@ -173,7 +173,7 @@ fn pair(case: &Case, seed: u64) -> Result<Option<Pair<'_>>, Wrong> {
 
 /// What the library says of the premises.
 fn premises(case: &Case) -> Result<(), bounds::premises::Broken> {
-    let items: Vec<Option<BvhItem>> = case.items.iter().map(|item| item.map(ours)).collect();
+    let items: Vec<BvhItem> = case.items.iter().copied().map(ours).collect();
     bounds::ordinary(&items)
 }
 
