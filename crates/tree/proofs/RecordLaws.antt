@@ -285,8 +285,8 @@ module _ (e : Entries) (th : ℕ) (stands : Stands e th) (before : Outputs) wher
         every-item-that-meets = λ ordinary z p m meets. ap (occurrences p) same ∙ v .every-item-that-meets ordinary z p m meets;
         none-twice = λ p. rw same (v .none-twice p);
         only-present = λ p. rw same (v .only-present p);
-        positions-below = below;
+        positions-below = λ i m. omega (arith, below i m);
         from-leaves-that-meet = λ i m. from-leaf query i (v .from-leaves-that-meet i m);
         count-is = v .count-is;
-        reads-at-most = v .reads-at-most;
+        reads-at-most = omega (arith, v .reads-at-most);
       }
