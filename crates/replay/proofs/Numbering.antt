@@ -1,4 +1,4 @@
--- The operations' numbers: they lie between 1 and 21, and no two operations share one. Assumes nothing.
+-- The operations' numbers: they lie between 1 and 35, and no two operations share one. Assumes nothing.
 use mathlib.Core.Path.{_≡_, refl, sym, ap, _∙_}
 use mathlib.Core.List.{List, [], _∷_}
 use lib.ListN.{getD}
@@ -11,10 +11,12 @@ use Rattle.replay.specs.declared.operation.Operation.the-variants as Op
 use Rattle.replay.specs.declared.operation.WordStep.the-variants as W
 use Rattle.replay.specs.declared.operation.PairStep.the-variants as P
 use Rattle.replay.specs.declared.operation.PointsStep.the-variants as Vs
+use Rattle.replay.specs.declared.operation.PointStep.the-variants as Vp
+use Rattle.replay.specs.declared.operation.FactorStep.the-variants as F
 
 pub record Between (n : ℕ) : Type 0 where
   pub least : 1 ≤ n
-  pub most : n ≤ 21
+  pub most : n ≤ 35
 
 pub between : (op : Operation) → Between (numberOf op)
 between (Op.Word W.ValueBits) = record { least = omega arith; most = omega arith }
@@ -38,6 +40,20 @@ between (Op.Points Vs.CmpVec3) = record { least = omega arith; most = omega arit
 between Op.TransformPoint = record { least = omega arith; most = omega arith }
 between Op.TransformVector = record { least = omega arith; most = omega arith }
 between Op.TransformBox = record { least = omega arith; most = omega arith }
+between (Op.Word W.OrderKey) = record { least = omega arith; most = omega arith }
+between (Op.Word W.Abs) = record { least = omega arith; most = omega arith }
+between (Op.Pair P.Vmin) = record { least = omega arith; most = omega arith }
+between (Op.Pair P.Vmax) = record { least = omega arith; most = omega arith }
+between (Op.Points Vs.Add) = record { least = omega arith; most = omega arith }
+between (Op.Points Vs.Sub) = record { least = omega arith; most = omega arith }
+between (Op.Points Vs.Vmul) = record { least = omega arith; most = omega arith }
+between (Op.Points Vs.Vdiv) = record { least = omega arith; most = omega arith }
+between (Op.Points Vs.Vmin) = record { least = omega arith; most = omega arith }
+between (Op.Points Vs.Vmax) = record { least = omega arith; most = omega arith }
+between (Op.Point Vp.Neg) = record { least = omega arith; most = omega arith }
+between (Op.Point Vp.Abs) = record { least = omega arith; most = omega arith }
+between (Op.Factor F.Scale) = record { least = omega arith; most = omega arith }
+between (Op.Factor F.VaddF) = record { least = omega arith; most = omega arith }
 
 -- the operations in the order of their numbers
 ordered : List Operation
@@ -64,6 +80,20 @@ ordered =
     ∷ Op.TransformPoint
     ∷ Op.TransformVector
     ∷ Op.TransformBox
+    ∷ Op.Word W.OrderKey
+    ∷ Op.Word W.Abs
+    ∷ Op.Pair P.Vmin
+    ∷ Op.Pair P.Vmax
+    ∷ Op.Points Vs.Add
+    ∷ Op.Points Vs.Sub
+    ∷ Op.Points Vs.Vmul
+    ∷ Op.Points Vs.Vdiv
+    ∷ Op.Points Vs.Vmin
+    ∷ Op.Points Vs.Vmax
+    ∷ Op.Point Vp.Neg
+    ∷ Op.Point Vp.Abs
+    ∷ Op.Factor F.Scale
+    ∷ Op.Factor F.VaddF
     ∷ []
 
 found : (op : Operation) → getD ordered (numberOf op) Op.TransformBox ≡ op
@@ -89,6 +119,20 @@ found (Op.Points Vs.CmpVec3) = refl
 found Op.TransformPoint = refl
 found Op.TransformVector = refl
 found Op.TransformBox = refl
+found (Op.Word W.OrderKey) = refl
+found (Op.Word W.Abs) = refl
+found (Op.Pair P.Vmin) = refl
+found (Op.Pair P.Vmax) = refl
+found (Op.Points Vs.Add) = refl
+found (Op.Points Vs.Sub) = refl
+found (Op.Points Vs.Vmul) = refl
+found (Op.Points Vs.Vdiv) = refl
+found (Op.Points Vs.Vmin) = refl
+found (Op.Points Vs.Vmax) = refl
+found (Op.Point Vp.Neg) = refl
+found (Op.Point Vp.Abs) = refl
+found (Op.Factor F.Scale) = refl
+found (Op.Factor F.VaddF) = refl
 
 pub number-injective : (a b : Operation) → numberOf a ≡ numberOf b → a ≡ b
 number-injective a b e = sym (found a) ∙ ap (λ (n : ℕ). getD ordered n Op.TransformBox) e ∙ found b
@@ -113,6 +157,14 @@ count-most Op.Norm = omega arith
 count-most (Op.Points Vs.Dot) = omega arith
 count-most (Op.Points Vs.Cross) = omega arith
 count-most (Op.Points Vs.CmpVec3) = omega arith
+count-most (Op.Points Vs.Add) = omega arith
+count-most (Op.Points Vs.Sub) = omega arith
+count-most (Op.Points Vs.Vmul) = omega arith
+count-most (Op.Points Vs.Vdiv) = omega arith
+count-most (Op.Points Vs.Vmin) = omega arith
+count-most (Op.Points Vs.Vmax) = omega arith
 count-most Op.TransformPoint = omega arith
 count-most Op.TransformVector = omega arith
 count-most Op.TransformBox = omega arith
+count-most (Op.Point s) = omega arith
+count-most (Op.Factor s) = omega arith

@@ -15,8 +15,8 @@ use Rattle.replay.specs.declared.outcome.Outcome.{Outcome}
 use Rattle.replay.specs.declared.outcome.Outcome.the-variants.{Match, Mismatch, Bad}
 use Rattle.replay.proofs.Numbering.{between}
 
--- Every outcome of a line is counted at one of 22 places.
-pub place-within : (line : List ℕ) (o : Outcome) → Judged line o → placeOf o < 22
+-- Every outcome of a line is counted at one of 36 places.
+pub place-within : (line : List ℕ) (o : Outcome) → Judged line o → placeOf o < 36
 place-within line (Match n) j = omega (arith, j .named, between (j .op) .most)
 place-within line (Mismatch n) j = omega (arith, j .named, between (j .op) .most)
 place-within line Bad j = omega arith

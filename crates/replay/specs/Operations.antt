@@ -9,6 +9,10 @@ use Rattle.replay.specs.declared.operation.PairStep.{PairStep}
 use Rattle.replay.specs.declared.operation.PairStep.the-variants as P
 use Rattle.replay.specs.declared.operation.PointsStep.{PointsStep}
 use Rattle.replay.specs.declared.operation.PointsStep.the-variants as Vs
+use Rattle.replay.specs.declared.operation.PointStep.{PointStep}
+use Rattle.replay.specs.declared.operation.PointStep.the-variants as Vp
+use Rattle.replay.specs.declared.operation.FactorStep.{FactorStep}
+use Rattle.replay.specs.declared.operation.FactorStep.the-variants as F
 use Rattle.replay.specs.declared.operation.Named.{Named}
 use Rattle.replay.specs.declared.operation.Named.the-variants as Nm
 
@@ -20,6 +24,8 @@ wordNumber W.ToShort = 0x0a
 wordNumber W.VertexValue = 0x0b
 wordNumber W.Sqrt = 0x0c
 wordNumber W.OfCount = 0x0d
+wordNumber W.OrderKey = 0x16
+wordNumber W.Abs = 0x17
 
 abbrev pub pairNumber : PairStep → ℕ
 pairNumber P.Relate = 0x02
@@ -29,11 +35,27 @@ pairNumber P.VminWord = 0x05
 pairNumber P.VmaxWord = 0x06
 pairNumber P.MinNumber = 0x07
 pairNumber P.MaxNumber = 0x08
+pairNumber P.Vmin = 0x18
+pairNumber P.Vmax = 0x19
 
 abbrev pub pointsNumber : PointsStep → ℕ
 pointsNumber Vs.Dot = 0x10
 pointsNumber Vs.Cross = 0x11
 pointsNumber Vs.CmpVec3 = 0x12
+pointsNumber Vs.Add = 0x1a
+pointsNumber Vs.Sub = 0x1b
+pointsNumber Vs.Vmul = 0x1c
+pointsNumber Vs.Vdiv = 0x1d
+pointsNumber Vs.Vmin = 0x1e
+pointsNumber Vs.Vmax = 0x1f
+
+abbrev pub pointNumber : PointStep → ℕ
+pointNumber Vp.Neg = 0x20
+pointNumber Vp.Abs = 0x21
+
+abbrev pub factorNumber : FactorStep → ℕ
+factorNumber F.Scale = 0x22
+factorNumber F.VaddF = 0x23
 
 abbrev pub numberOf : Operation → ℕ
 numberOf (Op.Word s) = wordNumber s
@@ -44,6 +66,8 @@ numberOf (Op.Points s) = pointsNumber s
 numberOf Op.TransformPoint = 0x13
 numberOf Op.TransformVector = 0x14
 numberOf Op.TransformBox = 0x15
+numberOf (Op.Point s) = pointNumber s
+numberOf (Op.Factor s) = factorNumber s
 
 -- What a number names: the operation that has it, or nothing where none has.
 abbrev pub Names : ℕ → Named → Type 0
@@ -60,12 +84,20 @@ inputsOf (Op.Points s) = 6
 inputsOf Op.TransformPoint = 19
 inputsOf Op.TransformVector = 19
 inputsOf Op.TransformBox = 22
+inputsOf (Op.Point s) = 3
+inputsOf (Op.Factor s) = 4
 
 -- How many words it gives.
 abbrev pub pointsOutputs : PointsStep → ℕ
 pointsOutputs Vs.Dot = 1
 pointsOutputs Vs.Cross = 3
 pointsOutputs Vs.CmpVec3 = 1
+pointsOutputs Vs.Add = 3
+pointsOutputs Vs.Sub = 3
+pointsOutputs Vs.Vmul = 3
+pointsOutputs Vs.Vdiv = 3
+pointsOutputs Vs.Vmin = 3
+pointsOutputs Vs.Vmax = 3
 
 abbrev pub outputsOf : Operation → ℕ
 outputsOf (Op.Word s) = 1
@@ -76,3 +108,5 @@ outputsOf (Op.Points s) = pointsOutputs s
 outputsOf Op.TransformPoint = 4
 outputsOf Op.TransformVector = 3
 outputsOf Op.TransformBox = 6
+outputsOf (Op.Point s) = 3
+outputsOf (Op.Factor s) = 3

@@ -1,6 +1,8 @@
 // Each operation from words to words, with the proved functions in between.
+use crate::operation::FactorStep;
 use crate::operation::Operation;
 use crate::operation::PairStep;
+use crate::operation::PointStep;
 use crate::operation::PointsStep;
 use crate::operation::WordStep;
 use crate::words::order;
@@ -19,7 +21,7 @@ use math::words3::Words3;
 ghost use mathlib.Core.Path.{_≡_};
 ghost use Prim.Native.Nat.{_+_, _≤_};
 ghost use lib.ListN.{length};
-ghost use Rattle.replay.specs.Answers.{wordAnswer, pairAnswer, pointAt, rowAt, matrixAt, pointsAnswer, answerOf};
+ghost use Rattle.replay.specs.Answers.{wordAnswer, pairAnswer, pointAt, rowAt, matrixAt, pointsAnswer, pointAnswer, factorAnswer, answerOf};
 ghost use Rattle.replay.specs.Answers.{three as threeOf, four as fourOf, six as sixOf};
 ghost use Rattle.replay.specs.Operations.{inputsOf};
 
@@ -41,6 +43,8 @@ fn of_word(step: WordStep, a: u32) -> u32
         WordStep::VertexValue => signed_short(float32::casts::vertex_value(x)),
         WordStep::Sqrt => bits(float32::root::sqrt(x)),
         WordStep::OfCount => bits(float32::counts::of_count((a % 65536) as u16)),
+        WordStep::OrderKey => order_key(a),
+        WordStep::Abs => bits(float32::signs::abs(x)),
     }
 }
 
@@ -57,6 +61,8 @@ fn of_pair(step: PairStep, a: u32, b: u32) -> u32
         PairStep::VmaxWord => float32::extremes::vmax_word(a, b),
         PairStep::MinNumber => bits(float32::extremes::min_number(x, y)),
         PairStep::MaxNumber => bits(float32::extremes::max_number(x, y)),
+        PairStep::Vmin => bits(float32::extremes::vmin(x, y)),
+        PairStep::Vmax => bits(float32::extremes::vmax(x, y)),
     }
 }
 
@@ -129,6 +135,30 @@ fn of_points(step: PointsStep, a: Vec3, b: Vec3) -> Answer
         PointsStep::Dot => Answer::One(bits(a.dot(b))),
         PointsStep::Cross => three(a.cross(b)),
         PointsStep::CmpVec3 => Answer::One(ordering(math::vec3::cmp_vec3(a, b))),
+        PointsStep::Add => three(a.add(b)),
+        PointsStep::Sub => three(a.sub(b)),
+        PointsStep::Vmul => three(math::vec3::vmul(a, b)),
+        PointsStep::Vdiv => three(math::vec3::vdiv(a, b)),
+        PointsStep::Vmin => three(math::vec3::vmin(a, b)),
+        PointsStep::Vmax => three(math::vec3::vmax(a, b)),
+    }
+}
+
+fn of_point(step: PointStep, v: Vec3) -> Answer
+    ensures { λ r. ⌜ r ≡ pointAnswer step v ⌝ }
+{
+    match step {
+        PointStep::Neg => three(v.neg()),
+        PointStep::Abs => three(v.abs()),
+    }
+}
+
+fn of_factor(step: FactorStep, v: Vec3, k: f32) -> Answer
+    ensures { λ r. ⌜ r ≡ factorAnswer step v k ⌝ }
+{
+    match step {
+        FactorStep::Scale => three(v.scale(k)),
+        FactorStep::VaddF => three(math::vec3::vadd_f(v, k)),
     }
 }
 
@@ -157,5 +187,7 @@ pub fn of(op: Operation, words: &[u32]) -> Answer
         Operation::TransformPoint => four(matrix(words, 0).transform_point(point(words, 16))),
         Operation::TransformVector => three(matrix(words, 0).transform_vector(point(words, 16))),
         Operation::TransformBox => of_box(words),
+        Operation::Point(step) => of_point(step, point(words, 0)),
+        Operation::Factor(step) => of_factor(step, point(words, 0), value(words[3])),
     }
 }

@@ -20,7 +20,7 @@ struct Progress {
 
 // Reads once. The line that was left without its end is the first `at` bytes of `line`.
 fn turn(line: &mut [u8], at: usize, cases: &mut [u64], misses: &mut [u64]) -> Progress
-    requires { ⌜ (length (now line) ≡ 256) × (at ≤ 256) × (22 ≤ length (now cases)) × (22 ≤ length (now misses)) ⌝ }
+    requires { ⌜ (length (now line) ≡ 256) × (at ≤ 256) × (36 ≤ length (now cases)) × (36 ≤ length (now misses)) ⌝ }
     ensures { λ r. ⌜ r .at ≤ 256 ⌝ }
 {
     let mut buf = io::large_buffer();
@@ -42,7 +42,7 @@ fn after(turns: u64, more: bool) -> u64
 
 // A proved loop has to end, and nothing says that the input does. So the loop counts its turns down, from a number that no run uses up.
 fn replay(cases: &mut [u64], misses: &mut [u64])
-    requires { ⌜ (22 ≤ length (now cases)) × (22 ≤ length (now misses)) ⌝ }
+    requires { ⌜ (36 ≤ length (now cases)) × (36 ≤ length (now misses)) ⌝ }
 {
     let mut line = [0u8; 256];
     let mut at: usize = 0;
@@ -75,10 +75,10 @@ fn print_total(cases: u64, misses: u64, bad: u64) {
 }
 
 fn report(cases: &[u64], misses: &[u64])
-    requires { ⌜ (22 ≤ length (now cases)) × (22 ≤ length (now misses)) ⌝ }
+    requires { ⌜ (36 ≤ length (now cases)) × (36 ≤ length (now misses)) ⌝ }
 {
     let mut i = 1;
-    while i < 22 {
+    while i < 36 {
         print_operation(i, cases[i], misses[i]);
         i += 1;
     }
@@ -86,8 +86,8 @@ fn report(cases: &[u64], misses: &[u64])
 }
 
 fn main() {
-    let mut cases = [0u64; 22];
-    let mut misses = [0u64; 22];
+    let mut cases = [0u64; 36];
+    let mut misses = [0u64; 36];
     replay(&mut cases, &mut misses);
     report(&cases, &misses);
 }

@@ -10,6 +10,8 @@ pub enum WordStep {
     VertexValue,
     Sqrt,
     OfCount,
+    OrderKey,
+    Abs,
 }
 
 // Two words.
@@ -21,6 +23,8 @@ pub enum PairStep {
     VmaxWord,
     MinNumber,
     MaxNumber,
+    Vmin,
+    Vmax,
 }
 
 // Two points.
@@ -28,6 +32,24 @@ pub enum PointsStep {
     Dot,
     Cross,
     CmpVec3,
+    Add,
+    Sub,
+    Vmul,
+    Vdiv,
+    Vmin,
+    Vmax,
+}
+
+// One point.
+pub enum PointStep {
+    Neg,
+    Abs,
+}
+
+// A point and a word.
+pub enum FactorStep {
+    Scale,
+    VaddF,
 }
 
 pub enum Operation {
@@ -39,6 +61,8 @@ pub enum Operation {
     TransformPoint,
     TransformVector,
     TransformBox,
+    Point(PointStep),
+    Factor(FactorStep),
 }
 
 // What a number names.
@@ -72,6 +96,20 @@ pub fn of_number(n: u32) -> Named
         0x13 => Named::Known(Operation::TransformPoint),
         0x14 => Named::Known(Operation::TransformVector),
         0x15 => Named::Known(Operation::TransformBox),
+        0x16 => Named::Known(Operation::Word(WordStep::OrderKey)),
+        0x17 => Named::Known(Operation::Word(WordStep::Abs)),
+        0x18 => Named::Known(Operation::Pair(PairStep::Vmin)),
+        0x19 => Named::Known(Operation::Pair(PairStep::Vmax)),
+        0x1a => Named::Known(Operation::Points(PointsStep::Add)),
+        0x1b => Named::Known(Operation::Points(PointsStep::Sub)),
+        0x1c => Named::Known(Operation::Points(PointsStep::Vmul)),
+        0x1d => Named::Known(Operation::Points(PointsStep::Vdiv)),
+        0x1e => Named::Known(Operation::Points(PointsStep::Vmin)),
+        0x1f => Named::Known(Operation::Points(PointsStep::Vmax)),
+        0x20 => Named::Known(Operation::Point(PointStep::Neg)),
+        0x21 => Named::Known(Operation::Point(PointStep::Abs)),
+        0x22 => Named::Known(Operation::Factor(FactorStep::Scale)),
+        0x23 => Named::Known(Operation::Factor(FactorStep::VaddF)),
         _ => Named::Unknown,
     }
 }
@@ -89,6 +127,8 @@ pub fn inputs(op: Operation) -> usize
         Operation::TransformPoint => 19,
         Operation::TransformVector => 19,
         Operation::TransformBox => 22,
+        Operation::Point(_) => 3,
+        Operation::Factor(_) => 4,
     }
 }
 
@@ -105,9 +145,17 @@ pub fn outputs(op: Operation) -> usize
             PointsStep::Dot => 1,
             PointsStep::Cross => 3,
             PointsStep::CmpVec3 => 1,
+            PointsStep::Add => 3,
+            PointsStep::Sub => 3,
+            PointsStep::Vmul => 3,
+            PointsStep::Vdiv => 3,
+            PointsStep::Vmin => 3,
+            PointsStep::Vmax => 3,
         },
         Operation::TransformPoint => 4,
         Operation::TransformVector => 3,
         Operation::TransformBox => 6,
+        Operation::Point(_) => 3,
+        Operation::Factor(_) => 3,
     }
 }

@@ -36,7 +36,7 @@ fn count(o: Outcome, cases: &mut [u64], misses: &mut [u64])
 
 // Takes one byte. The line so far is the first `at` bytes of `line`, and the answer is how many there are then.
 fn step(line: &mut [u8], at: usize, byte: u8, cases: &mut [u64], misses: &mut [u64]) -> usize
-    requires { ⌜ (length (now line) ≡ 256) × (at ≤ 256) × (22 ≤ length (now cases)) × (22 ≤ length (now misses)) ⌝ }
+    requires { ⌜ (length (now line) ≡ 256) × (at ≤ 256) × (36 ≤ length (now cases)) × (36 ≤ length (now misses)) ⌝ }
     ensures { λ r. ⌜ r ≤ 256 ⌝ }
     ensures { λ r. ⌜
         After (stateOf (take at (now (line .entry))) (now (cases .entry)) (now (misses .entry))) byte
@@ -55,7 +55,7 @@ fn step(line: &mut [u8], at: usize, byte: u8, cases: &mut [u64], misses: &mut [u
 
 // Takes a text, byte after byte.
 pub fn feed(text: &[u8], line: &mut [u8], at: usize, cases: &mut [u64], misses: &mut [u64]) -> usize
-    requires { ⌜ (length (now line) ≡ 256) × (at ≤ 256) × (22 ≤ length (now cases)) × (22 ≤ length (now misses)) ⌝ }
+    requires { ⌜ (length (now line) ≡ 256) × (at ≤ 256) × (36 ≤ length (now cases)) × (36 ≤ length (now misses)) ⌝ }
     ensures { λ r. ⌜ r ≤ 256 ⌝ }
     ensures { λ r. ⌜
         Fed (now (text .entry)) (stateOf (take at (now (line .entry))) (now (cases .entry)) (now (misses .entry)))
@@ -72,7 +72,7 @@ pub fn feed(text: &[u8], line: &mut [u8], at: usize, cases: &mut [u64], misses: 
 
 // A line that the input leaves without its end is no case.
 pub fn finish(at: usize, cases: &mut [u64])
-    requires { ⌜ 22 ≤ length (now cases) ⌝ }
+    requires { ⌜ 36 ≤ length (now cases) ⌝ }
     ensures { λ _. ⌜ now (cases .exit) ≡ finished at (now (cases .entry)) ⌝ }
 {
     if at > 0 {

@@ -8,7 +8,7 @@ use Rattle.replay.proofs.replay.Tie as tie
 
 abbrev Inv-loop : tie.InvT-loop
 Inv-loop cases₀ misses₀ line₀ at₀ turns₀ cases misses line at turns =
-    (at ≤ 256) × (length line ≡ 256) × (22 ≤ length cases) × (22 ≤ length misses) × (length cases ≡ length cases₀) × (length misses ≡ length misses₀)
+    (at ≤ 256) × (length line ≡ 256) × (36 ≤ length cases) × (36 ≤ length misses) × (length cases ≡ length cases₀) × (length misses ≡ length misses₀)
 
 abbrev μ-loop : tie.MeasureT-loop
 μ-loop cases₀ misses₀ line₀ at₀ turns₀ cases misses line at turns = turns

@@ -1,14 +1,14 @@
--- `report` is safe and ends: i counts the operations up to 21.
+-- `report` is safe and ends: i counts the operations up to 35.
 use Rattle.replay.proofs.report.Statement.{statement}
 use Rattle.replay.proofs.report.Tie as tie
 use Prim.Native.Nat.{_-_, _≤_}
 use borrow.Author.Needs.{needs}
 
 abbrev Inv-loop : tie.InvT-loop
-Inv-loop cases misses i₀ i = i ≤ 22
+Inv-loop cases misses i₀ i = i ≤ 36
 
 abbrev μ-loop : tie.MeasureT-loop
-μ-loop cases misses i₀ i = 22 - i
+μ-loop cases misses i₀ i = 36 - i
 
 loop-holds : tie.Need-loop-holds Inv-loop μ-loop
 loop-holds c = search needs

@@ -6,7 +6,7 @@ use mathlib.Core.Path.{_≡_, ap, ap₂, _∙_, subst}
 use Prim.Native.Nat.{_≤_}
 use native.Mathlib.Omega.{arith}
 use lib.ListN.{length}
-use Rattle.replay.specs.Answers.{word, three, four, pointsAnswer}
+use Rattle.replay.specs.Answers.{word, three, four, pointsAnswer, pointAnswer, factorAnswer}
 use Rattle.replay.specs.Operations.{inputsOf}
 use Rattle.math.specs.Transform.{pointOf, vectorOf}
 use Rattle.math.specs.Vec3s.{lengthOf, normOf}
@@ -128,6 +128,35 @@ enum-told-5 c = search needs
 of-box-requires : tie.Need-of-box-requires
 of-box-requires c κs = room (c .before .before .before) _ (c .enum-told5 .given .1)
 
+enum-known-op-4 : tie.Need-enum-known-op-4
+enum-known-op-4 c = search needs
+
+point-requires-7 : tie.Need-point-requires-7
+point-requires-7 c κs = room (c .before .before .before .before) _ (c .before .op4 .given .1)
+
+of-point-requires : tie.Need-of-point-requires
+of-point-requires c κs = search needs
+
+enum-known-op-5 : tie.Need-enum-known-op-5
+enum-known-op-5 c = search needs
+
+point-requires-8 : tie.Need-point-requires-8
+point-requires-8 c κs =
+    let s = c .before .before .before .before in
+    let r : 4 ≤ length (s .args .words .now) = room s _ (c .before .op5 .given .1) in
+    omega arith
+
+shared-slice-read-value : tie.Need-shared-slice-read-value
+shared-slice-read-value c =
+    let arm = c .before .before .before in
+    room (arm .before .before .before) _ (arm .op5 .given .1)
+
+value-requires : tie.Need-value-requires
+value-requires c κs = search needs
+
+of-factor-requires : tie.Need-of-factor-requires
+of-factor-requires c κs = search needs
+
 returns : tie.Need-returns
 returns c = rw (c .before .before .before .op .given .1) (ap One (c .of-word .ensures))
 
@@ -167,6 +196,17 @@ returns-7 c =
 returns-8 : tie.Need-returns-8
 returns-8 c = rw (c .before .enum-told5 .given .1) (c .of-box .ensures)
 
+returns-9 : tie.Need-returns-9
+returns-9 c =
+    let arm = c .before .before .before in
+    rw (arm .op4 .given .1) (c .of-point .ensures ∙ ap (pointAnswer (arm .op4 .given .0 .0)) (c .before .point7 .ensures))
+
+returns-10 : tie.Need-returns-10
+returns-10 c =
+    let arm = c .before .before .before .before .before in
+    let parts-are = ap₂ (factorAnswer (arm .op5 .given .0 .0)) (c .before .before .before .point8 .ensures) (c .before .value .ensures) in
+    rw (arm .op5 .given .1) (c .of-factor .ensures ∙ parts-are)
+
 pub of-spec : {M : Type 1} → statement M
 of-spec =
     tie.close
@@ -202,6 +242,14 @@ of-spec =
     three-requires-2
     enum-told-5
     of-box-requires
+    enum-known-op-4
+    point-requires-7
+    of-point-requires
+    enum-known-op-5
+    point-requires-8
+    shared-slice-read-value
+    value-requires
+    of-factor-requires
     returns
     returns-2
     returns-3
@@ -209,4 +257,6 @@ of-spec =
     returns-5
     returns-6
     returns-7
-    returns-8)
+    returns-8
+    returns-9
+    returns-10)

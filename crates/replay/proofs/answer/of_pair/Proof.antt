@@ -72,6 +72,24 @@ max-number-requires c κs = search needs
 bits-requires-2 : tie.Need-bits-requires-2
 bits-requires-2 c κs = search needs
 
+enum-told-8 : tie.Need-enum-told-8
+enum-told-8 c = search needs
+
+vmin-requires : tie.Need-vmin-requires
+vmin-requires c κs = search needs
+
+bits-requires-3 : tie.Need-bits-requires-3
+bits-requires-3 c κs = search needs
+
+enum-told-9 : tie.Need-enum-told-9
+enum-told-9 c = search needs
+
+vmax-requires : tie.Need-vmax-requires
+vmax-requires c κs = search needs
+
+bits-requires-4 : tie.Need-bits-requires-4
+bits-requires-4 c κs = search needs
+
 returns : tie.Need-returns
 returns c = rw (c .before .before .enum-told .given .1) cc
 
@@ -92,6 +110,12 @@ returns-6 c = rw (c .before .before .enum-told6 .given .1) cc
 
 returns-7 : tie.Need-returns-7
 returns-7 c = rw (c .before .before .enum-told7 .given .1) cc
+
+returns-8 : tie.Need-returns-8
+returns-8 c = rw (c .before .before .enum-told8 .given .1) cc
+
+returns-9 : tie.Need-returns-9
+returns-9 c = rw (c .before .before .enum-told9 .given .1) cc
 
 pub of-pair-spec : {M : Type 1} → statement M
 of-pair-spec =
@@ -120,10 +144,18 @@ of-pair-spec =
     enum-told-7
     max-number-requires
     bits-requires-2
+    enum-told-8
+    vmin-requires
+    bits-requires-3
+    enum-told-9
+    vmax-requires
+    bits-requires-4
     returns
     returns-2
     returns-3
     returns-4
     returns-5
     returns-6
-    returns-7)
+    returns-7
+    returns-8
+    returns-9)

@@ -63,6 +63,21 @@ of-count-requires c κs = search needs
 bits-requires-3 : tie.Need-bits-requires-3
 bits-requires-3 c κs = search needs
 
+enum-told-7 : tie.Need-enum-told-7
+enum-told-7 c = search needs
+
+order-key-requires : tie.Need-order-key-requires
+order-key-requires c κs = search needs
+
+enum-told-8 : tie.Need-enum-told-8
+enum-told-8 c = search needs
+
+abs-requires : tie.Need-abs-requires
+abs-requires c κs = search needs
+
+bits-requires-4 : tie.Need-bits-requires-4
+bits-requires-4 c κs = search needs
+
 returns : tie.Need-returns
 returns c = rw (c .before .enum-told .given .1) cc
 
@@ -87,6 +102,12 @@ returns-5 c = rw (c .before .before .enum-told5 .given .1) cc
 returns-6 : tie.Need-returns-6
 returns-6 c = rw (c .before .before .enum-told6 .given .1) cc
 
+returns-7 : tie.Need-returns-7
+returns-7 c = rw (c .before .enum-told7 .given .1) cc
+
+returns-8 : tie.Need-returns-8
+returns-8 c = rw (c .before .before .enum-told8 .given .1) cc
+
 pub of-word-spec : {M : Type 1} → statement M
 of-word-spec =
     tie.close
@@ -110,9 +131,16 @@ of-word-spec =
     cast-of-count
     of-count-requires
     bits-requires-3
+    enum-told-7
+    order-key-requires
+    enum-told-8
+    abs-requires
+    bits-requires-4
     returns
     returns-2
     returns-3
     returns-4
     returns-5
-    returns-6)
+    returns-6
+    returns-7
+    returns-8)

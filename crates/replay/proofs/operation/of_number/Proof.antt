@@ -1,4 +1,4 @@
--- `operation::of_number` meets its contract: an arm for each number from 1 to 21, and every operation has one of those.
+-- `operation::of_number` meets its contract: an arm for each number from 1 to 35, and every operation has one of those.
 use borrow.Author.Needs.{needs}
 use Rattle.replay.proofs.operation.of_number.Statement.{statement}
 use Rattle.replay.proofs.operation.of_number.Tie as tie
@@ -69,7 +69,49 @@ returns-21 : tie.Need-returns-21
 returns-21 c = search needs
 
 returns-22 : tie.Need-returns-22
-returns-22 c = λ op e. omega (arith, between op .most, beyond 21 (c .before .args .n) (c .match .rest) (omega (arith, between op .least)))
+returns-22 c = search needs
+
+returns-23 : tie.Need-returns-23
+returns-23 c = search needs
+
+returns-24 : tie.Need-returns-24
+returns-24 c = search needs
+
+returns-25 : tie.Need-returns-25
+returns-25 c = search needs
+
+returns-26 : tie.Need-returns-26
+returns-26 c = search needs
+
+returns-27 : tie.Need-returns-27
+returns-27 c = search needs
+
+returns-28 : tie.Need-returns-28
+returns-28 c = search needs
+
+returns-29 : tie.Need-returns-29
+returns-29 c = search needs
+
+returns-30 : tie.Need-returns-30
+returns-30 c = search needs
+
+returns-31 : tie.Need-returns-31
+returns-31 c = search needs
+
+returns-32 : tie.Need-returns-32
+returns-32 c = search needs
+
+returns-33 : tie.Need-returns-33
+returns-33 c = search needs
+
+returns-34 : tie.Need-returns-34
+returns-34 c = search needs
+
+returns-35 : tie.Need-returns-35
+returns-35 c = search needs
+
+returns-36 : tie.Need-returns-36
+returns-36 c = λ op e. omega (arith, between op .most, beyond 35 (c .before .args .n) (c .match .rest) (omega (arith, between op .least)))
 
 pub of-number-spec : {M : Type 1} → statement M
 of-number-spec =
@@ -96,4 +138,18 @@ of-number-spec =
     returns-19
     returns-20
     returns-21
-    returns-22)
+    returns-22
+    returns-23
+    returns-24
+    returns-25
+    returns-26
+    returns-27
+    returns-28
+    returns-29
+    returns-30
+    returns-31
+    returns-32
+    returns-33
+    returns-34
+    returns-35
+    returns-36)

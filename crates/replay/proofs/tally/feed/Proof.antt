@@ -11,7 +11,7 @@ use Rattle.replay.proofs.tally.feed.Tie as tie
 
 abbrev Inv-loop : tie.InvT-loop
 Inv-loop text line₀ at cases₀ misses₀ length₀ i₀ line cases misses length i =
-    (i ≤ Len text) × (length ≤ 256) × (Len line ≡ 256) × (22 ≤ Len cases) × (22 ≤ Len misses)
+    (i ≤ Len text) × (length ≤ 256) × (Len line ≡ 256) × (36 ≤ Len cases) × (36 ≤ Len misses)
     × (Len line ≡ Len line₀) × (Len cases ≡ Len cases₀) × (Len misses ≡ Len misses₀)
     × Taking text i (stateOf (take at line₀) cases₀ misses₀) (stateOf (take length line) cases misses)
 
