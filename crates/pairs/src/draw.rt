@@ -1,7 +1,9 @@
 // Numbers by a linear congruence, and boxes whose corners are whole numbers times a grain.
 use math::aabb::Aabb;
 use math::vec3::Vec3;
+ghost use mathlib.Core.Path.{_≡_};
 ghost use Prim.Native.Nat.{_<_};
+ghost use Rattle.pairs.specs.Drawing.{nextOf, threeOn};
 
 // What the boxes of a list are like.
 pub struct Shape {
@@ -16,11 +18,15 @@ pub struct Shape {
     pub grain: f32,
 }
 
-pub fn next(s: u32) -> u32 {
+pub fn next(s: u32) -> u32
+    ensures { λ r. ⌜ r ≡ nextOf s ⌝ }
+{
     ((s as u64 * 1664525 + 1013904223) % 4294967296) as u32
 }
 
-pub fn three_on(s: u32) -> u32 {
+pub fn three_on(s: u32) -> u32
+    ensures { λ r. ⌜ r ≡ threeOn s ⌝ }
+{
     next(next(next(s)))
 }
 

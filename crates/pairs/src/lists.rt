@@ -14,6 +14,7 @@ ghost use lib.ListN.{length, getD};
 ghost use Rattle.split.specs.Boxes.{boxAt};
 ghost use Rattle.bvh.specs.Items.{isMarked};
 ghost use Rattle.tree.specs.Pair.{boxValues};
+ghost use Rattle.pairs.specs.Drawing.{cubeOf};
 
 // 1 where an entry is present.
 fn presence(s: u32, absent: u32) -> u32 {
@@ -81,7 +82,9 @@ pub fn box_of(list: &[u32; 4900], place: Place) -> Aabb
 }
 
 // The same on each axis.
-pub fn cube(min: f32, max: f32) -> Aabb {
+pub fn cube(min: f32, max: f32) -> Aabb
+    ensures { λ r. ⌜ r ≡ cubeOf min max ⌝ }
+{
     Aabb {
         min: Vec3 {
             x: min,

@@ -1,5 +1,7 @@
-// What is counted, of one query and of many. The sums are proved safe; what they come to is held against the reference's.
+// What is counted, of one query and of many. What the sums come to is held against the reference's.
 use std::num::wrapping_add_u64;
+ghost use mathlib.Core.Path.{_≡_};
+ghost use Rattle.pairs.specs.Drawing.{failed, together};
 
 pub struct Tally {
     // Of the tree.
@@ -17,7 +19,9 @@ pub struct Tally {
 }
 
 impl Tally {
-    pub fn none() -> Tally {
+    pub fn none() -> Tally
+        ensures { λ r. ⌜ r ≡ failed 0 ⌝ }
+    {
         Tally {
             nodes: 0,
             trees: 0,
@@ -31,7 +35,9 @@ impl Tally {
     }
 
     // A query that was refused.
-    pub fn refused() -> Tally {
+    pub fn refused() -> Tally
+        ensures { λ r. ⌜ r ≡ failed 1 ⌝ }
+    {
         Tally {
             nodes: 0,
             trees: 0,
@@ -45,7 +51,9 @@ impl Tally {
     }
 
     // With one more query over the same tree.
-    pub fn and(self, q: Tally) -> Tally {
+    pub fn and(self, q: Tally) -> Tally
+        ensures { λ r. ⌜ r ≡ together self q ⌝ }
+    {
         Tally {
             nodes: q.nodes,
             trees: q.trees,
