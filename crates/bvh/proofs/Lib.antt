@@ -1,5 +1,5 @@
 pub mod EmitLaws
-mod EntryWords
+pub mod EntryWords
 pub mod FlatLaws
 mod HandWalk
 pub mod ItemWords

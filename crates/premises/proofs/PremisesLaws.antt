@@ -4,12 +4,13 @@ use native.Mathlib.Omega.{arith}
 use mathlib.Core.Path.{_≡_, refl, sym, ap, _∙_, subst}
 use mathlib.Core.Logic.{_⊎_, inl, inr}
 use mathlib.Core.Bool.{Bool, true, false, cond, _||_}
-use mathlib.Core.List.{List, [], _∷_}
+use mathlib.Core.List.{List, [], _∷_, _++_}
 use lib.Dec.{T, eqb, eqb→eq, ltb}
 use lib.Ieee.{Float, nan, inf, fin, le, eq}
 use lib.Ieee.Fits.{eq→eqb}
 use lib.Ieee.Scale.{finite}
 use mir.Facts.{or-yes}
+use lib.ListN.{length, take}
 use Rattle.base.specs.Lists.{Among}
 use Rattle.base.proofs.ListLaws.{among-head, among-tail, among-cases}
 use Rattle.base.proofs.Truth.{when}
@@ -20,7 +21,11 @@ use Rattle.records.specs.Axis.{largest, smallest, nought}
 use Rattle.split.specs.Ends.{low, high, Proper, Bounded}
 use Rattle.split.specs.Folding.{foldBox}
 use Rattle.split.specs.declared.boxes.BoxWords.{BoxWords}
+use Rattle.bvh.specs.declared.items.BvhItem.{BvhItem}
 use Rattle.bvh.specs.Build.{Entries}
+use Rattle.bvh.specs.Entry.{entriesIn, entriesOf}
+use Rattle.bvh.specs.Items.{wordsOf}
+use Rattle.bvh.proofs.EntryWords.{entries-in}
 use Rattle.tree.specs.Pair.{Ordinary, extentOn}
 use Rattle.premises.specs.declared.ordinary.Premises.{Premises}
 use Rattle.premises.specs.Faults.{sized, sound, failing, sizeFault, orderFault, boxFault, extentFault}
@@ -198,3 +203,8 @@ judged e room r i =
           λ h k. no-fault-ordinary e (sym (ap (λ (a : Premises). a .fault) (i ∙ read h)) ∙ k);
       ordinary-no-fault = λ o. ap (λ (a : Premises). a .fault) i ∙ refused-no-fault e room (ordinary-no-fault e o);
     }
+
+-- Items are judged by their words: what a build of the items relies on is what `ordinary` says of the words that they are.
+pub items-judged : (items : List BvhItem) (rest : List ℕ) (room : ℕ) (r : Premises)
+    → Judged (entriesIn (length items) (take (7 * length items) (wordsOf items ++ rest))) room r → Judged (entriesOf items) room r
+items-judged items rest room r = subst (λ (e : Entries). Judged e room r) (entries-in items rest)
