@@ -130,7 +130,8 @@ pub record Sound (w : Written) (r : Row) : Type 0 where
   pub small : Small (w .threshold) (w .order) r
   pub inside : 0 < r .count → idOf (w .threshold) (w .order) r + r .count ≤ w .sizes .items
 
-mem-drop : {A : Type 0} (l : List A) (k : ℕ) (x : A) (xs : List A) → drop k l ≡ x ∷ xs → List·Memᴰ x l
+-- what stands at a number of a list is in the list
+pub mem-drop : {A : Type 0} (l : List A) (k : ℕ) (x : A) (xs : List A) → drop k l ≡ x ∷ xs → List·Memᴰ x l
 mem-drop l k x xs e =
     subst (List·Memᴰ x) (take-append-drop k l) (Memᴰ·append-right (take k l) (subst (List·Memᴰ x) (sym e) (List·Memᴰ·head refl)))
 

@@ -4,23 +4,23 @@ use Prim.Native.Nat.{ℕ, zero, suc, _+_, _-_, _*_, _≤_, _<_}
 use native.Mathlib.Omega.{arith}
 use mathlib.Core.Bool.{Bool, true, false, cond}
 use mathlib.Core.List.{List, [], _∷_, _++_, map, append-assoc}
-use mathlib.Core.List.{List·Memᴰ, List·Memᴰ·head, List·Memᴰ·tail, List·Memᴰ·not-nil, List·Memᴰ·cases-cons, Memᴰ·append-right}
+use mathlib.Core.List.{List·Memᴰ, List·Memᴰ·head, List·Memᴰ·tail, List·Memᴰ·not-nil, List·Memᴰ·cases-cons}
 use mathlib.Core.Logic.{⊎-elim}
 use mathlib.Core.Path.{_≡_, refl, sym, ap, ap₂, _∙_, subst}
 use borrow.Author.Tests.{ne-eqb, eqb-true, eqb-false}
 use lib.Dec.{T, eqb}
-use lib.ListN.{length, getD, take, drop, length-append, take-append-drop, List·getD-append}
+use lib.ListN.{length, getD, drop, List·getD-append}
 use lib.Seq.{drop-drop}
 use Rattle.base.proofs.NumberLaws.{up-within}
 use Rattle.base.specs.Lists.{oneIf, occurrences, upFrom, over}
 use Rattle.math.specs.declared.aabb.Aabb.{Aabb}
-use Rattle.records.specs.Records.{nodeAt, treeAt}
+use Rattle.records.specs.Records.{nodeAt}
 use Rattle.records.specs.declared.BvhNode.{BvhNode}
 use Rattle.records.specs.declared.BvhTree.{BvhTree}
 use Rattle.records.specs.declared.scale.Scale.{Scale}
 use Rattle.bvh.specs.Build.{Entries, treeOf, scaleIn, builtOf, nodesWritten, treesWritten, orderWritten}
 use Rattle.bvh.specs.Entry.{Outputs, outputs}
-use Rattle.bvh.specs.Numbers.{holds, rangesHolding, subtrees}
+use Rattle.bvh.specs.Numbers.{rangesHolding, subtrees}
 use Rattle.bvh.specs.Output.{idOf, nodeOf, nodesBytes, padBytes, treeRecord, treesBytes, capacityOf, orderOf}
 use Rattle.bvh.specs.Promises.{itemAt, itemsIn, itemsOf}
 use Rattle.bvh.specs.Ranges.{Range, Subtree, ranges, rangeLimit}
@@ -35,6 +35,7 @@ use Rattle.tree.specs.Pair.{outcomeOf, Delivered}
 use Rattle.tree.specs.Visit.{hitIn, FromHit}
 use Rattle.tree.specs.WellFormed.{nodeNo, treeNo, positionsIn, itemsAt, itemsHeld, isLeaf, holdsNode, rangesWith}
 use Rattle.tree.specs.WellFormed.{NodeNumbers, RangeNumbers, WellFormed, FromLeaf}
+use Rattle.tree.proofs.MachineLaws.{mem-drop}
 use Rattle.tree.proofs.PairLaws.{Stands, small-member, size-few, order-long, at-most, rows-small, inside-by, handed-inside}
 use Rattle.tree.proofs.PairLaws.{itemCount, itemsBy, visited, Visited}
 use Rattle.tree.proofs.ReadLaws.{node-read, tree-read}
@@ -56,10 +57,6 @@ standing : {A : Type 0} (l : List A) (k : ℕ) → k < length l → Standing l k
 standing [] k h = absurd (omega arith)
 standing (x ∷ xs) zero h = record { item = x; rest = xs; there = refl }
 standing (x ∷ xs) (suc k) h = let s = standing xs k (omega arith) in record { item = s .item; rest = s .rest; there = s .there }
-
-standing-in : {A : Type 0} (l : List A) (k : ℕ) (x : A) (xs : List A) → drop k l ≡ x ∷ xs → List·Memᴰ x l
-standing-in l k x xs h =
-    subst (List·Memᴰ x) (take-append-drop k l) (Memᴰ·append-right (take k l) (subst (List·Memᴰ x) (sym h) (List·Memᴰ·head refl)))
 
 -- where an element stands
 record Found {A : Type 0} (l : List A) (x : A) : Type 0 where
@@ -121,7 +118,7 @@ module _ (e : Entries) (th : ℕ) (stands : Stands e th) (before : Outputs) wher
       let rest = drop (length (written ++ pads)) (before .nodes) in
       ap (λ (l : List ℕ). nodeAt l (16 * k)) (append-assoc written pads rest)
       ∙ node-read scale th order (pads ++ rest) (rows 0 t) k r qs h
-      (small-member th order (rows 0 t) r (rows-small e th stands) (standing-in (rows 0 t) k r qs h))
+      (small-member th order (rows 0 t) r (rows-small e th stands) (mem-drop (rows 0 t) k r qs h))
 
   -- a range lies within the nodes
   range-inside : (r : Range) → List·Memᴰ r (ranges rangeLimit 0 t) → r .last ≤ size t
@@ -136,7 +133,7 @@ module _ (e : Entries) (th : ℕ) (stands : Stands e th) (before : Outputs) wher
   pub tree-recorded : (j : ℕ) (r : Range) (qs : List Range) → drop j (ranges rangeLimit 0 t) ≡ r ∷ qs → treeNo after j ≡ treeRecord scale r
   unfolding treeOf treesWritten
   tree-recorded j r qs h =
-      let m = standing-in (ranges rangeLimit 0 t) j r qs h in
+      let m = mem-drop (ranges rangeLimit 0 t) j r qs h in
       tree-read scale (drop (length (treesBytes scale (ranges rangeLimit 0 t))) (before .trees)) (ranges rangeLimit 0 t) j r qs h
       (omega (arith, range-some r m .0, range-inside r m, size-few e th stands)) (omega (arith, range-inside r m, size-few e th stands))
 
@@ -172,7 +169,7 @@ module _ (e : Entries) (th : ℕ) (stands : Stands e th) (before : Outputs) wher
   row-items k r qs h =
       ap (λ (n : BvhNode). itemsAt th after (positionsIn n)) (node-recorded k r qs h)
       ∙ map-same (itemAt th (after .order)) (itemAt th order) (upFrom (idOf th order r) (r .count))
-      (λ i m. order-leads i (row-positions r (standing-in (rows 0 t) k r qs h) i m))
+      (λ i m. order-leads i (row-positions r (mem-drop (rows 0 t) k r qs h) i m))
 
   held-from : (k : ℕ) (rs : List Row) → drop k (rows 0 t) ≡ rs → itemsHeld th after k (length rs) ≡ itemsOf th order rs
   held-from k [] h = refl
@@ -195,7 +192,7 @@ module _ (e : Entries) (th : ℕ) (stands : Stands e th) (before : Outputs) wher
   range-numbers j h =
       let s = standing (ranges rangeLimit 0 t) j h in
       let r = s .item in
-      let m = standing-in (ranges rangeLimit 0 t) j r (s .rest) (s .there) in
+      let m = mem-drop (ranges rangeLimit 0 t) j r (s .rest) (s .there) in
       let is = tree-recorded j r (s .rest) (s .there) in
       record {
         first = r .first;
@@ -212,7 +209,7 @@ module _ (e : Entries) (th : ℕ) (stands : Stands e th) (before : Outputs) wher
   node-numbers k h =
       let s = standing (rows 0 t) k (omega (arith, length-rows 0 t)) in
       let r = s .item in
-      let m = standing-in (rows 0 t) k r (s .rest) (s .there) in
+      let m = mem-drop (rows 0 t) k r (s .rest) (s .there) in
       let is = node-recorded k r (s .rest) (s .there) in
       record {
         id = idOf th order r;
