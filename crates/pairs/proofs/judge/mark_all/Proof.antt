@@ -1,7 +1,7 @@
 -- `judge::mark_all` meets its contract: the items of the first i positions have their marks, and those that had one are counted.
 use Rattle.pairs.proofs.judge.mark_all.Statement.{statement}
 use Rattle.pairs.proofs.judge.mark_all.Tie as tie
-use Prim.Native.Nat.{ℕ, _-_, _≤_}
+use Prim.Native.Nat.{_-_, _≤_}
 use mathlib.Core.Path.{_≡_, refl, sym, ap, ap₂, _∙_}
 use native.Mathlib.Numerals.{add-one}
 use native.Mathlib.Omega.{arith}
