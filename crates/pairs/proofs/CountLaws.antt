@@ -2,7 +2,7 @@
 use Prim.Native.Nat.{ℕ, zero, suc, _+_, _≤_}
 use native.Mathlib.Numerals.{add-one}
 use native.Mathlib.Omega.{arith}
-use mathlib.Core.Bool.{Bool, true, false, not, _&&_}
+use mathlib.Core.Bool.{Bool, true, false, not, _&&_, cond}
 use mathlib.Core.List.{List}
 use mathlib.Core.Path.{_≡_, refl, sym, ap, subst, _∙_}
 use Rattle.base.specs.Lists.{oneIf}
@@ -23,15 +23,21 @@ and-yes b h = rw h
 pub and-no : {a : Bool} (b : Bool) → a ≡ false → a ≡ a && b
 and-no b h = rw h
 
+pub chosen-first : {A : Type 0} {b : Bool} (x y : A) → b ≡ true → x ≡ cond b x y
+chosen-first x y h = rw h
+
+pub chosen-second : {A : Type 0} {b : Bool} (x y : A) → b ≡ false → y ≡ cond b x y
+chosen-second x y h = rw h
+
 and-not-are : {a b c d : Bool} → a ≡ b → c ≡ d → (a && not c) ≡ (b && not d)
 and-not-are {a} {b} {c} {d} e f = ap (λ (x : Bool). x && not c) e ∙ ap (λ (x : Bool). b && not x) f
 
-count-most : (test : ℕ → Bool) (n : ℕ) → countOf test n ≤ n
+pub count-most : (test : ℕ → Bool) (n : ℕ) → countOf test n ≤ n
 count-most test zero = omega arith
 count-most test (suc n) = omega (arith, count-most test n, one-or-none (test n))
 
 -- One more place is counted.
-counted : (test : ℕ → Bool) (n : ℕ) {x y : ℕ} {b : Bool} → x ≡ countOf test n → b ≡ test n → y ≡ x + oneIf b → y ≡ countOf test (n + 1)
+pub counted : (test : ℕ → Bool) (n : ℕ) {x y : ℕ} {b : Bool} → x ≡ countOf test n → b ≡ test n → y ≡ x + oneIf b → y ≡ countOf test (n + 1)
 counted test n {x} {y} {b} before now e =
     e ∙ ap (λ (k : Bool). x + oneIf k) now ∙ ap (λ (k : ℕ). k + oneIf (test n)) before ∙ sym (ap (countOf test) (add-one n))
 

@@ -3,7 +3,7 @@ use math::aabb::Aabb;
 use math::vec3::Vec3;
 ghost use mathlib.Core.Path.{_≡_};
 ghost use Prim.Native.Nat.{_<_};
-ghost use Rattle.pairs.specs.Drawing.{nextOf, threeOn};
+ghost use Rattle.pairs.specs.Drawing.{nextOf, threeOn, belowOf, wholeOf, cornerOf, drawnBox};
 
 // What the boxes of a list are like.
 pub struct Shape {
@@ -33,6 +33,7 @@ pub fn three_on(s: u32) -> u32
 // The upper half of a number, modulo n; 0 where n is 0.
 pub fn below(s: u32, n: u32) -> u32
     ensures { λ r. ⌜ r < 65536 ⌝ }
+    ensures { λ r. ⌜ r ≡ belowOf s n ⌝ }
 {
     if n == 0 {
         return 0;
@@ -40,12 +41,16 @@ pub fn below(s: u32, n: u32) -> u32
     s / 65536 % n
 }
 
-fn whole(s: u32, n: u32) -> f32 {
+fn whole(s: u32, n: u32) -> f32
+    ensures { λ r. ⌜ r ≡ wholeOf s n ⌝ }
+{
     float32::counts::of_count(below(s, n) as u16)
 }
 
 // By the three numbers after s.
-fn corner(s: u32, x: u32, y: u32, z: u32) -> Vec3 {
+fn corner(s: u32, x: u32, y: u32, z: u32) -> Vec3
+    ensures { λ r. ⌜ r ≡ cornerOf s x y z ⌝ }
+{
     let a = next(s);
     let b = next(a);
     Vec3 {
@@ -56,7 +61,9 @@ fn corner(s: u32, x: u32, y: u32, z: u32) -> Vec3 {
 }
 
 // By the six numbers after s. Whole numbers are added exactly and rounding keeps order: min is at most max.
-pub fn drawn_box(s: u32, shape: Shape) -> Aabb {
+pub fn drawn_box(s: u32, shape: Shape) -> Aabb
+    ensures { λ r. ⌜ r ≡ drawnBox s shape ⌝ }
+{
     let min = math::vec3::vadd_f(corner(s, shape.span, shape.span, shape.depth), -100.0);
     let sides = corner(three_on(s), shape.side, shape.side, shape.side);
     Aabb {

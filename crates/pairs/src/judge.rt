@@ -4,12 +4,11 @@ use crate::lists::is_present;
 use base::numbers::Place;
 use base::numbers::Position;
 use math::aabb::Aabb;
-use std::num::wrapping_add_u64;
 ghost use mathlib.Core.Path.{_≡_};
 ghost use mathlib.Core.Bool.{not, _&&_};
 ghost use Prim.Native.Nat.{_+_, _≤_, _<_};
 ghost use Rattle.base.specs.Lists.{oneIf};
-ghost use Rattle.pairs.specs.Judging.{meetsAt, seenAt, Compared};
+ghost use Rattle.pairs.specs.Judging.{meetsAt, seenAt, countOf, Compared, itemHanded, hadMark, withMark, marks, twiceAt};
 
 // Boxes that meet the query; of those, how many were not handed out; and how many handed out are not present.
 pub struct Met {
@@ -18,12 +17,16 @@ pub struct Met {
     pub stray: u64,
 }
 
-fn position_of(handed: u16) -> Position {
+fn position_of(handed: u16) -> Position
+    ensures { λ r. ⌜ r .0 ≡ handed ⌝ }
+{
     Position(handed as u32)
 }
 
 // A position that is in no order stands for no item.
-fn item_handed(threshold: u32, order: &[u16; 700], position: Position) -> Place {
+fn item_handed(threshold: u32, order: &[u16; 700], position: Position) -> Place
+    ensures { λ r. ⌜ r .0 ≡ itemHanded threshold (now (order .entry)) (position .0) ⌝ }
+{
     let at = position.0;
     if at >= 700 {
         return Place(at);
@@ -31,15 +34,26 @@ fn item_handed(threshold: u32, order: &[u16; 700], position: Position) -> Place 
     tree::pair::item_at(position, threshold, order)
 }
 
-// 1 where the item had its mark already, or is none.
-fn mark(seen: &mut [u8; 700], item: Place) -> u64 {
+// Marks the item, and says whether it had its mark already, or is none.
+fn mark(seen: &mut [u8; 700], item: Place) -> bool
+    ensures { λ r. ⌜ r ≡ hadMark (now (seen .entry)) (item .0) ⌝ }
+    ensures { λ _. ⌜ now (seen .exit) ≡ withMark (now (seen .entry)) (item .0) ⌝ }
+{
     let at = item.0 as usize;
     if at >= 700 {
-        return 1;
+        return true;
     }
     let before = seen[at];
     seen[at] = 1;
-    if before == 0 { 0 } else { 1 }
+    before != 0
+}
+
+// One more, where it is so.
+fn plus_if(n: u64, yes: bool) -> u64
+    requires { ⌜ n < 700 ⌝ }
+    ensures { λ r. ⌜ r ≡ n + oneIf yes ⌝ }
+{
+    if yes { n + 1 } else { n }
 }
 
 // Marks the items of the first positions handed out, and counts those that had their mark.
@@ -51,23 +65,17 @@ pub fn mark_all(
     threshold: u32,
 ) -> u64
     requires { ⌜ handed ≤ 700 ⌝ }
+    ensures { λ r. ⌜ r ≡ countOf (twiceAt threshold (now (order .entry)) (now (out .entry)) (now (seen .entry))) handed ⌝ }
+    ensures { λ _. ⌜ now (seen .exit) ≡ marks threshold (now (order .entry)) (now (out .entry)) (now (seen .entry)) handed ⌝ }
 {
     let mut twice: u64 = 0;
     let mut i = 0;
     while i < handed {
         let item = item_handed(threshold, order, position_of(out[i]));
-        twice = wrapping_add_u64(twice, mark(seen, item));
+        twice = plus_if(twice, mark(seen, item));
         i += 1;
     }
     twice
-}
-
-// One more, where it is so.
-fn plus_if(n: u64, yes: bool) -> u64
-    requires { ⌜ n < 700 ⌝ }
-    ensures { λ r. ⌜ r ≡ n + oneIf yes ⌝ }
-{
-    if yes { n + 1 } else { n }
 }
 
 fn and_not(a: bool, b: bool) -> bool

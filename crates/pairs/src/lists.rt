@@ -11,23 +11,31 @@ use split::boxes::BoxWords;
 ghost use mathlib.Core.Path.{_≡_};
 ghost use Prim.Native.Nat.{_+_, _*_, _≤_, _<_};
 ghost use lib.ListN.{length, getD};
+ghost use lib.Seq.{sets};
+ghost use Rattle.base.specs.Lists.{over};
 ghost use Rattle.split.specs.Boxes.{boxAt};
 ghost use Rattle.bvh.specs.Items.{isMarked};
 ghost use Rattle.tree.specs.Pair.{boxValues};
-ghost use Rattle.pairs.specs.Drawing.{cubeOf};
+ghost use Rattle.pairs.specs.Drawing.{cubeOf, nextOf, threeOn, isAbsent, presenceOf, entryWords, entriesOn, drawnEntries};
+
+fn is_absent(s: u32, absent: u32) -> bool
+    ensures { λ r. ⌜ r ≡ isAbsent s absent ⌝ }
+{
+    absent > 0 && below(s, absent) == 0
+}
 
 // 1 where an entry is present.
-fn presence(s: u32, absent: u32) -> u32 {
-    if absent > 0 && below(s, absent) == 0 {
-        0
-    } else {
-        1
-    }
+fn presence(s: u32, absent: u32) -> u32
+    ensures { λ r. ⌜ r ≡ presenceOf s absent ⌝ }
+{
+    if is_absent(s, absent) { 0 } else { 1 }
 }
 
 // Entry i, from the seven numbers after s; the last of them.
 fn put_entry(entries: &mut [u32], i: usize, shape: Shape, s: u32) -> u32
     requires { ⌜ 7 * i + 7 ≤ length (now entries) ⌝ }
+    ensures { λ r. ⌜ r ≡ threeOn (threeOn (nextOf s)) ⌝ }
+    ensures { λ _. ⌜ now (entries .exit) ≡ sets (now (entries .entry)) (7 * i) (entryWords shape (nextOf s)) ⌝ }
 {
     let at = 7 * i;
     let first = next(s);
@@ -44,9 +52,11 @@ fn put_entry(entries: &mut [u32], i: usize, shape: Shape, s: u32) -> u32
     three_on(three_on(first))
 }
 
-// All entries; the last number drawn.
+// All entries; the last number drawn. What stands behind them is kept.
 pub fn fill(entries: &mut [u32], shape: Shape) -> u32
     requires { ⌜ 7 * shape .n ≤ length (now entries) ⌝ }
+    ensures { λ r. ⌜ r ≡ entriesOn (shape .seed) (shape .n) ⌝ }
+    ensures { λ _. ⌜ now (entries .exit) ≡ over (drawnEntries shape (shape .n)) (now (entries .entry)) ⌝ }
 {
     let mut s = shape.seed;
     let mut i = 0;

@@ -7,10 +7,14 @@ use crate::lists::cube;
 use base::numbers::Place;
 use math::aabb::Aabb;
 use math::vec3::vadd_f;
+ghost use mathlib.Core.Path.{_≡_};
 ghost use Prim.Native.Nat.{_≤_, _<_};
+ghost use Rattle.pairs.specs.Drawing.{belowOf, wideOf, atBox, queryBox};
 
 // Infinite, inverted and infinite, half infinite, with no number, around all boxes, and beyond them.
-fn wide(k: u32, grain: f32) -> Aabb {
+fn wide(k: u32, grain: f32) -> Aabb
+    ensures { λ r. ⌜ r ≡ wideOf k grain ⌝ }
+{
     let infinity = float32::words::value(0x7f80_0000);
     let least = float32::words::value(0xff80_0000);
     let nan = float32::words::value(0x7fc0_0000);
@@ -25,7 +29,9 @@ fn wide(k: u32, grain: f32) -> Aabb {
 }
 
 // An entry's box itself, one that touches its greatest corner and one that touches its least, the box inverted, and each of the two corners.
-fn at_box(k: u32, near: Aabb, grain: f32) -> Aabb {
+fn at_box(k: u32, near: Aabb, grain: f32) -> Aabb
+    ensures { λ r. ⌜ r ≡ atBox k near grain ⌝ }
+{
     let min = near.min;
     let max = near.max;
     match k {
@@ -48,6 +54,7 @@ fn at_box(k: u32, near: Aabb, grain: f32) -> Aabb {
 fn place_of(s: u32, n: usize) -> Place
     requires { ⌜ n ≤ 700 ⌝ }
     ensures { λ r. ⌜ r .0 < 700 ⌝ }
+    ensures { λ r. ⌜ r .0 ≡ belowOf s n ⌝ }
 {
     if n == 0 {
         return Place(0);
@@ -58,6 +65,7 @@ fn place_of(s: u32, n: usize) -> Place
 // Query k: from 12 on a box that is drawn as the list's are.
 pub fn query(k: u32, list: &[u32; 4900], shape: Shape, s: u32) -> Aabb
     requires { ⌜ shape .n ≤ 700 ⌝ }
+    ensures { λ r. ⌜ r ≡ queryBox k (now (list .entry)) shape s ⌝ }
 {
     if k < 6 {
         return wide(k, shape.grain);

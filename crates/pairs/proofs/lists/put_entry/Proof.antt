@@ -1,9 +1,12 @@
--- `lists::put_entry` is safe: the seven words of entry i are there.
+-- `lists::put_entry` meets its contract: the mark and the box behind it are one run of stores.
 use borrow.Author.Needs.{needs}
 use Rattle.pairs.proofs.lists.put_entry.Statement.{statement}
 use Rattle.pairs.proofs.lists.put_entry.Tie as tie
-use mathlib.Core.Path.{_∙_}
+use Prim.Native.Nat.{_*_}
+use mathlib.Core.Path.{ap, _∙_}
 use lib.ListN.{length-set}
+use Rattle.pairs.specs.Drawing.{threeOn}
+use Rattle.pairs.proofs.DrawLaws.{entry-stored}
 use native.Mathlib.Omega.{arith}
 
 mul-at : tie.Need-mul-at
@@ -46,7 +49,16 @@ same-length : tie.Need-same-length
 same-length c = c .before .before .before .before .put-box .kept .0 ∙ simp length-set
 
 returns : tie.Need-returns
-returns c = search needs
+returns c =
+    let put = c .before .before .before .before in
+    let mark = put .before .before .before .before in
+    let drawn = mark .before in
+    let start = drawn .before .before .before .args in
+    let first = drawn .before .next .ensures in (
+      c .three-on2 .ensures ∙ ap threeOn (c .before .three-on .ensures ∙ ap threeOn first),
+      entry-stored (start .shape) (start .entries .now) (7 * start .i) (start .s) first (mark .presence .ensures) (drawn .drawn-box .ensures)
+          (put .before .before .bits .ensures) (put .before .bits2 .ensures) (put .put-box .ensures),
+    )
 
 pub put-entry-spec : {M : Type 1} → statement M
 put-entry-spec =

@@ -1,6 +1,6 @@
--- `run::run` is safe and ends: number counts the lists.
-use Rattle.pairs.proofs.run.run.Statement.{statement}
-use Rattle.pairs.proofs.run.run.Tie as tie
+-- `run` is safe and ends: number counts the lists.
+use Rattle.pairs.proofs.run.Statement.{statement}
+use Rattle.pairs.proofs.run.Tie as tie
 use Prim.Native.Nat.{_-_, _≤_}
 use borrow.Author.Needs.{needs}
 
