@@ -1,6 +1,6 @@
--- `ask::ask_all` is safe and ends: k counts the queries.
-use Rattle.pairs.proofs.ask.ask_all.Statement.{statement}
-use Rattle.pairs.proofs.ask.ask_all.Tie as tie
+-- `ask_all` is safe and ends: k counts the queries.
+use Rattle.pairs.proofs.ask_all.Statement.{statement}
+use Rattle.pairs.proofs.ask_all.Tie as tie
 use Prim.Native.Nat.{_-_, _≤_}
 use borrow.Author.Needs.{needs}
 
