@@ -6,7 +6,8 @@ use mathlib.Core.List.{List, [], _++_, append-nil}
 use mathlib.Core.Path.{_≡_, refl, sym, ap, _∙_, subst}
 use borrow.Author.Tests.{eq-eqb, ne-eqb}
 use lib.ListN.{length, take, drop}
-use lib.Seq.{length-take-le}
+use lib.Seq.{sets, length-take-le}
+use Rattle.base.proofs.StoreLaws.{over-next}
 use Rattle.base.proofs.NumberLaws.{below-wider}
 use Rattle.base.proofs.WithinLaws.{below-within, within-below}
 use Rattle.base.specs.Lists.{Within, over, Below}
@@ -27,7 +28,7 @@ use Rattle.bvh.specs.steps.Core.{NodesWritten, OrderFits, Writable, Writ
 use Rattle.bvh.specs.steps.Decode.{RowsFit, SmallRows}
 use Rattle.bvh.specs.steps.Flat.{Filled, Flat, Scannable, TreesPut}
 use Rattle.bvh.specs.steps.Table.{tableOf, rowAt, rowsIn}
-use Rattle.bvh.proofs.EmitLaws.{padded, length-nodes}
+use Rattle.bvh.proofs.EmitLaws.{length-nodes, length-pad}
 use Rattle.bvh.proofs.FlatLaws.{grow-filled, grown-flat, grown-scannable}
 use Rattle.bvh.proofs.Lawful.{Lawful, lawful}
 use Rattle.bvh.proofs.SmallLaws.{small-rows}
@@ -42,16 +43,18 @@ module _ (s : Scale) (t : Task) (m : ℕ) (order table nodes nodes₁ : List ℕ
   abbrev bytes : List ℕ
   bytes = nodesBytes s (t .threshold) order (rowsIn m table)
 
-  pub nodes-padded : (nodes₂ : List ℕ) → t .threshold ≡ 1 → m ≤ 2 * t .n + 1
-      → nodes₂ ≡ take (16 * m) nodes₁ ++ (padBytes (2 * t .n + 1 - m) ++ drop (16 * (2 * t .n + 1)) nodes₁)
+  pub nodes-padded : (nodes₂ : List ℕ) → t .threshold ≡ 1 → m ≤ 2 * t .n + 1 → 16 * (2 * t .n + 1) ≤ length nodes
+      → nodes₂ ≡ sets nodes₁ (16 * m) (padBytes (2 * t .n + 1 - m))
       → NodesWritten s t m order table nodes nodes₂ (2 * t .n + 1)
-  nodes-padded nodes₂ one h pad =
-      let all : ℕ = 2 * t .n + 1 in
+  nodes-padded nodes₂ one h room pad =
+      let padding : List ℕ = padBytes (2 * t .n + 1 - m) in
       let long : length bytes ≡ 16 * m = length-nodes s (t .threshold) order (rowsIn m table) ∙ ap (λ (k : ℕ). 16 * k) (length-rows-in m table) in
       record {
         capacity-is = rw (eq-eqb (t .threshold) 1 one);
         bytes-are =
-            pad ∙ ap (λ (l : List ℕ). take (16 * m) l ++ (padBytes (all - m) ++ drop (16 * all) l)) put ∙ padded bytes nodes m all long h;
+            pad
+            ∙ ap (λ (l : List ℕ). sets l (16 * m) padding) put
+            ∙ over-next bytes padding nodes (16 * m) long (omega (arith, length-pad (2 * t .n + 1 - m)));
       }
 
   pub nodes-bare : ¬ (t .threshold ≡ 1) → NodesWritten s t m order table nodes nodes₁ m
