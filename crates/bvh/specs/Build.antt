@@ -14,10 +14,11 @@ use Rattle.bvh.specs.declared.core.BuildRefusal.{BuildRefusal}
 use Rattle.bvh.specs.declared.core.BuildRefusal.the-variants.{TooManyEntries, ThresholdOutside, BufferTooShort, TooManyNodes}
 use Rattle.bvh.specs.declared.core.BuiltTree.{BuiltTree}
 use Rattle.bvh.specs.declared.core.Lengths.{Lengths}
-use Rattle.bvh.specs.Tree.{Node, grow, builder, boxOf, leafOrder, size}
-use Rattle.bvh.specs.Rows.{rows}
-use Rattle.bvh.specs.Ranges.{ranges, rangeLimit}
-use Rattle.bvh.specs.Output.{nodesBytes, padBytes, capacityOf, treesBytes, orderOf}
+use Rattle.rows.specs.Tree.{Node, boxOf, leafOrder, size}
+use Rattle.growth.specs.Grow.{grow, builder}
+use Rattle.rows.specs.Rows.{rows}
+use Rattle.rows.specs.Ranges.{ranges, rangeLimit}
+use Rattle.rows.specs.Output.{nodesBytes, padBytes, capacityOf, treesBytes, orderOf}
 
 -- What a build is of: the entries' number, the box at each place, and the places of the present ones.
 pub record Entries : Type 0 where

@@ -1,10 +1,5 @@
 pub mod Build
 pub mod Entry
 pub mod Items
-pub mod Numbers
-pub mod Output
 pub mod Promises
-pub mod Ranges
-pub mod Rows
-pub mod Tree
 pub mod steps

@@ -1,6 +1,2 @@
 pub mod Core
-pub mod Decode
-pub mod Flat
-pub mod Laid
-pub mod Sizes
-pub mod Table
+pub mod Gather

@@ -1,8 +1,8 @@
 // The build on plain slices: the checks, the tree in the work buffers, and last the outputs, so that a refusal changes none of them.
 // The work buffer is lent in four parts, since two parts of one slice cannot be lent at once.
-use crate::ranges::RANGE_LIMIT;
 use math::words3::Words3;
 use records::scale::Scale;
+use rows::ranges::RANGE_LIMIT;
 ghost use mathlib.Core.Path.{_≡_};
 ghost use Prim.Native.Nat.{_+_, _*_, _≤_, _<_};
 ghost use lib.ListN.{length, take};
@@ -10,9 +10,9 @@ ghost use Rattle.base.specs.Lists.{over};
 ghost use Rattle.bvh.specs.Build.{short};
 ghost use Rattle.bvh.specs.Entry.{entriesIn, outputs, lent, lengthsOf, Answered};
 ghost use Rattle.bvh.specs.Items.{marked};
-ghost use Rattle.bvh.specs.Output.{orderOf};
+ghost use Rattle.rows.specs.Output.{orderOf};
 ghost use Rattle.bvh.specs.steps.Core.{NodesWritten, OrderFits, WorkRoom, TreePlanted, Writable, Written};
-ghost use Rattle.bvh.specs.steps.Decode.{RowsFit};
+ghost use Rattle.rows.specs.steps.Decode.{RowsFit};
 
 pub struct BuiltTree {
     pub nodes: usize,
@@ -105,10 +105,10 @@ fn write_nodes(
     ensures { λ r. ⌜ NodesWritten scale task m (now («leaf_order» .entry)) (now (rows .entry)) (now («node_bytes» .entry))
         (now («node_bytes» .exit)) r ⌝ }
 {
-    crate::emit::put_nodes(node_bytes, rows, m, leaf_order, scale, task.threshold);
+    rows::emit::put_nodes(node_bytes, rows, m, leaf_order, scale, task.threshold);
     if task.threshold == 1 {
         let capacity = 2 * task.n + 1;
-        crate::emit::pad_nodes(node_bytes, m, capacity);
+        rows::emit::pad_nodes(node_bytes, m, capacity);
         return capacity;
     }
     m
@@ -122,9 +122,9 @@ fn write_order(order: &mut [u16], entries: &[u32], leaf_order: &[u32], temp: &mu
 {
     if task.threshold == 1 {
         let k = crate::items::gather(entries, task.n, temp);
-        crate::emit::put_order(order, &temp[..k]);
+        rows::emit::put_order(order, &temp[..k]);
     } else {
-        crate::emit::put_order(order, leaf_order);
+        rows::emit::put_order(order, leaf_order);
     }
 }
 
@@ -141,7 +141,7 @@ fn plant(
     ensures { λ r. ⌜ TreePlanted task (now (entries .entry)) (now (places .exit)) (now (rows .exit)) r ⌝ }
 {
     let k = crate::items::gather(entries, task.n, places);
-    let m = crate::grow::grow_tree(&mut places[..k], temp, entries, stack, rows, task.threshold);
+    let m = growth::grow::grow_tree(&mut places[..k], temp, entries, stack, rows, task.threshold);
     Planted {
         present: k,
         nodes: m,
@@ -168,12 +168,12 @@ fn write_tree(
 {
     let m = planted.nodes;
     let k = planted.present;
-    let all = crate::rows::row_box(rows, 0);
+    let all = rows::table::row_box(rows, 0);
     let min = all.min;
     let max = all.max;
     let scale = records::scale::scale_of(min, max);
     let capacity = write_nodes(node_bytes, rows, m, &places[..k], scale, task);
-    let parts = crate::ranges::put_trees(tree_bytes, rows, m, scale, RANGE_LIMIT);
+    let parts = rows::ranges::put_trees(tree_bytes, rows, m, scale, RANGE_LIMIT);
     write_order(order, entries, &places[..k], temp, task);
     BuiltTree {
         nodes: m,

@@ -5,7 +5,7 @@ ghost use Prim.Native.Nat.{_*_, _≤_, _<_};
 ghost use lib.ListN.{length};
 ghost use Rattle.base.specs.Lists.{oneIf};
 ghost use Rattle.bvh.specs.Items.{isMarked};
-ghost use Rattle.bvh.specs.steps.Decode.{Gathered};
+ghost use Rattle.bvh.specs.steps.Gather.{Gathered};
 
 // An entry: a mark, 0 for absent, and a box, in the place of the source's `Option`. It is known by its place in the list.
 // Seven words without padding: every pattern of bits has a meaning.

@@ -17,8 +17,8 @@ use Rattle.records.specs.declared.BoundVertex.{BoundVertex}
 use Rattle.split.specs.Folding.{foldBox}
 use Rattle.split.specs.Rule.{averageOf, below, above, countBelow, axisOf, chosen, groupOne, groupTwo, twoLeads, firstOf, secondOf}
 use Rattle.bvh.specs.Build.{treeOf}
-use Rattle.bvh.specs.Output.{nodeOf, treeRecord}
-use Rattle.bvh.specs.Tree.{growF, grow}
+use Rattle.rows.specs.Output.{nodeOf, treeRecord}
+use Rattle.growth.specs.Grow.{growF, grow}
 use Rattle.listing.specs.Lines.{nodeLine, recordLine, vertexFields, countsLine, refusedLine, treeLine}
 use Rattle.listing.specs.Listing.{boxesText, childrenOf, nodesOf, treesOf, listingOf}
 use Rattle.listing.specs.Reading.{cornerAt, childBox}

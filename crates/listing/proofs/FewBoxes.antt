@@ -17,17 +17,18 @@ use Rattle.bvh.specs.declared.core.BuildRefusal.{BuildRefusal}
 use Rattle.bvh.specs.declared.core.BuiltTree.{BuiltTree}
 use Rattle.bvh.specs.declared.core.Lengths.{Lengths}
 use Rattle.bvh.specs.Build.{Entries, treeOf, builtOf, short, answerOf, kept, nodesWritten, treesWritten}
-use Rattle.bvh.specs.steps.Decode.{SmallRows}
+use Rattle.rows.specs.steps.Decode.{SmallRows}
 use Rattle.bvh.specs.Entry.{Answered, Outputs}
-use Rattle.bvh.specs.Output.{capacityOf}
-use Rattle.bvh.specs.Ranges.{ranges, rangeLimit}
-use Rattle.bvh.specs.steps.Decode.{SmallRows}
-use Rattle.bvh.specs.Rows.{rows}
-use Rattle.bvh.specs.Tree.{builder, grow, leafOrder, size}
-use Rattle.bvh.proofs.Lawful.{lawful}
-use Rattle.bvh.proofs.RangeLaws.{ranges-few}
-use Rattle.bvh.proofs.SmallLaws.{small-rows}
-use Rattle.bvh.proofs.TreeLaws.{grow-leaf, size-most, leaf-order-length, leaf-order-within}
+use Rattle.rows.specs.Output.{capacityOf}
+use Rattle.rows.specs.Ranges.{ranges, rangeLimit}
+use Rattle.rows.specs.steps.Decode.{SmallRows}
+use Rattle.rows.specs.Rows.{rows}
+use Rattle.growth.specs.Grow.{builder, grow}
+use Rattle.rows.specs.Tree.{leafOrder, size}
+use Rattle.growth.proofs.Lawful.{lawful}
+use Rattle.rows.proofs.RangeLaws.{ranges-few}
+use Rattle.rows.proofs.SmallLaws.{small-rows}
+use Rattle.growth.proofs.GrowLaws.{grow-leaf, size-most, leaf-order-length, leaf-order-within}
 use Rattle.listing.specs.Lines.{countsLine, recordsText}
 use Rattle.listing.specs.Listing.{childrenOf, listingOf}
 use Rattle.listing.proofs.Records.{node-lines, tree-lines}

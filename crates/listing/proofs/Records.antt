@@ -12,15 +12,15 @@ use Rattle.records.proofs.Fitting.{quantise-fits}
 use Rattle.records.proofs.ReadBack.{node-back, tree-back}
 use Rattle.records.proofs.Sizes.{node-bytes, tree-bytes}
 use Rattle.bvh.specs.Build.{Entries, treeOf, nodesWritten, treesWritten, scaleIn}
-use Rattle.bvh.specs.steps.Decode.{SmallRows}
-use Rattle.bvh.specs.Numbers.{RisingRanges}
-use Rattle.bvh.specs.Output.{nodeOf, nodesBytes, padBytes, capacityOf, treeRecord, treesBytes}
-use Rattle.bvh.specs.Ranges.{Range, ranges, rangeLimit}
-use Rattle.bvh.specs.Output.{nodeOf, nodesBytes, padBytes, capacityOf, treeRecord, treesBytes}
-use Rattle.bvh.specs.Rows.{Row, rows}
-use Rattle.bvh.specs.Tree.{leafOrder, size}
-use Rattle.bvh.proofs.RangeLaws.{ranges-rise, rising-ends}
-use Rattle.bvh.proofs.TreeLaws.{length-rows}
+use Rattle.rows.specs.steps.Decode.{SmallRows}
+use Rattle.rows.specs.Numbers.{RisingRanges}
+use Rattle.rows.specs.Output.{nodeOf, nodesBytes, padBytes, capacityOf, treeRecord, treesBytes}
+use Rattle.rows.specs.Ranges.{Range, ranges, rangeLimit}
+use Rattle.rows.specs.Output.{nodeOf, nodesBytes, padBytes, capacityOf, treeRecord, treesBytes}
+use Rattle.rows.specs.Rows.{Row, rows}
+use Rattle.rows.specs.Tree.{leafOrder, size}
+use Rattle.rows.proofs.RangeLaws.{ranges-rise, rising-ends}
+use Rattle.rows.proofs.TreeLaws.{length-rows}
 use Rattle.listing.specs.Lines.{nodeLine, treeLine, nodeLines, treeLines}
 use Rattle.listing.specs.Listing.{nodesOf, treesOf, numbered}
 use Rattle.listing.proofs.Numbered.{joined, Each, reads-back, lines-numbered}

@@ -10,10 +10,10 @@ use Rattle.io.specs.Counts.{Counts}
 use Rattle.records.specs.declared.BvhNode.{BvhNode}
 use Rattle.records.specs.declared.BvhTree.{BvhTree}
 use Rattle.bvh.specs.Build.{Entries, treeOf, scaleIn}
-use Rattle.bvh.specs.Output.{nodeOf, treeRecord, capacityOf}
-use Rattle.bvh.specs.Ranges.{ranges, rangeLimit}
-use Rattle.bvh.specs.Rows.{rows}
-use Rattle.bvh.specs.Tree.{Node, leafOrder, size}
+use Rattle.rows.specs.Output.{nodeOf, treeRecord, capacityOf}
+use Rattle.rows.specs.Ranges.{ranges, rangeLimit}
+use Rattle.rows.specs.Rows.{rows}
+use Rattle.rows.specs.Tree.{Node, leafOrder, size}
 use Rattle.listing.specs.Lines.{nodeLine, treeLine, countsLine, refusedLine}
 use Rattle.listing.specs.Reading.{childBox}
 

@@ -9,7 +9,7 @@ use Rattle.base.specs.Lists.{oneIf}
 use Rattle.math.specs.declared.aabb.Aabb.{Aabb}
 use Rattle.split.specs.Boxes.{boxAt}
 use Rattle.bvh.specs.Items.{isMarked}
-use Rattle.bvh.specs.Promises.{itemAt}
+use Rattle.rows.specs.Positions.{itemAt}
 use Rattle.walk.specs.Boxes.{meetsBox}
 use Rattle.tree.specs.Pair.{boxValues}
 use Rattle.pairs.specs.declared.judge.Met.{Met}

@@ -20,7 +20,7 @@ use Rattle.bvh.specs.Build.{Entries, treeOf, builtOf, refusalNumber, numberOf, 
 use Rattle.bvh.specs.declared.items.BvhItem.{BvhItem}
 use Rattle.bvh.specs.Entry.{entriesIn, entriesOf}
 use Rattle.bvh.specs.Items.{wordsOf, present, isMarked, marked}
-use Rattle.bvh.specs.Tree.{size}
+use Rattle.rows.specs.Tree.{size}
 use Rattle.bvh.proofs.MarkedLaws.{marked-present, marked-below, marked-rising}
 use Rattle.tree.proofs.PairLaws.{Stands}
 

@@ -9,9 +9,10 @@ use Rattle.base.proofs.ListLaws.{occurs-append}
 use Rattle.base.specs.Lists.{occurrences, Permutes}
 use Rattle.split.specs.Folding.{foldBox}
 use Rattle.split.specs.declared.boxes.BoxWords.{BoxWords}
-use Rattle.bvh.specs.Tree.{Node, inner, Builder, builder, grow, leafOrder}
-use Rattle.bvh.proofs.Lawful.{Lawful, lawful}
-use Rattle.bvh.proofs.TreeLaws.{grow-induction}
+use Rattle.rows.specs.Tree.{Node, inner, leafOrder}
+use Rattle.growth.specs.Grow.{Builder, builder, grow}
+use Rattle.growth.proofs.Lawful.{Lawful, lawful}
+use Rattle.growth.proofs.GrowLaws.{grow-induction}
 use Rattle.tree.specs.Visit.{Hits}
 
 -- each place of the list is good

@@ -19,13 +19,13 @@ use Rattle.records.specs.declared.BvhTree.{BvhTree}
 use Rattle.records.specs.declared.scale.Scale.{Scale}
 use Rattle.records.specs.Records.{treeAt}
 use Rattle.split.specs.declared.boxes.BoxWords.{BoxWords}
-use Rattle.bvh.specs.steps.Decode.{Small}
-use Rattle.bvh.specs.Output.{idOf, nodeOf, nodesBytes, treeRecord, treesBytes}
-use Rattle.bvh.specs.Ranges.{Range, Subtree, parts, rangeOf, ranges}
-use Rattle.bvh.specs.Rows.{Row, rows}
-use Rattle.bvh.specs.Tree.{Node, leaf, inner, boxOf, leafOrder, size}
-use Rattle.bvh.proofs.RangeLaws.{size-some, parts-induction}
-use Rattle.bvh.proofs.TreeLaws.{length-rows}
+use Rattle.rows.specs.steps.Decode.{Small}
+use Rattle.rows.specs.Output.{idOf, nodeOf, nodesBytes, treeRecord, treesBytes}
+use Rattle.rows.specs.Ranges.{Range, Subtree, parts, rangeOf, ranges}
+use Rattle.rows.specs.Rows.{Row, rows}
+use Rattle.rows.specs.Tree.{Node, leaf, inner, boxOf, leafOrder, size}
+use Rattle.rows.proofs.RangeLaws.{size-some, parts-induction}
+use Rattle.rows.proofs.TreeLaws.{length-rows}
 use Rattle.walk.specs.Refusals.{badRange, badNode}
 use Rattle.walk.specs.Step.{Lent, Turn, more, stepOf, atNode, atTree, handing, quiet, onward, passing, strideOf, started}
 use Rattle.walk.specs.Walks.{joined, walkFrom}

@@ -22,20 +22,23 @@ use Rattle.split.specs.Folding.{foldBox}
 use Rattle.split.specs.declared.boxes.BoxWords.{BoxWords}
 use Rattle.bvh.specs.Build.{Entries, treeOf, scaleIn, builtOf, nodesWritten, treesWritten}
 use Rattle.bvh.specs.Entry.{outputs}
-use Rattle.bvh.specs.steps.Decode.{Small, SmallRows}
-use Rattle.bvh.specs.steps.Flat.{Full, Filled}
-use Rattle.bvh.specs.Output.{nodesBytes, padBytes, treesBytes, capacityOf}
-use Rattle.bvh.specs.Promises.{itemAt}
-use Rattle.bvh.specs.Ranges.{parts, ranges, rangeLimit}
-use Rattle.bvh.specs.Rows.{Row, rows}
-use Rattle.bvh.specs.Tree.{Node, leaf, inner, Builder, builder, grow, boxOf, leafOrder, size}
-use Rattle.bvh.proofs.EmitLaws.{length-nodes}
-use Rattle.bvh.proofs.FlatLaws.{grow-filled, length-trees}
-use Rattle.bvh.proofs.Lawful.{Lawful, lawful}
-use Rattle.bvh.proofs.Promises.{rows-at-most}
-use Rattle.bvh.proofs.RangeLaws.{ranges-few}
-use Rattle.bvh.proofs.SmallLaws.{small-rows}
-use Rattle.bvh.proofs.TreeLaws.{AtMost, grow-induction, grow-at-most, grow-full, leaf-order-permutes, leaf-order-length, leaf-order-within, length-rows}
+use Rattle.rows.specs.steps.Decode.{Small, SmallRows}
+use Rattle.rows.specs.steps.Flat.{Full, Filled}
+use Rattle.rows.specs.Output.{nodesBytes, padBytes, treesBytes, capacityOf}
+use Rattle.rows.specs.Positions.{itemAt}
+use Rattle.rows.specs.Ranges.{parts, ranges, rangeLimit}
+use Rattle.rows.specs.Rows.{Row, rows}
+use Rattle.rows.specs.Tree.{Node, leaf, inner, boxOf, leafOrder, size}
+use Rattle.growth.specs.Grow.{Builder, builder, grow}
+use Rattle.rows.proofs.EmitLaws.{length-nodes}
+use Rattle.growth.proofs.GrowLaws.{grow-filled}
+use Rattle.rows.proofs.FlatLaws.{length-trees}
+use Rattle.growth.proofs.Lawful.{Lawful, lawful}
+use Rattle.rows.proofs.PositionLaws.{rows-at-most}
+use Rattle.rows.proofs.RangeLaws.{ranges-few}
+use Rattle.rows.proofs.SmallLaws.{small-rows}
+use Rattle.rows.proofs.TreeLaws.{AtMost, length-rows}
+use Rattle.growth.proofs.GrowLaws.{grow-induction, grow-at-most, grow-full, leaf-order-permutes, leaf-order-length, leaf-order-within}
 use Rattle.walk.specs.Boxes.{queryOf, meetsBox}
 use Rattle.walk.specs.Step.{Lent, started}
 use Rattle.walk.specs.Walks.{Outcome, walkOf, walkFrom, ended, statusNumber, unread}

@@ -11,12 +11,12 @@ use Rattle.records.specs.Records.{nodeBytes, treeBytes, nodeAt, treeAt, NodeFit
 use Rattle.records.proofs.Fitting.{quantise-fits}
 use Rattle.records.proofs.ReadBack.{node-back, tree-back}
 use Rattle.base.proofs.StoreLaws.{cut-at}
-use Rattle.bvh.specs.steps.Decode.{Small}
-use Rattle.bvh.specs.Output.{nodeOf, nodesBytes, treeRecord, treesBytes}
-use Rattle.bvh.specs.Ranges.{Range}
-use Rattle.bvh.specs.Rows.{Row}
-use Rattle.bvh.proofs.EmitLaws.{length-nodes, nodes-append}
-use Rattle.bvh.proofs.FlatLaws.{length-trees, trees-append}
+use Rattle.rows.specs.steps.Decode.{Small}
+use Rattle.rows.specs.Output.{nodeOf, nodesBytes, treeRecord, treesBytes}
+use Rattle.rows.specs.Ranges.{Range}
+use Rattle.rows.specs.Rows.{Row}
+use Rattle.rows.proofs.EmitLaws.{length-nodes, nodes-append}
+use Rattle.rows.proofs.FlatLaws.{length-trees, trees-append}
 
 pub small-signed : (n : ℕ) → n < 32768 → SFits w16 (pos n)
 small-signed n h = record { sfits = h }

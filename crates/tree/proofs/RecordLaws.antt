@@ -20,15 +20,17 @@ use Rattle.records.specs.declared.BvhTree.{BvhTree}
 use Rattle.records.specs.declared.scale.Scale.{Scale}
 use Rattle.bvh.specs.Build.{Entries, treeOf, scaleIn, builtOf, nodesWritten, treesWritten, orderWritten}
 use Rattle.bvh.specs.Entry.{Outputs, outputs}
-use Rattle.bvh.specs.Numbers.{rangesHolding, subtrees}
-use Rattle.bvh.specs.Output.{idOf, nodeOf, nodesBytes, padBytes, treeRecord, treesBytes, capacityOf, orderOf}
-use Rattle.bvh.specs.Promises.{itemAt, itemsIn, itemsOf}
-use Rattle.bvh.specs.Ranges.{Range, Subtree, ranges, rangeLimit}
-use Rattle.bvh.specs.Rows.{Row, rows}
-use Rattle.bvh.specs.Tree.{Node, leaf, inner, builder, grow, leafOrder, size}
-use Rattle.bvh.proofs.Promises.{well-grown, rows-at-most}
-use Rattle.bvh.proofs.RangeLaws.{range-is-subtree, range-size, subtree-within, small-held-once, numbers-are, subtree-rows}
-use Rattle.bvh.proofs.TreeLaws.{length-rows}
+use Rattle.rows.specs.Numbers.{rangesHolding, subtrees}
+use Rattle.rows.specs.Output.{idOf, nodeOf, nodesBytes, padBytes, treeRecord, treesBytes, capacityOf, orderOf}
+use Rattle.rows.specs.Positions.{itemAt, itemsIn, itemsOf}
+use Rattle.rows.specs.Ranges.{Range, Subtree, ranges, rangeLimit}
+use Rattle.rows.specs.Rows.{Row, rows}
+use Rattle.rows.specs.Tree.{Node, leaf, inner, leafOrder, size}
+use Rattle.growth.specs.Grow.{builder, grow}
+use Rattle.bvh.proofs.Promises.{well-grown}
+use Rattle.rows.proofs.PositionLaws.{rows-at-most}
+use Rattle.rows.proofs.RangeLaws.{range-is-subtree, range-size, subtree-within, small-held-once, numbers-are, subtree-rows}
+use Rattle.rows.proofs.TreeLaws.{length-rows}
 use Rattle.walk.specs.Boxes.{queryOf, meets}
 use Rattle.walk.specs.Refusals.{whole}
 use Rattle.tree.specs.Pair.{outcomeOf, Delivered}

@@ -14,14 +14,14 @@ use Rattle.base.proofs.ListLaws.{occurs-append}
 use Rattle.base.specs.Lists.{occurrences, upFrom}
 use Rattle.split.specs.declared.boxes.BoxWords.{BoxWords}
 use Rattle.base.proofs.NumberLaws.{length-up, up-within}
-use Rattle.bvh.specs.Output.{idOf}
-use Rattle.bvh.specs.Promises.{itemAt}
-use Rattle.bvh.specs.Ranges.{Subtree, parts, rangeOf, ranges}
-use Rattle.bvh.specs.Rows.{Row, rows}
-use Rattle.bvh.specs.Tree.{Node, leaf, inner, boxOf, leafOrder, size}
-use Rattle.bvh.proofs.Promises.{leaf-items}
-use Rattle.bvh.proofs.RangeLaws.{parts-induction}
-use Rattle.bvh.proofs.TreeLaws.{AtMost}
+use Rattle.rows.specs.Output.{idOf}
+use Rattle.rows.specs.Positions.{itemAt}
+use Rattle.rows.specs.Ranges.{Subtree, parts, rangeOf, ranges}
+use Rattle.rows.specs.Rows.{Row, rows}
+use Rattle.rows.specs.Tree.{Node, leaf, inner, boxOf, leafOrder, size}
+use Rattle.rows.proofs.PositionLaws.{leaf-items}
+use Rattle.rows.proofs.RangeLaws.{parts-induction}
+use Rattle.rows.proofs.TreeLaws.{AtMost}
 use Rattle.tree.specs.Visit.{visit, visitReads, visitParts, rangeReads, partReads, Hits, FromHit}
 
 -- ---- lists

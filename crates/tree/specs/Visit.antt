@@ -9,10 +9,10 @@ use Rattle.math.specs.declared.aabb.Aabb.{Aabb}
 use Rattle.records.specs.Quantise.{quantiseOf}
 use Rattle.records.specs.declared.scale.Scale.{Scale}
 use Rattle.split.specs.declared.boxes.BoxWords.{BoxWords}
-use Rattle.bvh.specs.Output.{idOf}
-use Rattle.bvh.specs.Ranges.{Subtree}
-use Rattle.bvh.specs.Rows.{Row}
-use Rattle.bvh.specs.Tree.{Node, leaf, inner, boxOf, leafOrder}
+use Rattle.rows.specs.Output.{idOf}
+use Rattle.rows.specs.Ranges.{Subtree}
+use Rattle.rows.specs.Rows.{Row}
+use Rattle.rows.specs.Tree.{Node, leaf, inner, boxOf, leafOrder}
 use Rattle.walk.specs.Boxes.{queryOf, meets}
 use Rattle.walk.specs.declared.boxes.Query.{Query}
 

@@ -13,7 +13,7 @@ use Rattle.records.specs.declared.BvhTree.{BvhTree}
 use Rattle.bvh.specs.declared.core.BuiltTree.{BuiltTree}
 use Rattle.bvh.specs.Build.{Entries}
 use Rattle.bvh.specs.Entry.{Outputs}
-use Rattle.bvh.specs.Promises.{itemAt}
+use Rattle.rows.specs.Positions.{itemAt}
 use Rattle.walk.specs.Boxes.{meets}
 use Rattle.walk.specs.Refusals.{whole}
 use Rattle.walk.specs.declared.boxes.Query.{Query}

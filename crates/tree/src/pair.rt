@@ -13,7 +13,7 @@ ghost use lib.ListN.{length, take};
 ghost use lib.Dec.{eqb};
 ghost use mathlib.Core.Bool.{false};
 ghost use Rattle.bvh.specs.Entry.{entriesIn, outputs, lent};
-ghost use Rattle.bvh.specs.Promises.{itemAt};
+ghost use Rattle.rows.specs.Positions.{itemAt};
 ghost use Rattle.tree.specs.Pair.{Paired};
 ghost use Rattle.tree.specs.WellFormed.{countFor};
 

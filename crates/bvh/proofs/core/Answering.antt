@@ -21,7 +21,8 @@ use Rattle.bvh.specs.declared.core.Task.{Task}
 use Rattle.bvh.specs.Build.{Entries, short, answerOf, treeOf}
 use Rattle.bvh.specs.Entry.{Outputs, Lent, lent, entriesIn, lengthsOf, Answered}
 use Rattle.bvh.specs.Items.{marked}
-use Rattle.bvh.specs.Tree.{builder, grow, size}
+use Rattle.growth.specs.Grow.{builder, grow}
+use Rattle.rows.specs.Tree.{size}
 use Rattle.bvh.specs.steps.Core.{WorkRoom, TreePlanted, Writable, Written}
 
 -- ---- the buffers

@@ -13,10 +13,10 @@ use Rattle.split.specs.Boxes.{boxAt}
 use Rattle.bvh.specs.declared.core.Task.{Task}
 use Rattle.bvh.specs.Entry.{lent}
 use Rattle.bvh.specs.Items.{marked}
-use Rattle.bvh.specs.Tree.{builder}
+use Rattle.growth.specs.Grow.{builder}
 use Rattle.bvh.specs.steps.Core.{WorkRoom, TreePlanted}
-use Rattle.bvh.specs.steps.Decode.{Gathered}
-use Rattle.bvh.specs.steps.Laid.{Room, Grown}
+use Rattle.bvh.specs.steps.Gather.{Gathered}
+use Rattle.growth.specs.steps.Laid.{Room, Grown}
 use Rattle.bvh.proofs.MarkedLaws.{marked-below}
 
 -- the marked places are below the number of entries

@@ -20,20 +20,22 @@ use Rattle.bvh.specs.declared.core.Task.{Task}
 use Rattle.bvh.specs.Build.{scaleIn, treeOf, nodesWritten, treesWritten, orderWritten}
 use Rattle.bvh.specs.Entry.{Outputs, entriesIn}
 use Rattle.bvh.specs.Items.{marked}
-use Rattle.bvh.specs.Output.{nodesBytes, padBytes, capacityOf, treesBytes, orderOf}
-use Rattle.bvh.specs.Ranges.{ranges, rangeLimit}
-use Rattle.bvh.specs.Rows.{rows}
-use Rattle.bvh.specs.Tree.{Node, leaf, inner, Builder, builder, grow, boxOf, leafOrder, size}
+use Rattle.rows.specs.Output.{nodesBytes, padBytes, capacityOf, treesBytes, orderOf}
+use Rattle.rows.specs.Ranges.{ranges, rangeLimit}
+use Rattle.rows.specs.Rows.{rows}
+use Rattle.rows.specs.Tree.{Node, leaf, inner, boxOf, leafOrder, size}
+use Rattle.growth.specs.Grow.{Builder, builder, grow}
 use Rattle.bvh.specs.steps.Core.{NodesWritten, OrderFits, Writable, Written}
-use Rattle.bvh.specs.steps.Decode.{RowsFit, SmallRows}
-use Rattle.bvh.specs.steps.Flat.{Filled, Flat, Scannable, TreesPut}
-use Rattle.bvh.specs.steps.Table.{tableOf, rowAt, rowsIn}
-use Rattle.bvh.proofs.EmitLaws.{length-nodes, length-pad}
-use Rattle.bvh.proofs.FlatLaws.{grow-filled, grown-flat, grown-scannable}
-use Rattle.bvh.proofs.Lawful.{Lawful, lawful}
-use Rattle.bvh.proofs.SmallLaws.{small-rows}
-use Rattle.bvh.proofs.TableLaws.{length-rows-in, table-is, rows-held}
-use Rattle.bvh.proofs.TreeLaws.{leaf-order-within, grow-full, length-rows}
+use Rattle.rows.specs.steps.Decode.{RowsFit, SmallRows}
+use Rattle.rows.specs.steps.Flat.{Filled, Flat, Scannable, TreesPut}
+use Rattle.rows.specs.steps.Table.{tableOf, rowAt, rowsIn}
+use Rattle.rows.proofs.EmitLaws.{length-nodes, length-pad}
+use Rattle.growth.proofs.GrowLaws.{grow-filled, grown-flat, grown-scannable}
+use Rattle.growth.proofs.Lawful.{Lawful, lawful}
+use Rattle.rows.proofs.SmallLaws.{small-rows}
+use Rattle.rows.proofs.TableLaws.{length-rows-in, table-is, rows-held}
+use Rattle.growth.proofs.GrowLaws.{leaf-order-within, grow-full}
+use Rattle.rows.proofs.TreeLaws.{length-rows}
 use Rattle.bvh.proofs.core.Planting.{marks-below}
 
 -- ---- the node records and the padding

@@ -12,10 +12,10 @@ use Rattle.bvh.specs.declared.core.Task.{Task}
 use Rattle.bvh.specs.Build.{Entries, treeOf, builtOf, nodesWritten, treesWritten, orderWritten}
 use Rattle.bvh.specs.Entry.{Outputs, Lent}
 use Rattle.bvh.specs.Items.{marked}
-use Rattle.bvh.specs.Output.{nodesBytes, padBytes, capacityOf}
-use Rattle.bvh.specs.Tree.{builder}
-use Rattle.bvh.specs.steps.Laid.{Grown}
-use Rattle.bvh.specs.steps.Table.{rowsIn}
+use Rattle.rows.specs.Output.{nodesBytes, padBytes, capacityOf}
+use Rattle.growth.specs.Grow.{builder}
+use Rattle.growth.specs.steps.Laid.{Grown}
+use Rattle.rows.specs.steps.Table.{rowsIn}
 
 -- The records of m rows of the table and the padding behind them, r records in all.
 pub record NodesWritten (s : Scale) (t : Task) (m : ℕ) (order table nodes nodes′ : List ℕ) (r : ℕ) : Type 0 where

@@ -1,0 +1,117 @@
+// The tree of a list of places, laid out as rows in preorder. Segment after segment is taken from a stack, since hostile boxes make trees too
+// deep to recurse.
+use rows::table::put_row;
+ghost use mathlib.Core.Path.{_≡_};
+ghost use Prim.Native.Nat.{_+_, _-_, _*_, _≤_, _<_};
+ghost use lib.ListN.{length, set};
+ghost use Rattle.base.specs.Lists.{Within};
+ghost use Rattle.split.specs.Boxes.{boxAt};
+ghost use Rattle.split.specs.Folding.{foldBox};
+ghost use Rattle.split.specs.Plain.{Plain};
+ghost use Rattle.growth.specs.Grow.{builder};
+ghost use Rattle.growth.specs.steps.Laid.{Room, InnerPut, Laid, Grown};
+ghost use Rattle.rows.specs.steps.Table.{withRow};
+
+// Row m of a leaf: the box of its places, the position of the first, and how many they are.
+fn put_leaf(rows: &mut [u32], m: usize, entries: &[u32], places: &[u32], lo: usize, plain: bool)
+    requires { ⌜ (8 * m + 8 ≤ length (now rows)) × (Within (length (now entries)) (now places)) × (lo < 65536) × (length (now places) < 65536)
+        × (Plain plain (now entries)) ⌝ }
+    ensures { λ _. ⌜ now (rows .exit) ≡ withRow m (record {
+      box = foldBox (boxAt (now (entries .entry))) (now (places .entry));
+      head = lo;
+      count = length (now (places .entry));
+    }) (now (rows .entry)) ⌝ }
+{
+    let around = split::fold::fold_box(entries, places, plain);
+    put_row(rows, m, around, lo, places.len());
+}
+
+// Row m of an inner node, whose places are split. Their box is that of before the split, which permutes them: with a NaN the order decides.
+fn put_inner(
+    places: &mut [u32],
+    temp: &mut [u32],
+    entries: &[u32],
+    rows: &mut [u32],
+    m: usize,
+    plain: bool,
+) -> usize
+    requires { ⌜ (8 * m + 8 ≤ length (now rows)) × (2 ≤ length (now places)) × (length (now places) < 32768)
+        × (length (now places) ≤ length (now temp)) × (Within (length (now entries)) (now places)) × (Plain plain (now entries)) ⌝ }
+    ensures { λ r. ⌜ InnerPut (builder (boxAt (now (entries .entry)))) m (now (places .entry)) (now (places .exit)) (now (rows .entry))
+        (now (rows .exit)) r ⌝ }
+{
+    let cut = split::divide::divide(places, temp, entries, plain);
+    let around = cut.around;
+    put_row(rows, m, around, 0, 0);
+    cut.first
+}
+
+// Two lengths in the place of the one at `sp`: the stack grows down.
+fn push_two(stack: &mut [u32], sp: usize, a: usize, b: usize)
+    requires { ⌜ (0 < sp) × (sp < length (now stack)) × (a < 65536) × (b < 65536) ⌝ }
+    ensures { λ _. ⌜ now (stack .exit) ≡ set (set (now (stack .entry)) sp b) (sp - 1) a ⌝ }
+{
+    stack[sp] = b as u32;
+    stack[sp - 1] = a as u32;
+}
+
+// Rows in preorder, without their numbers of nodes. The stack holds the lengths of the segments that wait, which lie one after the other
+// from `lo` on.
+pub fn grow(
+    places: &mut [u32],
+    temp: &mut [u32],
+    entries: &[u32],
+    stack: &mut [u32],
+    rows: &mut [u32],
+    threshold: usize,
+    plain: bool,
+) -> usize
+    requires { ⌜ (0 < length (now places)) × (Room threshold (now places) (now temp) (now entries) (now stack) (now rows))
+        × (Plain plain (now entries)) ⌝ }
+    ensures { λ r. ⌜ Laid (builder (boxAt (now (entries .entry)))) threshold (now (places .entry)) (now (places .exit)) (now (rows .exit)) r ⌝ }
+{
+    let n = places.len();
+    let mut sp = stack.len() - 1;
+    stack[sp] = n as u32;
+    let mut lo = 0;
+    let mut m = 0;
+    while lo < n {
+        let k = stack[sp] as usize;
+        let hi = lo + k;
+        if k <= threshold {
+            put_leaf(rows, m, entries, &places[lo..hi], lo, plain);
+            lo = hi;
+            sp += 1;
+            m += 1;
+        } else {
+            let a = put_inner(&mut places[lo..hi], temp, entries, rows, m, plain);
+            push_two(stack, sp, a, k - a);
+            sp -= 1;
+            m += 1;
+        }
+    }
+    m
+}
+
+// The tree of the places: they become the leaf order, and `rows` begins with the rows, as many as the result says.
+pub fn grow_tree(
+    places: &mut [u32],
+    temp: &mut [u32],
+    entries: &[u32],
+    stack: &mut [u32],
+    rows: &mut [u32],
+    threshold: usize,
+) -> usize
+    requires { ⌜ Room threshold (now places) (now temp) (now entries) (now stack) (now rows) ⌝ }
+    ensures { λ r. ⌜ Grown (builder (boxAt (now (entries .entry)))) threshold (now (places .entry)) (now (places .exit)) (now (rows .exit)) r ⌝ }
+{
+    // An empty leaf and an inner row both have the count 0: only here is a leaf empty.
+    if places.len() == 0 {
+        put_leaf(rows, 0, entries, places, 0, false);
+        return 1;
+    }
+    let plain = split::boxes::all_numbers(entries);
+    let m = grow(places, temp, entries, stack, rows, threshold, plain);
+    rows::sizes::fill_sizes(rows, m);
+    m
+}

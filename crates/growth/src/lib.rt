@@ -1,0 +1,2 @@
+// How a tree grows from a list of places.
+pub mod grow;

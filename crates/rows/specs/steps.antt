@@ -1,0 +1,4 @@
+pub mod Decode
+pub mod Flat
+pub mod Sizes
+pub mod Table
