@@ -1,6 +1,6 @@
 // What breaks the premises in one box, and in the box of all.
-use math::words3::Words3;
 use entries::boxes::BoxWords;
+use math::words3::Words3;
 ghost use mathlib.Core.Path.{_≡_};
 ghost use Prim.Native.Nat.{_<_};
 ghost use lib.Ieee.{binary32, ofBits};

@@ -1,6 +1,6 @@
 // The rows of a tree in the work buffer. A row has eight words: its box, its head and its count.
-use math::words3::Words3;
 use entries::boxes::BoxWords;
+use math::words3::Words3;
 ghost use mathlib.Core.Path.{_≡_};
 ghost use Prim.Native.Nat.{_+_, _*_, _≤_, _<_};
 ghost use lib.ListN.{length, set};
