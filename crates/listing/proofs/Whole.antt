@@ -1,11 +1,13 @@
 -- The text of an input by its three cases, and that a text which is put at 0 is the whole of what is said.
-use Prim.Native.Nat.{ℕ, _+_, _%_, _≤_, _<_}
+use Prim.Native.Nat.{ℕ, _%_, _≤_, _<_}
 use native.Mathlib.Omega.{arith}
-use mathlib.Core.List.{List, _++_}
-use mathlib.Core.Path.{_≡_, sym, ap, ap₂, _∙_}
-use lib.ListN.{length, drop}
-use lib.Seq.{sets-eq, length-sets, length-take-le}
+use mathlib.Core.List.{List}
+use mathlib.Core.Path.{_≡_, sym, ap, _∙_}
+use lib.ListN.{length}
+use lib.Seq.{length-sets, length-take-le}
 use borrow.Author.Tests.{lt-ltb, le-ltb, eq-eqb, ne-eqb}
+use Rattle.base.specs.Lists.{over}
+use Rattle.base.proofs.StoreLaws.{sets-over}
 use Rattle.listing.specs.Lines.{refusedLine}
 use Rattle.listing.specs.Listing.{childrenOf, listingOf, boxesText, Listed}
 use Rattle.listing.specs.Text.{Put}
@@ -26,12 +28,10 @@ pub whole-text : {input text before after : List ℕ} {m r : ℕ} → text ≡ b
     → Put m text before 0 after r → Listed input before after r
 whole-text {input} {text} {before} {after} {m} {r} e room p =
     let ends : r ≡ length text = omega (arith, p .ends) in
-    let room : 0 + length text ≤ length before = omega (arith, p .few) in
     let same : length after ≡ length before = ap length (p .stored) ∙ length-sets before 0 text in
-    let stored : after ≡ text ++ drop (0 + length text) before = p .stored ∙ sets-eq text before 0 room in
     let inside : r ≤ length after = omega (arith, p .few) in
     record {
-      text = stored ∙ ap₂ (λ (t : List ℕ) (k : ℕ). t ++ drop k before) e (sym (p .ends));
+      text = p .stored ∙ sets-over text before (omega (arith, p .few)) ∙ ap (λ (t : List ℕ). over t before) e;
       count = ends ∙ ap length e;
       inside = (inside, sym (length-take-le r after inside));
     }

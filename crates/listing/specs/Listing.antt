@@ -4,8 +4,8 @@ use mathlib.Core.Bool.{cond, not}
 use mathlib.Core.List.{List, [], _∷_, _++_, map}
 use mathlib.Core.Path.{_≡_}
 use lib.Dec.{ltb, eqb}
-use lib.ListN.{length, drop}
-use Rattle.base.specs.Lists.{upFrom}
+use lib.ListN.{length}
+use Rattle.base.specs.Lists.{upFrom, over}
 use Rattle.io.specs.Counts.{Counts}
 use Rattle.records.specs.declared.BvhNode.{BvhNode}
 use Rattle.records.specs.declared.BvhTree.{BvhTree}
@@ -50,6 +50,6 @@ boxesText input =
 
 -- The text stands at the start of the buffer, which is else unchanged, and r says how many bytes it has.
 pub record Listed (input before after : List ℕ) (r : ℕ) : Type 0 where
-  pub text : after ≡ boxesText input ++ drop r before
+  pub text : after ≡ over (boxesText input) before
   pub count : r ≡ length (boxesText input)
   pub inside : Counts r after

@@ -1,13 +1,13 @@
 -- The line of a recorded case, without its end. Definitions only.
-use Prim.Native.Nat.{ℕ, _+_, _-_, _^_, _<_}
+use Prim.Native.Nat.{ℕ, _-_, _^_, _<_}
 use mathlib.Core.Path.{_≡_}
 use mathlib.Core.Bool.{Bool, true, false, cond}
 use lib.Dec.{ltb}
 use mathlib.Core.List.{List, [], _∷_, _++_}
 use lib.ListN.{length, take}
 use Rattle.io.specs.Digits.{digits}
-use Rattle.replay.specs.Operations.{numberOf, inputsOf, outputsOf}
-use Rattle.replay.specs.declared.operation.Operation.{Operation}
+use Rattle.recorded.specs.Operations.{numberOf, countOf}
+use Rattle.recorded.specs.declared.operation.Operation.{Operation}
 use Rattle.replay.specs.declared.line.Spelled.{Spelled}
 use Rattle.replay.specs.declared.line.Spelled.the-variants as S
 use Rattle.replay.specs.declared.line.Parsed.{Parsed}
@@ -29,10 +29,6 @@ lineOf op ws = digits 16 2 (numberOf op) ++ fieldsOf ws
 abbrev pub digitOf : ℕ → ℕ
 digitOf c =
     cond (ltb c 48) 16 (cond (ltb c 58) (c - 48) (cond (ltb c 97) 16 (cond (ltb c 103) (c - 87) 16)))
-
--- As many words as it takes and gives.
-abbrev pub countOf : Operation → ℕ
-countOf op = inputsOf op + outputsOf op
 
 -- The number that hexadecimal digits spell; nothing where the text has another byte.
 abbrev pub Spells : List ℕ → Spelled → Type 0

@@ -129,7 +129,7 @@ module _ (e : Entries) (th : ℕ) (stands : Stands e th) (before : Outputs) wher
       let last : r .last ≡ p .subtree .number + size (p .subtree .root) = ap (λ (x : Range). x .last) (p .range-is) in
       omega (arith, last, subtree-within 0 t (p .subtree) (p .within) .1)
 
-  range-some : (r : Range) → List·Memᴰ r (ranges rangeLimit 0 t) → (r .first < r .last) × (r .last - r .first ≤ 127)
+  range-some : (r : Range) → List·Memᴰ r (ranges rangeLimit 0 t) → (r .first < r .last) × (r .last - r .first ≤ rangeLimit)
   range-some r m = let s = range-size rangeLimit (omega arith) 0 t r m in (omega (arith, s .0), s .1)
 
   pub tree-recorded : (j : ℕ) (r : Range) (qs : List Range) → drop j (ranges rangeLimit 0 t) ≡ r ∷ qs → treeNo after j ≡ treeRecord scale r

@@ -14,6 +14,7 @@ use Rattle.bvh.specs.declared.core.BuiltTree.{BuiltTree}
 use Rattle.bvh.specs.Build.{Entries}
 use Rattle.bvh.specs.Entry.{Outputs}
 use Rattle.rows.specs.Positions.{itemAt}
+use Rattle.rows.specs.Ranges.{rangeLimit}
 use Rattle.walk.specs.Boxes.{meets}
 use Rattle.walk.specs.Refusals.{whole}
 use Rattle.walk.specs.declared.boxes.Query.{Query}
@@ -68,7 +69,7 @@ pub record NodeNumbers (th items : ℕ) (n : BvhNode) : Type 0 where
   pub at-most : count ≤ th
   pub inside : 0 < count → id + count ≤ items
 
--- A tree record's range: 0 ≤ first < last ≤ nodes, and at most 127 nodes.
+-- A tree record's range: 0 ≤ first < last ≤ nodes, and no more nodes than the limit of a build, 127 (rule R14).
 pub record RangeNumbers (nodes : ℕ) (t : BvhTree) : Type 0 where
   pub first : ℕ
   pub last : ℕ
@@ -76,7 +77,7 @@ pub record RangeNumbers (nodes : ℕ) (t : BvhTree) : Type 0 where
   pub last-is : t .«node_index2» ≡ pos last
   pub some : first < last
   pub within : last ≤ nodes
-  pub at-most : last - first ≤ 127
+  pub at-most : last - first ≤ rangeLimit
 
 -- Rule P4 (request, point 3, first sentence), of the records of a build that answered b and left these outputs.
 pub record WellFormed (e : Entries) (th : ℕ) (b : BuiltTree) (after : Outputs) : Type 0 where

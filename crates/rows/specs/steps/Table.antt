@@ -1,7 +1,8 @@
 -- The table of rows in the work buffer, eight words a row. Definitions only.
 use Prim.Native.Nat.{ℕ, zero, suc, _+_, _*_}
 use mathlib.Core.List.{List, [], _∷_, _++_}
-use lib.ListN.{getD, take, drop}
+use lib.ListN.{getD, drop}
+use lib.Seq.{sets}
 use Rattle.entries.specs.Boxes.{boxFrom, boxWords}
 use Rattle.rows.specs.Rows.{Row}
 
@@ -25,4 +26,4 @@ rowsIn (suc n) ws = rowAt ws 0 ∷ rowsIn n (drop 8 ws)
 
 -- the table with another row in the place of row i
 abbrev pub withRow : ℕ → Row → List ℕ → List ℕ
-withRow i r ws = take (8 * i) ws ++ (rowWords r ++ drop (8 * i + 8) ws)
+withRow i r ws = sets ws (8 * i) (rowWords r)
