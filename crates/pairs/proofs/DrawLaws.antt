@@ -4,10 +4,10 @@ use native.Mathlib.Numerals.{add-one}
 use native.Mathlib.Omega.{arith}
 use mathlib.Core.List.{List, [], _∷_}
 use mathlib.Core.Path.{_≡_, refl, sym, ap, ap₂, _∙_}
-use lib.ListN.{length, set, length-append}
+use lib.ListN.{length, set, drop, length-append, length-drop}
 use lib.Seq.{sets}
 use Rattle.base.specs.Lists.{over}
-use Rattle.base.proofs.StoreLaws.{store-next, stores-leave, over-more}
+use Rattle.base.proofs.StoreLaws.{store-next, over-next}
 use Rattle.math.specs.declared.aabb.Aabb.{Aabb}
 use Rattle.math.specs.declared.words3.Words3.{Words3}
 use Rattle.math.specs.Stored.{bitsOf}
@@ -51,8 +51,10 @@ pub entry-next : (shape : Shape) (n : ℕ) (before : List ℕ) {s : ℕ} {entrie
 entry-next shape n before {s} {entries} e w room stored =
     let new = entryWords shape (nextOf (entriesOn (shape .seed) n)) in
     let long = entry-long shape (nextOf (entriesOn (shape .seed) n)) in
+    let written = drawnEntries shape n in
+    let here = entries-long shape n in
+    let rest = drop (length written) before in
     stored
     ∙ ap₂ (λ (l : List ℕ) (k : ℕ). sets l (7 * n) (entryWords shape (nextOf k))) w e
-    ∙ stores-leave (over (drawnEntries shape n) before) new (7 * n) 7 long (rw (← w) room)
-    ∙ over-more (drawnEntries shape n) new before (7 * n) 7 (entries-long shape n) long
+    ∙ over-next written new before (7 * n) here (omega (arith, ap length w, length-append written rest, length-drop (length written) before))
     ∙ sym (ap (λ (k : ℕ). over (drawnEntries shape k) before) (add-one n))
