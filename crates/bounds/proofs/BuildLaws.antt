@@ -23,7 +23,7 @@ answers e th l b r before after a given =
     }
 
 -- ---- the work buffer: the least lengths of its parts together, and within 01's bound
-pub work-parts : (n : ℕ) → 7 * n + n + n + n + 8 * (2 * n + 1) ≡ workLen n
+pub work-parts : (n : ℕ) → 7 * n + n + n + n + 8 * (2 * n + 1) + 4 * n ≡ workLen n
 work-parts n = omega arith
 
 pub work-bound : (n : ℕ) → workLen n ≤ 64 * (n + 1)
@@ -40,16 +40,17 @@ cut-serves n w l = cases (ltb w (workLen n)) refl
     cases : (b : Bool) → ltb w (workLen n) ≡ b → short n (cutWork n w l) ≡ outputShort n l || b
     cases true few =
         let less : w < workLen n = ltb-true w (workLen n) few in
-        let last : ltb (w - 10 * n) (8 * (2 * n + 1)) ≡ true = lt-ltb (w - 10 * n) (8 * (2 * n + 1)) (omega arith) in
+        TRUE
         simp (last, or-true)
     cases false enough =
         let most : workLen n ≤ w = ltb-false w (workLen n) enough in
-        let last : ltb (w - 10 * n) (8 * (2 * n + 1)) ≡ false = le-ltb (w - 10 * n) (8 * (2 * n + 1)) (omega arith) in
+        let last : ltb (w - (26 * n + 8)) (4 * n) ≡ false = le-ltb (w - (26 * n + 8)) (4 * n) (omega arith) in
         simp (
           whole-part (7 * n) w (omega arith),
           whole-part n (w - 7 * n) (omega arith),
           whole-part n (w - 8 * n) (omega arith),
           whole-part n (w - 9 * n) (omega arith),
+          whole-part (8 * (2 * n + 1)) (w - 10 * n) (omega arith),
           last,
           or-false,
         )

@@ -32,6 +32,7 @@ fn put_inner(
     temp: &mut [u32],
     entries: &[u32],
     rows: &mut [u32],
+    centres: &[f32],
     m: usize,
     plain: bool,
 ) -> usize
@@ -63,6 +64,7 @@ pub fn grow(
     entries: &[u32],
     stack: &mut [u32],
     rows: &mut [u32],
+    centres: &[f32],
     threshold: usize,
     plain: bool,
 ) -> usize
@@ -84,7 +86,7 @@ pub fn grow(
             sp += 1;
             m += 1;
         } else {
-            let a = put_inner(&mut places[lo..hi], temp, entries, rows, m, plain);
+            let a = put_inner(&mut places[lo..hi], temp, entries, rows, centres, m, plain);
             push_two(stack, sp, a, k - a);
             sp -= 1;
             m += 1;
@@ -100,9 +102,11 @@ pub fn grow_tree(
     entries: &[u32],
     stack: &mut [u32],
     rows: &mut [u32],
+    centres: &mut [f32],
     threshold: usize,
 ) -> usize
-    requires { ⌜ Room threshold (now places) (now temp) (now entries) (now stack) (now rows) ⌝ }
+    requires { ⌜ (Room threshold (now places) (now temp) (now entries) (now stack) (now rows))
+        × (4 * length (now entries) ≤ 7 * length (now centres)) × (length (now entries) < 4294967296) ⌝ }
     ensures { λ r. ⌜ Grown (builder (boxAt (now (entries .entry)))) threshold (now (places .entry)) (now (places .exit)) (now (rows .exit)) r ⌝ }
 {
     // An empty leaf and an inner row both have the count 0: only here is a leaf empty.
@@ -111,7 +115,16 @@ pub fn grow_tree(
         return 1;
     }
     let plain = split::boxes::all_numbers(entries);
-    let m = grow(places, temp, entries, stack, rows, threshold, plain);
+    let m = grow(
+        places,
+        temp,
+        entries,
+        stack,
+        rows,
+        centres,
+        threshold,
+        plain,
+    );
     rows::sizes::fill_sizes(rows, m);
     m
 }

@@ -13,20 +13,20 @@ use native.Mathlib.Omega.{arith}
 
 -- the function's entry, from where `grow` returned, and that place from the end
 abbrev entry : tie.After-grow → tie.Start
-entry c = c .before .before .before .before .before .before .before .before .before .before .before .before
+entry c = c .before .before .before .before .before .before .before .before .before .before .before .before .before .before
 
-abbrev laid : tie.After-slice-known10 → tie.After-grow
+abbrev laid : tie.After-slice-known11 → tie.After-grow
 laid c = c .before .before .before .before .before .before .before .before .before .before .before .before
 
 some : (c : tie.After-grow) → 0 < length (entry c .args .places .now)
-some c = let z = c .before .before .before .before .before .before .if1 .left in omega arith
+some c = let z = c .before .before .before .before .before .before .before .if1 .left in omega arith
 
 fits : (c : tie.After-grow) → 8 * c .grow .result ≤ length (c .grow .last .1 .1 .1 .1 .0)
-fits c = omega (arith, c .grow .kept .1 .1 .1 .1 .0, c .grow .ensures .most, entry c .pre .rows-room)
+fits c = omega (arith, c .grow .kept .1 .1 .1 .1 .0, c .grow .ensures .most, entry c .pre .0 .rows-room)
 
 put-leaf-requires : tie.Need-put-leaf-requires
 put-leaf-requires c κs =
-    let p = c .before .before .before .before .before .before .before .before .pre in
+    let p = c .before .before .before .before .before .before .before .before .before .pre .0 in
     let none = c .before .before .if1 .taken in
     (omega (arith, p .rows-room), p .within, omega arith, omega arith, record { numbers = λ e. absurd (subst T (sym e) tt) })
 
@@ -38,9 +38,9 @@ same-length-2 c = search needs
 
 returns : tie.Need-returns
 returns c =
-    let s = c .before .before .before .before .before .before .before .before .before .before .before in
+    let s = c .before .before .before .before .before .before .before .before .before .before .before .before in
     let none = c .before .before .before .before .before .if1 .taken in
-    empty _ _ (s .args .places .now) (s .args .rows .now) _ none (omega (arith, s .pre .rows-room)) (c .before .before .put-leaf .ensures)
+    empty _ _ (s .args .places .now) (s .args .rows .now) _ none (omega (arith, s .pre .0 .rows-room)) (c .before .before .put-leaf .ensures)
 
 all-numbers-requires : tie.Need-all-numbers-requires
 all-numbers-requires c κs = search needs
@@ -63,11 +63,14 @@ same-length-5 c = search needs
 same-length-6 : tie.Need-same-length-6
 same-length-6 c = search needs
 
+same-length-7 : tie.Need-same-length-7
+same-length-7 c = search needs
+
 returns-2 : tie.Need-returns-2
 returns-2 c =
     let g = laid c in
     let law = lawful (boxAt (entry g .args .entries .now)) in
-    finished _ law _ _ _ _ _ _ (entry g .pre .threshold) (some g) (g .grow .ensures) (fits g) (c .before .before .fill-sizes .ensures)
+    finished _ law _ _ _ _ _ _ (entry g .pre .0 .threshold) (some g) (g .grow .ensures) (fits g) (c .before .before .fill-sizes .ensures)
 
 pub grow-tree-spec : {M : Type 1} → statement M
 grow-tree-spec =
@@ -84,4 +87,5 @@ grow-tree-spec =
     same-length-4
     same-length-5
     same-length-6
+    same-length-7
     returns-2)
