@@ -62,6 +62,14 @@ sets-over xs l h =
     let e : 0 + length xs ≡ length xs = omega arith in
     sets-eq xs l 0 (omega arith) ∙ ap (λ (k : ℕ). xs ++ drop k l) e
 
+-- another part stored behind what is written
+pub over-next : (written part before : List ℕ) (m : ℕ) → length written ≡ m → m + length part ≤ length before
+    → sets (over written before) m part ≡ over (written ++ part) before
+over-next written part before m e h =
+    ap (λ (l : List ℕ). sets l m part) (sym (sets-over written before (omega arith)))
+    ∙ sets-append written part before 0 m (omega arith)
+    ∙ sets-over (written ++ part) before (omega (arith, length-append written part))
+
 -- another part behind what is written
 pub over-more : (written part before : List ℕ) (m n : ℕ) → length written ≡ m → length part ≡ n
     → take m (over written before) ++ (part ++ drop (m + n) (over written before)) ≡ over (written ++ part) before

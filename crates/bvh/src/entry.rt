@@ -1,11 +1,11 @@
 // The entry point of a build: the entries are taken apart into words, and the core is given plain slices.
 use crate::core::Build;
 use crate::items::BvhItem;
-use split::boxes::BoxWords;
+use entries::boxes::BoxWords;
 ghost use mathlib.Core.Path.{_≡_};
-ghost use mathlib.Core.List.{_++_};
 ghost use Prim.Native.Nat.{_+_, _*_, _≤_};
-ghost use lib.ListN.{length, take, drop};
+ghost use lib.ListN.{length};
+ghost use lib.Seq.{sets};
 ghost use Rattle.bvh.specs.Entry.{entriesOf, takenOf, outputs, lent, lengthsOf, Answered};
 ghost use Rattle.bvh.specs.Items.{itemWords};
 
@@ -23,13 +23,13 @@ fn taken(n: usize, room: usize) -> usize
 // An entry's seven words, from word 7 · i on.
 fn put_item(entries: &mut [u32], i: usize, item: BvhItem)
     requires { ⌜ 7 * i + 7 ≤ length (now entries) ⌝ }
-    ensures { λ _. ⌜ now (entries .exit) ≡ take (7 * i) (now (entries .entry)) ++ (itemWords item ++ drop (7 * i + 7) (now (entries .entry))) ⌝ }
+    ensures { λ _. ⌜ now (entries .exit) ≡ sets (now (entries .entry)) (7 * i) (itemWords item) ⌝ }
 {
     let at = 7 * i;
     let min = item.min;
     let max = item.max;
     entries[at] = item.present;
-    split::boxes::put_box(entries, at + 1, BoxWords { min: min, max: max });
+    entries::boxes::put_box(entries, at + 1, BoxWords { min: min, max: max });
 }
 
 // The tree of the present entries. The work buffer is lent in six parts: the entries' words, places, temp, stack, rows and centres.

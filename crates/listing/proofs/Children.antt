@@ -6,12 +6,12 @@ use native.Mathlib.Numerals.{add-one}
 use mathlib.Core.List.{List, _∷_, _++_}
 use mathlib.Core.Path.{_≡_, refl, sym, ap, _∙_}
 use lib.ListN.{length, getD, take, drop, length-append, List·getD-append, List·getD-eq-default}
-use lib.Seq.{take-at, getD-append-add}
-use Rattle.base.proofs.StoreLaws.{over-more}
+use lib.Seq.{sets, length-sets, take-at, getD-append-add}
+use Rattle.base.proofs.StoreLaws.{over-next}
 use Rattle.base.specs.Lists.{upFrom, over}
 use Rattle.base.specs.LittleEndian.{leAt}
 use Rattle.base.proofs.LittleEndian.{le-past}
-use Rattle.split.specs.Boxes.{boxWords, boxFrom}
+use Rattle.entries.specs.Boxes.{boxWords, boxFrom}
 use Rattle.bvh.specs.Items.{marked}
 use Rattle.bvh.specs.Entry.{entriesIn}
 use Rattle.listing.specs.Listing.{childrenOf}
@@ -31,19 +31,19 @@ pub no-child : (bytes before : List ℕ) (n : ℕ) → Children bytes before bef
 unfolding childWords
 no-child bytes before n = record { upto = omega arith; same = refl; held = refl }
 
-pub child-next : (bytes before words after : List ℕ) (i n : ℕ) → Children bytes before words i n → i < n → length after ≡ length words
-    → after ≡ take (7 * i) words ++ (1 ∷ boxWords (childBox bytes (32 * i)) ++ drop (7 * i + 7) words)
+pub child-next : (bytes before words after : List ℕ) (i n : ℕ) → Children bytes before words i n → i < n → 7 * n ≤ length before
+    → after ≡ sets words (7 * i) (1 ∷ boxWords (childBox bytes (32 * i)))
     → Children bytes before after (i + 1) n
 unfolding childWords
-child-next bytes before words after i n c h kept e =
+child-next bytes before words after i n c h room e =
     let child : List ℕ = 1 ∷ boxWords (childBox bytes (32 * i)) in
     record {
       upto = omega arith;
-      same = kept ∙ c .same;
+      same = ap length e ∙ length-sets words (7 * i) child ∙ c .same;
       held =
           e
-          ∙ ap (λ (l : List ℕ). take (7 * i) l ++ (child ++ drop (7 * i + 7) l)) (c .held)
-          ∙ over-more (childWords bytes i) child before (7 * i) 7 (length-children bytes i) refl
+          ∙ ap (λ (l : List ℕ). sets l (7 * i) child) (c .held)
+          ∙ over-next (childWords bytes i) child before (7 * i) (length-children bytes i) (omega arith)
           ∙ ap (λ (k : ℕ). over (childWords bytes k) before) (sym (add-one i));
     }
 

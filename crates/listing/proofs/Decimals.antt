@@ -9,10 +9,11 @@ use mathlib.Core.Path.{_≡_, sym, ap, _∙_, subst}
 use lib.IntN.{ℤ, pos, negsuc}
 use mir.Syntax.{w16, w32}
 use mir.Val.{SFits, toZ, ofZ}
-use mir.Facts.{toZ-ofZ, sfits-widen}
+use mir.Facts.{toZ-ofZ}
 use borrow.Author.Tests.{lt-ltb, le-ltb}
 use Rattle.io.specs.Digits.{glyph, digits, Fewest}
 use Rattle.float32.specs.Casts.{low16bits}
+use Rattle.records.proofs.Fields.{short-read}
 use Rattle.listing.specs.Text.{digit, decimalOf, decimal, signed}
 
 glyph-is : (n : ℕ) → glyph (n % 10) ≡ digit (n % 10)
@@ -60,10 +61,6 @@ few-digits k n h f = go (decLe k 5)
         absurd (omega (arith, f .2 (omega arith)))
 
 -- ---- signed numbers
-
--- v as an i16 and as an i32
-pub short-read : {v : ℤ} → SFits w16 v → SFits w32 (toZ w16 (ofZ w16 v))
-short-read f = subst (λ (z : ℤ). SFits w32 z) (sym (toZ-ofZ f)) (sfits-widen tt f)
 
 pub bits-read : {v : ℤ} {b : ℕ} → SFits w16 v → b ≡ low16bits (toZ w32 (ofZ w32 (toZ w16 (ofZ w16 v)))) → b ≡ low16bits v
 bits-read f e = e ∙ ap low16bits (toZ-ofZ (short-read f) ∙ toZ-ofZ f)

@@ -1,13 +1,14 @@
 // The child box records of the input, as the entries of a build.
 use base::little_endian::word_at;
+use entries::boxes::BoxWords;
 use math::words3::Words3;
-use split::boxes::BoxWords;
 ghost use mathlib.Core.Path.{_≡_};
-ghost use mathlib.Core.List.{_∷_, _++_};
+ghost use mathlib.Core.List.{_∷_};
 ghost use Prim.Native.Nat.{_+_, _*_, _≤_};
-ghost use lib.ListN.{length, take, drop};
+ghost use lib.ListN.{length};
+ghost use lib.Seq.{sets};
 ghost use Rattle.base.specs.Lists.{over};
-ghost use Rattle.split.specs.Boxes.{boxWords};
+ghost use Rattle.entries.specs.Boxes.{boxWords};
 ghost use Rattle.listing.specs.Reading.{cornerAt, childBox, childWords};
 
 // The three words from `at` on. The fourth, w, is not read.
@@ -35,12 +36,11 @@ fn child_box(bytes: &[u8], at: usize) -> BoxWords
 // Record i as entry i, which is present.
 fn put_child(entries: &mut [u32], bytes: &[u8], i: usize)
     requires { ⌜ (7 * i + 7 ≤ length (now entries)) × (32 * i + 32 ≤ length (now bytes)) ⌝ }
-    ensures { λ _. ⌜ now (entries .exit) ≡ take (7 * i) (now (entries .entry))
-        ++ (1 ∷ boxWords (childBox (now (bytes .entry)) (32 * i)) ++ drop (7 * i + 7) (now (entries .entry))) ⌝ }
+    ensures { λ _. ⌜ now (entries .exit) ≡ sets (now (entries .entry)) (7 * i) (1 ∷ boxWords (childBox (now (bytes .entry)) (32 * i))) ⌝ }
 {
     let at = 7 * i;
     entries[at] = 1;
-    split::boxes::put_box(entries, at + 1, child_box(bytes, 32 * i));
+    entries::boxes::put_box(entries, at + 1, child_box(bytes, 32 * i));
 }
 
 // The first n records as entries.

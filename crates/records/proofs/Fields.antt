@@ -1,17 +1,22 @@
 -- An i16 as the machine reads it from its bits. Assumes nothing.
-use mathlib.Core.Path.{_≡_, ap, _∙_}
+use mathlib.Core.Path.{_≡_, sym, ap, subst, _∙_}
 use mathlib.Core.List.{List}
 use Prim.Native.Nat.{ℕ, _<_, _^_}
 use lib.IntN.{ℤ}
 use lib.Ieee.{Float}
 use lib.Signed.{mag}
 use lib.Seq.{sets}
-use mir.Syntax.{w16}
-use mir.Val.{toZ, ofZ}
+use mir.Syntax.{w16, w32}
+use mir.Val.{SFits, toZ, ofZ}
+use mir.Facts.{toZ-ofZ, sfits-widen}
 use Rattle.base.proofs.ShortLaws.{same-short}
 use Rattle.math.specs.declared.vec3.Vec3.{Vec3}
 use Rattle.records.specs.Shorts.{shortBytes}
 use Rattle.records.specs.declared.BoundVertex.{BoundVertex}
+
+-- What is read is an i32 too.
+pub short-read : {v : ℤ} → SFits w16 v → SFits w32 (toZ w16 (ofZ w16 v))
+short-read f = subst (λ (z : ℤ). SFits w32 z) (sym (toZ-ofZ f)) (sfits-widen tt f)
 
 -- The bytes stored of a field that is read are those of the field's number.
 pub same-stored : (a : List ℕ) (at : ℕ) (v : ℤ) {b : List ℕ} → mag v < 2 ^ 15

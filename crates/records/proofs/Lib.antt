@@ -1,6 +1,6 @@
 pub mod AxisLaws
 pub mod Examples
-mod Fields
+pub mod Fields
 pub mod Fitting
 pub mod HandWalk
 pub mod Quantum

@@ -4,9 +4,10 @@ use mathlib.Core.Bool.{cond}
 use mathlib.Core.List.{List, _++_}
 use mathlib.Core.Path.{_≡_}
 use lib.Dec.{eqb, ltb}
-use lib.ListN.{length, drop, replicate}
+use lib.ListN.{length, replicate}
 use Rattle.math.specs.Stored.{bitsOf}
 use Rattle.math.specs.declared.words3.Words3.{Words3}
+use Rattle.base.specs.Lists.{over}
 use Rattle.base.specs.LittleEndian.{littleEndian}
 use Rattle.records.specs.declared.header.Bvh.{Bvh}
 use Rattle.records.specs.declared.header.Header.{Header}
@@ -49,7 +50,7 @@ headerAnswer h out = cond (ltb 65535 (h .«trees_count»)) 1 (cond (ltb (length 
 
 -- Rule R9 (01: a refusal changes no output buffer): the bytes at exit.
 unfoldable pub headerExit : Bvh → List ℕ → List ℕ
-headerExit h out = cond (eqb (headerAnswer h out) 0) (headerBytes h ++ drop 128 out) out
+headerExit h out = cond (eqb (headerAnswer h out) 0) (over (headerBytes h) out) out
 
 -- Rule R9: what `tree_header` promises of its answer r and of the bytes after it.
 pub record Headed (h : Bvh) (before after : List ℕ) (r : Header) : Type 0 where

@@ -5,9 +5,8 @@ pub mod scale;
 pub mod shorts;
 
 ghost use mathlib.Core.Path.{_≡_};
-ghost use mathlib.Core.List.{_++_};
 ghost use Prim.Native.Nat.{_+_, _≤_};
-ghost use lib.ListN.{length, take, drop};
+ghost use lib.ListN.{length};
 ghost use lib.Seq.{sets};
 ghost use Rattle.records.specs.Records.{vertexBytes, vertexAt, boxedBytes, nodeBytes, nodeAt, treeBytes, treeAt};
 
@@ -45,7 +44,7 @@ fn put_vertex(out: &mut [u8], at: usize, v: BoundVertex)
 // What a node and a tree have in common: a box, then two numbers.
 fn put_boxed(out: &mut [u8], at: usize, min: BoundVertex, max: BoundVertex, first: i16, second: i16)
     requires { ⌜ at + 16 ≤ length (now out) ⌝ }
-    ensures { λ _. ⌜ now (out .exit) ≡ take at (now (out .entry)) ++ (boxedBytes min max first second ++ drop (at + 16) (now (out .entry))) ⌝ }
+    ensures { λ _. ⌜ now (out .exit) ≡ sets (now (out .entry)) at (boxedBytes min max first second) ⌝ }
 {
     put_vertex(out, at, min);
     put_vertex(out, at + 6, max);
@@ -55,14 +54,14 @@ fn put_boxed(out: &mut [u8], at: usize, min: BoundVertex, max: BoundVertex, firs
 
 pub fn put_node(out: &mut [u8], at: usize, n: BvhNode)
     requires { ⌜ at + 16 ≤ length (now out) ⌝ }
-    ensures { λ _. ⌜ now (out .exit) ≡ take at (now (out .entry)) ++ (nodeBytes n ++ drop (at + 16) (now (out .entry))) ⌝ }
+    ensures { λ _. ⌜ now (out .exit) ≡ sets (now (out .entry)) at (nodeBytes n) ⌝ }
 {
     put_boxed(out, at, n.min, n.max, n.item_id, n.item_count);
 }
 
 pub fn put_tree(out: &mut [u8], at: usize, t: BvhTree)
     requires { ⌜ at + 16 ≤ length (now out) ⌝ }
-    ensures { λ _. ⌜ now (out .exit) ≡ take at (now (out .entry)) ++ (treeBytes t ++ drop (at + 16) (now (out .entry))) ⌝ }
+    ensures { λ _. ⌜ now (out .exit) ≡ sets (now (out .entry)) at (treeBytes t) ⌝ }
 {
     put_boxed(out, at, t.min, t.max, t.node_index1, t.node_index2);
 }

@@ -1,12 +1,10 @@
--- What is written: how many bytes it has, and that what is written part after part is written as one.
-use Prim.Native.Nat.{ℕ, zero, suc, _+_, _-_, _*_, _≤_}
+-- What is written: how many bytes it has, and its parts one after the other.
+use Prim.Native.Nat.{ℕ, zero, suc, _+_, _*_}
 use native.Mathlib.Omega.{arith}
 use native.Mathlib.Numerals.{add-one}
 use mathlib.Core.Path.{_≡_, refl, sym, ap, _∙_}
 use mathlib.Core.List.{List, [], _∷_, _++_, append-assoc, append-nil}
-use lib.ListN.{length, take, drop, length-append}
-use Rattle.base.specs.Lists.{over}
-use Rattle.base.proofs.StoreLaws.{over-more}
+use lib.ListN.{length, length-append}
 use Rattle.records.specs.declared.scale.Scale.{Scale}
 use Rattle.records.specs.Records.{nodeBytes}
 use Rattle.records.proofs.Sizes.{node-bytes}
@@ -36,11 +34,3 @@ pad-more k = rw add-one (go k)
     go : (k : ℕ) → padBytes (suc k) ≡ padBytes k ++ nodeBytes padNode
     go zero = append-nil (nodeBytes padNode)
     go (suc k) = ap (λ (bs : List ℕ). nodeBytes padNode ++ bs) (go k) ∙ sym (append-assoc (nodeBytes padNode) (padBytes k) (nodeBytes padNode))
-
--- Padding that is put from `from` up to `upto`, behind `from` records that are written.
-pub padded : (written before : List ℕ) (from upto : ℕ) → length written ≡ 16 * from → from ≤ upto
-    → take (16 * from) (over written before) ++ (padBytes (upto - from) ++ drop (16 * upto) (over written before))
-    ≡ over (written ++ padBytes (upto - from)) before
-padded written before from upto e h =
-    let k : 16 * upto ≡ 16 * from + 16 * (upto - from) = omega arith in
-    rw k (over-more written (padBytes (upto - from)) before (16 * from) (16 * (upto - from)) e (length-pad (upto - from)))

@@ -12,7 +12,7 @@ use lib.Dec.{eqb}
 use lib.ListN.{length, getD, drop}
 use lib.Seq.{drop-at, drop-drop, getD-drop}
 use Rattle.base.specs.Lists.{upFrom}
-use Rattle.split.specs.declared.boxes.BoxWords.{BoxWords}
+use Rattle.entries.specs.declared.boxes.BoxWords.{BoxWords}
 use Rattle.rows.specs.Positions.{itemsIn, itemsOf}
 use Rattle.rows.specs.Rows.{Row, rows}
 use Rattle.rows.specs.Tree.{Node, leaf, inner, leafOrder}

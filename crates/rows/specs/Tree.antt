@@ -1,7 +1,7 @@
 -- A tree: what is said of it however it grew. Definitions only.
 use Prim.Native.Nat.{ℕ, _+_}
 use mathlib.Core.List.{List, _++_}
-use Rattle.split.specs.declared.boxes.BoxWords.{BoxWords}
+use Rattle.entries.specs.declared.boxes.BoxWords.{BoxWords}
 
 -- A node has its box, and its items or its two children.
 pub data Node : Type 0 where

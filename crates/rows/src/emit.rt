@@ -5,11 +5,11 @@ use records::BoundVertex;
 use records::BvhNode;
 use records::scale::Scale;
 ghost use mathlib.Core.Path.{_≡_};
-ghost use mathlib.Core.List.{_++_};
 ghost use Prim.Native.Nat.{_+_, _-_, _*_, _≤_, _<_};
-ghost use lib.ListN.{length, take, drop, getD};
+ghost use lib.ListN.{length, getD};
+ghost use lib.Seq.{sets};
 ghost use Rattle.base.specs.Lists.{over, Below};
-ghost use Rattle.split.specs.declared.boxes.BoxWords.{BoxWords};
+ghost use Rattle.entries.specs.declared.boxes.BoxWords.{BoxWords};
 ghost use Rattle.rows.specs.Output.{idOf, nodeOf, nodesBytes, padNode, padBytes};
 ghost use Rattle.rows.specs.steps.Decode.{Small, RowsFit};
 ghost use Rattle.rows.specs.steps.Table.{rowAt, rowsIn};
@@ -106,8 +106,7 @@ fn pad_node() -> BvhNode
 // Padding in the place of the records from `from` up to `upto`.
 pub fn pad_nodes(node_bytes: &mut [u8], from: usize, upto: usize)
     requires { ⌜ (from ≤ upto) × (16 * upto ≤ length (now «node_bytes»)) ⌝ }
-    ensures { λ _. ⌜ now («node_bytes» .exit) ≡ take (16 * from) (now («node_bytes» .entry))
-        ++ (padBytes (upto - from) ++ drop (16 * upto) (now («node_bytes» .entry))) ⌝ }
+    ensures { λ _. ⌜ now («node_bytes» .exit) ≡ sets (now («node_bytes» .entry)) (16 * from) (padBytes (upto - from)) ⌝ }
 {
     let mut i = from;
     while i < upto {

@@ -5,9 +5,9 @@ use crate::table::row_head;
 use records::BvhTree;
 use records::scale::Scale;
 ghost use mathlib.Core.Path.{_≡_};
-ghost use mathlib.Core.List.{_++_};
 ghost use Prim.Native.Nat.{_+_, _*_, _≤_, _<_};
-ghost use lib.ListN.{length, take, drop};
+ghost use lib.ListN.{length};
+ghost use lib.Seq.{sets};
 ghost use Rattle.records.specs.Records.{treeBytes};
 ghost use Rattle.rows.specs.steps.Flat.{treeSize, Flat, Scannable, TreesPut};
 ghost use Rattle.rows.specs.Output.{treeRecord};
@@ -27,9 +27,8 @@ fn put_range(
     scale: Scale,
 )
     requires { ⌜ (at + 16 ≤ length (now «tree_bytes»)) × (8 * first + 8 ≤ length (now rows)) × (first < 32768) × (last < 32768) ⌝ }
-    ensures { λ _. ⌜ now («tree_bytes» .exit) ≡ take at (now («tree_bytes» .entry))
-        ++ (treeBytes (treeRecord scale (record { box = rowAt (now (rows .entry)) first .box; first = first; last = last }))
-        ++ drop (at + 16) (now («tree_bytes» .entry))) ⌝ }
+    ensures { λ _. ⌜ now («tree_bytes» .exit) ≡ sets (now («tree_bytes» .entry)) at
+        (treeBytes (treeRecord scale (record { box = rowAt (now (rows .entry)) first .box; first = first; last = last }))) ⌝ }
 {
     let b = row_box(rows, first);
     let t = BvhTree {

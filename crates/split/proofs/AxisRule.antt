@@ -17,7 +17,7 @@ use Rattle.math.specs.declared.axis.Axis.{Axis}
 use Rattle.math.specs.declared.axis.Axis.the-variants.{X, Y, Z}
 use Rattle.math.specs.declared.vec3.Vec3.{Vec3}
 use Rattle.math.specs.Vec3s.{_⊖_, _⊘_}
-use Rattle.split.specs.declared.boxes.BoxWords.{BoxWords}
+use Rattle.entries.specs.declared.boxes.BoxWords.{BoxWords}
 use Rattle.split.specs.Rule.{countBelow, offset, nearestAxis, axisOf}
 use Rattle.split.proofs.Counting.{count-le}
 

@@ -9,11 +9,11 @@ use Rattle.base.proofs.ListLaws.{length-kept, length-sift}
 use Rattle.math.specs.declared.vec3.Vec3.{Vec3}
 use Rattle.math.specs.declared.axis.Axis.{Axis}
 use Rattle.math.specs.declared.axis.Axis.the-variants.{X, Y, Z}
-use Rattle.split.specs.declared.boxes.BoxWords.{BoxWords}
+use Rattle.entries.specs.declared.boxes.BoxWords.{BoxWords}
 use Rattle.split.specs.declared.groups.Counts.{Counts}
 use Rattle.split.specs.Rule.{below, countBelow}
 use Rattle.split.specs.steps.Groups.{countsOf, countMore}
-use Rattle.split.proofs.Places.{Pass}
+use Rattle.entries.proofs.Places.{Pass}
 
 module _ (at : ℕ → BoxWords) (avg : Vec3) where
   count-more : (a : Axis) (p : ℕ) (ps : List ℕ) → countBelow at avg a (p ∷ ps) ≡ oneIf (below at avg a p) + countBelow at avg a ps

@@ -15,7 +15,8 @@ use Rattle.math.specs.declared.vec3.Vec3.{Vec3}
 use Rattle.math.specs.declared.axis.Axis.{Axis}
 use Rattle.math.specs.declared.axis.Axis.the-variants.{X, Y, Z}
 use Rattle.math.specs.Axes.{coordinate}
-use Rattle.split.specs.Boxes.{boxAt, centreOf}
+use Rattle.entries.specs.Average.{centreOf}
+use Rattle.entries.specs.Boxes.{boxAt}
 use Rattle.split.specs.Rule.{above}
 use Rattle.split.specs.steps.Groups.{stepOf, centreAt, passes, Parted}
 

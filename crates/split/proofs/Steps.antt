@@ -12,10 +12,11 @@ use Rattle.base.proofs.SortLaws.{sort-length}
 use Rattle.base.proofs.WithinLaws.{within-sift, within-append}
 use Rattle.math.specs.declared.vec3.Vec3.{Vec3}
 use Rattle.math.specs.declared.axis.Axis.{Axis}
-use Rattle.split.specs.declared.boxes.BoxWords.{BoxWords}
+use Rattle.entries.specs.declared.boxes.BoxWords.{BoxWords}
 use Rattle.split.specs.declared.groups.Counts.{Counts}
-use Rattle.split.specs.Rule.{averageOf, above, axisOf, chosen, one, two, stuck, groupOne, groupTwo, twoLeads, firstOf, secondOf, Divided}
-use Rattle.split.specs.Sorted.{atMost, sortBoxes}
+use Rattle.entries.specs.Average.{averageOf}
+use Rattle.split.specs.Rule.{above, axisOf, chosen, one, two, stuck, groupOne, groupTwo, twoLeads, firstOf, secondOf, Divided}
+use Rattle.sorting.specs.Sorted.{atMost, sortBoxes}
 use Rattle.split.specs.steps.Groups.{countsOf, axisBy, Parted, Settled, LeaderFirst}
 use Rattle.split.proofs.DivideLaws.{divide-total, divide-some-first, divide-some-second}
 

@@ -1,36 +1,19 @@
 -- The rule by which a node's items are split. Definitions only.
 use Prim.Native.Nat.{ℕ, _+_, _-_, _*_, _/_, _<_}
 use mathlib.Core.Bool.{Bool, not, cond, _&&_, _||_}
-use mathlib.Core.List.{List, [], _∷_, _++_}
+use mathlib.Core.List.{List, _++_}
 use mathlib.Core.Path.{_≡_}
 use lib.Dec.{leb, ltb, eqb}
 use lib.ListN.{length, take, drop}
-use lib.Ieee.{binary32, ofBits, lt}
+use lib.Ieee.{lt}
 use Rattle.base.specs.Lists.{sift}
-use Rattle.float32.specs.Counts.{ofCount}
 use Rattle.math.specs.declared.vec3.Vec3.{Vec3}
 use Rattle.math.specs.declared.axis.Axis.{Axis}
 use Rattle.math.specs.declared.axis.Axis.the-variants.{X, Y, Z}
-use Rattle.math.specs.Stored.{valuesOf}
-use Rattle.math.specs.Vec3s.{_⊘_, addOf, scaleOf}
-use Rattle.math.specs.Transform.{half}
 use Rattle.math.specs.Axes.{coordinate}
-use Rattle.split.specs.declared.boxes.BoxWords.{BoxWords}
-use Rattle.split.specs.Boxes.{centreOf}
-use Rattle.split.specs.Sorted.{sortBoxes}
-
--- +0 on each axis
-abbrev pub origin : Vec3
-origin = record { x = ofBits binary32 0; y = ofBits binary32 0; z = ofBits binary32 0 }
-
--- min, then max, item after item
-abbrev pub sumFrom : (ℕ → BoxWords) → Vec3 → List ℕ → Vec3
-sumFrom at s [] = s
-sumFrom at s (p ∷ ps) = sumFrom at (addOf (addOf s (valuesOf (at p .min))) (valuesOf (at p .max))) ps
-
--- Rule T4 (01, Tree build; bvh.rs, avg): the sum times 0.5 / n.
-unfoldable pub averageOf : (ℕ → BoxWords) → List ℕ → Vec3
-averageOf at ps = scaleOf (sumFrom at origin ps) (half ⊘ ofCount (length ps))
+use Rattle.entries.specs.declared.boxes.BoxWords.{BoxWords}
+use Rattle.entries.specs.Average.{centreOf, averageOf}
+use Rattle.sorting.specs.Sorted.{sortBoxes}
 
 -- a centre below the average, and one above it; a NaN is neither
 unfoldable pub below : (ℕ → BoxWords) → Vec3 → Axis → ℕ → Bool

@@ -1,14 +1,15 @@
 // A node's items split in two.
-use crate::boxes::BoxWords;
+use entries::boxes::BoxWords;
 use math::vec3::Vec3;
 ghost use mathlib.Core.Path.{_≡_};
 ghost use Prim.Native.Nat.{_/_, _≤_, _<_};
 ghost use lib.ListN.{length};
-ghost use Rattle.split.specs.Boxes.{boxAt};
+ghost use Rattle.entries.specs.Boxes.{boxAt};
 ghost use Rattle.base.specs.Lists.{Within};
-ghost use Rattle.split.specs.Plain.{Plain};
-ghost use Rattle.split.specs.Folding.{foldBox};
-ghost use Rattle.split.specs.Rule.{averageOf, Divided};
+ghost use Rattle.entries.specs.Plain.{Plain};
+ghost use Rattle.entries.specs.Folding.{foldBox};
+ghost use Rattle.entries.specs.Average.{averageOf};
+ghost use Rattle.split.specs.Rule.{Divided};
 ghost use Rattle.split.specs.steps.Groups.{Settled};
 
 // Where n sorted items are cut.
@@ -25,7 +26,7 @@ fn settle(places: &mut [u32], temp: &mut [u32], entries: &[u32], k: usize) -> us
 {
     let n = places.len();
     if k == 0 || k == n {
-        crate::merging::sort(places, temp, entries);
+        sorting::merging::sort(places, temp, entries);
         return middle(n);
     }
     k
@@ -58,7 +59,7 @@ pub fn divide(places: &mut [u32], temp: &mut [u32], entries: &[u32], plain: bool
     ensures { λ r. ⌜ (Divided (boxAt (now (entries .entry))) (now (places .entry)) (now (places .exit)) (r .first))
         × (r .around ≡ foldBox (boxAt (now (entries .entry))) (now (places .entry))) ⌝ }
 {
-    let m = crate::average::measure(entries, places, plain);
+    let m = entries::average::measure(entries, places, plain);
     let around = m.around;
     Cut {
         around: around,

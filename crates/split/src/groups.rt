@@ -8,10 +8,10 @@ ghost use Prim.Native.Nat.{ℕ, _+_, _*_, _≤_, _<_};
 ghost use lib.ListN.{length, take, drop};
 ghost use lib.Seq.{paste};
 ghost use lib.Ieee.{lt};
-ghost use Rattle.split.specs.declared.boxes.BoxWords.{BoxWords};
-ghost use Rattle.split.specs.Boxes.{boxAt};
+ghost use Rattle.entries.specs.declared.boxes.BoxWords.{BoxWords};
+ghost use Rattle.entries.specs.Boxes.{boxAt};
 ghost use Rattle.base.specs.Lists.{oneIf, Within};
-ghost use Rattle.split.specs.Plain.{Plain};
+ghost use Rattle.entries.specs.Plain.{Plain};
 ghost use Rattle.split.specs.Rule.{above, offset, twoLeads};
 ghost use Rattle.split.specs.steps.Groups.{countsOf, axisBy, stepOf, passes, Parted, LeaderFirst};
 
@@ -37,7 +37,11 @@ pub fn count_below(entries: &[u32], places: &[u32], avg: Vec3, plain: bool) -> C
     let mut counts = Counts { x: 0, y: 0, z: 0 };
     let mut i = 0;
     while i < places.len() {
-        let c = crate::average::centre(crate::boxes::corners_at(entries, Place(places[i]), plain));
+        let c = entries::average::centre(entries::boxes::corners_at(
+            entries,
+            Place(places[i]),
+            plain,
+        ));
         counts = Counts {
             x: counts.x + one_if_below(c.x, avg.x),
             y: counts.y + one_if_below(c.y, avg.y),
@@ -90,8 +94,8 @@ fn one_if_above(entries: &[u32], place: Place, step: usize, cut: f32, plain: boo
     ensures { λ r. ⌜ r ≡ oneIf (passes (now (entries .entry)) step cut (place .0)) ⌝ }
 {
     let at = 7 * (place.0 as usize) + 1 + step;
-    let low = crate::boxes::value(entries[at], plain);
-    let high = crate::boxes::value(entries[at + 3], plain);
+    let low = entries::boxes::value(entries[at], plain);
+    let high = entries::boxes::value(entries[at + 3], plain);
     if (low + high) * 0.5 > cut { 1 } else { 0 }
 }
 

@@ -7,8 +7,8 @@ use mathlib.Core.List.{List, _++_}
 use mathlib.Core.Path.{_≡_, refl, sym, ap₂, _∙_}
 use Rattle.base.proofs.ListLaws.{occurs-append}
 use Rattle.base.specs.Lists.{occurrences, Permutes}
-use Rattle.split.specs.Folding.{foldBox}
-use Rattle.split.specs.declared.boxes.BoxWords.{BoxWords}
+use Rattle.entries.specs.Folding.{foldBox}
+use Rattle.entries.specs.declared.boxes.BoxWords.{BoxWords}
 use Rattle.rows.specs.Tree.{Node, inner, leafOrder}
 use Rattle.growth.specs.Grow.{Builder, builder, grow}
 use Rattle.growth.proofs.Lawful.{Lawful, lawful}

@@ -1,12 +1,11 @@
 -- `put_boxed` meets its contract: four runs of stores, each from where the last one ended, are one run of 16.
-use mathlib.Core.Path.{_∙_}
 use Prim.Native.Nat.{_+_}
 use Rattle.records.specs.Shorts.{shortBytes}
 use Rattle.records.specs.Records.{vertexBytes, boxedBytes}
 use Rattle.records.proofs.Fields.{same-stored}
 use Rattle.base.proofs.LittleEndian.{joined}
-use Rattle.records.proofs.Sizes.{short-bytes, vertex-bytes, boxed-bytes}
-use Rattle.base.proofs.StoreLaws.{four-stores, stores-leave}
+use Rattle.records.proofs.Sizes.{short-bytes, vertex-bytes}
+use Rattle.base.proofs.StoreLaws.{four-stores}
 use borrow.Author.Needs.{needs}
 use Rattle.records.proofs.put_boxed.Statement.{statement}
 use Rattle.records.proofs.put_boxed.Tie as tie
@@ -50,8 +49,6 @@ returns c =
     four-stores (a .out .now) (vertexBytes (a .min)) (vertexBytes (a .max)) (shortBytes (a .first)) (shortBytes (a .second)) (a .at) 6 12 14
     (vertex-bytes (a .min) .size) (box .size) (joined box (short-bytes (a .first)) .size)
     (first .put-vertex .ensures) (second .put-vertex2 .ensures) one two
-    ∙ stores-leave (a .out .now) (boxedBytes (a .min) (a .max) (a .first) (a .second)) (a .at) 16
-    (boxed-bytes (a .min) (a .max) (a .first) (a .second) .size) (start .pre)
 
 pub put-boxed-spec : {M : Type 1} → statement M
 put-boxed-spec =

@@ -1,9 +1,7 @@
 -- `put_node` meets its contract: what `put_boxed` ensures of the node's fields.
 use mathlib.Core.Path.{ap₂, _∙_}
-use mathlib.Core.List.{_++_}
-use Prim.Native.Nat.{_+_}
 use lib.IntN.{ℤ}
-use lib.ListN.{take, drop}
+use lib.Seq.{sets}
 use Rattle.records.specs.Records.{boxedBytes, nodeBytes}
 use Rattle.base.proofs.ShortLaws.{same-short}
 use borrow.Author.Needs.{needs}
@@ -23,7 +21,7 @@ returns c =
     let a = p .before .before .before .before .before .args in
     let n = a .n in
     p .put-boxed .ensures
-    ∙ ap₂ (λ (first second : ℤ). take (a .at) (a .out .now) ++ (boxedBytes (n .min) (n .max) first second ++ drop (a .at + 16) (a .out .now)))
+    ∙ ap₂ (λ (first second : ℤ). sets (a .out .now) (a .at) (boxedBytes (n .min) (n .max) first second))
     (same-short (n .«item_id») (p .before .struct-told2 .given .1 .1 .0 .1))
     (same-short (n .«item_count») (p .before .struct-told2 .given .1 .1 .1 .0 .1))
 

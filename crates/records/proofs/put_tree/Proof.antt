@@ -1,9 +1,7 @@
 -- `put_tree` meets its contract: what `put_boxed` ensures of the tree's fields.
 use mathlib.Core.Path.{ap₂, _∙_}
-use mathlib.Core.List.{_++_}
-use Prim.Native.Nat.{_+_}
 use lib.IntN.{ℤ}
-use lib.ListN.{take, drop}
+use lib.Seq.{sets}
 use Rattle.records.specs.Records.{boxedBytes, treeBytes}
 use Rattle.base.proofs.ShortLaws.{same-short}
 use borrow.Author.Needs.{needs}
@@ -23,7 +21,7 @@ returns c =
     let a = p .before .before .before .before .before .args in
     let t = a .t in
     p .put-boxed .ensures
-    ∙ ap₂ (λ (first second : ℤ). take (a .at) (a .out .now) ++ (boxedBytes (t .min) (t .max) first second ++ drop (a .at + 16) (a .out .now)))
+    ∙ ap₂ (λ (first second : ℤ). sets (a .out .now) (a .at) (boxedBytes (t .min) (t .max) first second))
     (same-short (t .«node_index1») (p .before .struct-told2 .given .1 .1 .0 .1))
     (same-short (t .«node_index2») (p .before .struct-told2 .given .1 .1 .1 .0 .1))
 

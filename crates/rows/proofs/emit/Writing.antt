@@ -1,14 +1,14 @@
 -- The invariant of the loops that write: the buffer holds what is written so far, and behind it what it had.
 use Prim.Native.Nat.{ℕ, _+_, _-_, _*_, _≤_, _<_}
+use native.Mathlib.Nat.{sub-self}
 use native.Mathlib.Omega.{arith}
 use native.Mathlib.Numerals.{add-one}
-use mathlib.Core.Path.{_≡_, sym, ap, _∙_, subst}
-use mathlib.Core.List.{List, [], _∷_, _++_, append-assoc, append-nil}
-use lib.ListN.{length, getD, take, drop, set, length-append, length-set, take-append-drop}
-use lib.Seq.{length-take-le, take-suc}
-use Rattle.base.proofs.StoreLaws.{over-more, over-one}
+use mathlib.Core.Path.{_≡_, refl, sym, ap, _∙_, subst}
+use mathlib.Core.List.{List, [], _∷_, _++_, append-nil}
+use lib.ListN.{length, getD, take, set, length-set}
+use lib.Seq.{sets, length-sets, length-take-le, take-suc}
+use Rattle.base.proofs.StoreLaws.{store-next, over-next, over-one}
 use Rattle.base.specs.Lists.{over}
-use lib.ListN.{length, getD, take, drop, set, length-append, length-set, take-append-drop}
 use Rattle.records.specs.declared.BvhNode.{BvhNode}
 use Rattle.records.specs.declared.scale.Scale.{Scale}
 use Rattle.records.specs.Records.{nodeBytes}
@@ -40,16 +40,16 @@ number-next before buffer xs i w h room =
 -- one record more
 pub record-next : (before buffer written after : List ℕ) (n : BvhNode) (i last : ℕ) → Writing before buffer written i last → i < last
     → length written ≡ 16 * i
-    → length after ≡ length buffer → after ≡ take (16 * i) buffer ++ (nodeBytes n ++ drop (16 * i + 16) buffer)
+    → 16 * last ≤ length before → after ≡ sets buffer (16 * i) (nodeBytes n)
     → Writing before after (written ++ nodeBytes n) (i + 1) last
-record-next before buffer written after n i last w h at kept e =
+record-next before buffer written after n i last w h at room e =
     record {
       upto = omega arith;
-      same = kept ∙ w .same;
+      same = ap length e ∙ length-sets buffer (16 * i) (nodeBytes n) ∙ w .same;
       held =
           e
-          ∙ ap (λ (l : List ℕ). take (16 * i) l ++ (nodeBytes n ++ drop (16 * i + 16) l)) (w .held)
-          ∙ over-more written (nodeBytes n) before (16 * i) 16 at (node-bytes n .size);
+          ∙ ap (λ (l : List ℕ). sets l (16 * i) (nodeBytes n)) (w .held)
+          ∙ over-next written (nodeBytes n) before (16 * i) at (omega (arith, node-bytes n .size));
     }
 
 module _ (s : Scale) (th : ℕ) (order : List ℕ) where
@@ -68,9 +68,9 @@ module _ (s : Scale) (th : ℕ) (order : List ℕ) where
   -- the record of row i more
   pub row-next : (m : ℕ) (table before buffer after : List ℕ) (n : BvhNode) (i : ℕ)
       → Writing before buffer (nodesBytes s th order (take i (rowsIn m table))) i m → i < m → n ≡ nodeOf s th order (rowAt table i)
-      → length after ≡ length buffer → after ≡ take (16 * i) buffer ++ (nodeBytes n ++ drop (16 * i + 16) buffer)
+      → 16 * m ≤ length before → after ≡ sets buffer (16 * i) (nodeBytes n)
       → Writing before after (nodesBytes s th order (take (i + 1) (rowsIn m table))) (i + 1) m
-  row-next m table before buffer after n i w h node kept e =
+  row-next m table before buffer after n i w h node room e =
       let rs = rowsIn m table in
       let d = rowAt table i in
       let many : length rs ≡ m = length-rows-in m table in
@@ -78,44 +78,34 @@ module _ (s : Scale) (th : ℕ) (order : List ℕ) where
       ap (λ (m : BvhNode). nodesBytes s th order (take i rs) ++ nodeBytes m) (node ∙ ap (nodeOf s th order) (sym (row-in m table i d h)))
       ∙ rows-next rs i d (omega arith) in
       subst (λ (l : List ℕ). Writing before after l (i + 1) m) bytes
-      (record-next before buffer (nodesBytes s th order (take i rs)) after n i m w h (length-first rs i (omega arith)) kept e)
+      (record-next before buffer (nodesBytes s th order (take i rs)) after n i m w h (length-first rs i (omega arith)) room e)
 
--- what stands before the padding, and the padding so far
-abbrev pub paddedTo : List ℕ → ℕ → ℕ → List ℕ
-paddedTo before from i = take (16 * from) before ++ padBytes (i - from)
+-- ---- padding
 
-module _ (before : List ℕ) (from : ℕ) where
-  length-padded : (i : ℕ) → from ≤ i → 16 * i ≤ length before → length (paddedTo before from i) ≡ 16 * i
-  length-padded i h room =
-      omega (arith, length-append (take (16 * from) before) (padBytes (i - from)), length-take-le (16 * from) before (omega arith), length-pad (i - from))
+-- The records from `from` up to i are padding.
+pub record Padding (before buffer : List ℕ) (from i last : ℕ) : Type 0 where
+  pub since : from ≤ i
+  pub upto : i ≤ last
+  pub same : length buffer ≡ length before
+  pub held : buffer ≡ sets before (16 * from) (padBytes (i - from))
 
-  padding-next : (i : ℕ) → from ≤ i → paddedTo before from i ++ nodeBytes padNode ≡ paddedTo before from (i + 1)
-  padding-next i h =
-      let one : i + 1 - from ≡ i - from + 1 = omega arith in
-      append-assoc (take (16 * from) before) (padBytes (i - from)) (nodeBytes padNode)
-      ∙ ap (λ (bs : List ℕ). take (16 * from) before ++ bs) (sym (pad-more (i - from)) ∙ ap padBytes (sym one))
+pub padding-begins : (before : List ℕ) (from last : ℕ) → from ≤ last → Padding before before from from last
+padding-begins before from last h =
+    record { since = omega arith; upto = h; same = refl; held = ap (λ (k : ℕ). sets before (16 * from) (padBytes k)) (sym (sub-self from)) }
 
-  pub padding-done : (i : ℕ) → from ≤ i → 16 * i ≤ length before
-      → over (paddedTo before from i) before ≡ take (16 * from) before ++ (padBytes (i - from) ++ drop (16 * i) before)
-  padding-done i h room =
-      ap (λ (k : ℕ). paddedTo before from i ++ drop k before) (length-padded i h room)
-      ∙ append-assoc (take (16 * from) before) (padBytes (i - from)) (drop (16 * i) before)
-
-  pub padding-begins : 16 * from ≤ length before → before ≡ over (paddedTo before from from) before
-  padding-begins room =
-      let none : from - from ≡ 0 = omega arith in
-      sym
-      (padding-done from (omega arith) room
-      ∙ ap (λ (k : ℕ). take (16 * from) before ++ (padBytes k ++ drop (16 * from) before)) none
-      ∙ take-append-drop (16 * from) before)
-
-  -- one record of padding more
-  pub pad-next : (buffer after : List ℕ) (n : BvhNode) (i upto : ℕ) → from ≤ i → Writing before buffer (paddedTo before from i) i upto → i < upto
-      → 16 * upto ≤ length before
-      → n ≡ padNode → length after ≡ length buffer → after ≡ take (16 * i) buffer ++ (nodeBytes n ++ drop (16 * i + 16) buffer)
-      → Writing before after (paddedTo before from (i + 1)) (i + 1) upto
-  pad-next buffer after n i upto h w more room node kept e =
-      let bytes : paddedTo before from i ++ nodeBytes n ≡ paddedTo before from (i + 1) =
-      ap (λ (m : BvhNode). paddedTo before from i ++ nodeBytes m) node ∙ padding-next i h in
-      subst (λ (l : List ℕ). Writing before after l (i + 1) upto) bytes
-      (record-next before buffer (paddedTo before from i) after n i upto w more (length-padded i h (omega arith)) kept e)
+-- one record of padding more
+pub pad-next : (before buffer after : List ℕ) (n : BvhNode) (from i last : ℕ) → Padding before buffer from i last → i < last → n ≡ padNode
+    → after ≡ sets buffer (16 * i) (nodeBytes n)
+    → Padding before after from (i + 1) last
+pad-next before buffer after n from i last p h node e =
+    let there : 16 * i ≡ 16 * from + 16 * (i - from) = omega (arith, p .since) in
+    let one : i + 1 - from ≡ i - from + 1 = omega (arith, p .since) in
+    let pads : padBytes (i - from) ++ nodeBytes n ≡ padBytes (i + 1 - from) = rw (node, one) (sym (pad-more (i - from))) in
+    record {
+      since = omega (arith, p .since);
+      upto = omega arith;
+      same = ap length e ∙ length-sets buffer (16 * i) (nodeBytes n) ∙ p .same;
+      held =
+          store-next before (padBytes (i - from)) (nodeBytes n) (16 * from) (16 * (i - from)) (length-pad (i - from)) (p .held) (rw there at e)
+          ∙ ap (sets before (16 * from)) pads;
+    }

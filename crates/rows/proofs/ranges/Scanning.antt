@@ -8,13 +8,14 @@ use mathlib.Core.List.{List, [], _∷_, _++_, append-assoc, append-nil, List·Me
 use mathlib.Core.Path.{_≡_, refl, sym, ap, _∙_}
 use lib.Dec.{leb, eqb}
 use lib.ListN.{length, getD, take, drop, length-append, length-drop, length-take, take-append-drop, drop-of-length-le}
-use lib.Seq.{take-at, drop-at, drop-cons, drop-drop, take-add, take-all, length-take-le}
+use lib.Seq.{sets, drop-at, drop-cons, drop-drop, take-add, take-all, length-take-le}
 use borrow.Author.Tests.{ne-eqb, le-leb, lt-leb}
 use Rattle.base.specs.Lists.{over}
+use Rattle.base.proofs.StoreLaws.{over-next}
 use Rattle.records.specs.declared.scale.Scale.{Scale}
 use Rattle.records.specs.Records.{treeBytes}
 use Rattle.records.proofs.Sizes.{tree-bytes}
-use Rattle.split.specs.declared.boxes.BoxWords.{BoxWords}
+use Rattle.entries.specs.declared.boxes.BoxWords.{BoxWords}
 use Rattle.rows.specs.Tree.{Node, leaf, inner, leafOrder, size}
 use Rattle.rows.specs.Rows.{Row, rows}
 use Rattle.rows.specs.Ranges.{Range, parts, rangeOf, ranges}
@@ -108,18 +109,16 @@ scan-whole limit some (inner b l r) h =
 -- ---- what is written
 
 -- one record more, behind those written
-one-written : (s : Scale) (xs : List Range) (x : Range) (before trees : List ℕ) (k : ℕ) → length xs ≡ k → trees ≡ over (treesBytes s xs) before
-    → take (16 * k) trees ++ (treeBytes (treeRecord s x) ++ drop (16 * k + 16) trees) ≡ over (treesBytes s (xs ++ (x ∷ []))) before
-one-written s xs x before trees k e p =
+one-written : (s : Scale) (xs : List Range) (x : Range) (before trees : List ℕ) (k : ℕ) → length xs ≡ k → 16 * k + 16 ≤ length before
+    → trees ≡ over (treesBytes s xs) before
+    → sets trees (16 * k) (treeBytes (treeRecord s x)) ≡ over (treesBytes s (xs ++ (x ∷ []))) before
+one-written s xs x before trees k e room p =
     let w : List ℕ = treesBytes s xs in
     let b : List ℕ = treeBytes (treeRecord s x) in
-    let lw : length w ≡ 16 * k = length-trees s xs ∙ ap (λ (n : ℕ). 16 * n) e in
-    let t : take (16 * k) trees ≡ w = rw p (take-at w (drop (length w) before) (16 * k) lw) in
-    let d : drop (16 * k + 16) trees ≡ drop (16 * k + 16) before =
-    rw (p, ← drop-drop 16 (16 * k) (w ++ drop (length w) before), drop-at w (drop (length w) before) (16 * k) lw, lw) (drop-drop 16 (16 * k) before) in
     let v : treesBytes s (xs ++ (x ∷ [])) ≡ w ++ b = trees-append s xs (x ∷ []) ∙ ap (λ (l : List ℕ). w ++ l) (append-nil b) in
-    let lv : length (w ++ b) ≡ 16 * k + 16 = omega (arith, length-append w b, lw, tree-bytes (treeRecord s x) .size) in
-    rw (v, lv, t, d) (sym (append-assoc w b (drop (16 * k + 16) before)))
+    ap (λ (l : List ℕ). sets l (16 * k) b) p
+    ∙ over-next w b before (16 * k) (length-trees s xs ∙ ap (λ (n : ℕ). 16 * n) e) (rw (tree-bytes (treeRecord s x) .size) room)
+    ∙ ap (λ (l : List ℕ). over l before) (sym v)
 
 -- ---- the loop
 
@@ -209,8 +208,8 @@ module _ (limit : ℕ) (s : Scale) (t : Node) (m : ℕ) (table before trees : Li
     pub found-counted : k < length (ranges limit 0 t)
     found-counted = omega (arith, length-drop k (ranges limit 0 t), ap length next-is)
 
-    pub put : Scanning limit s t before (take (16 * k) trees ++ (treeBytes (treeRecord s found) ++ drop (16 * k + 16) trees)) (i + n) (k + 1)
-    put =
+    pub put : 16 * k + 16 ≤ length before → Scanning limit s t before (sets trees (16 * k) (treeBytes (treeRecord s found))) (i + n) (k + 1)
+    put room =
         let taken : take (k + 1) (ranges limit 0 t) ≡ take k (ranges limit 0 t) ++ (found ∷ []) =
         take-add k 1 (ranges limit 0 t) ∙ ap (λ (l : List Range). take k (ranges limit 0 t) ++ take 1 l) next-is in
         record {
@@ -218,7 +217,7 @@ module _ (limit : ℕ) (s : Scale) (t : Node) (m : ℕ) (table before trees : Li
           counted = omega (arith, found-counted);
           within = found-ends;
           bytes =
-              one-written s (take k (ranges limit 0 t)) found before trees k (length-take-le k (ranges limit 0 t) (g .counted)) (g .bytes)
+              one-written s (take k (ranges limit 0 t)) found before trees k (length-take-le k (ranges limit 0 t) (g .counted)) room (g .bytes)
               ∙ ap (λ (rs : List Range). over (treesBytes s rs) before) (sym taken);
         }
 
@@ -271,11 +270,10 @@ module _ (limit : ℕ) (s : Scale) (m : ℕ) (table before trees : List ℕ) (i 
         }
 
     pub write : (trees′ : List ℕ) → length trees′ ≡ length trees
-        → trees′ ≡ take (16 * k) trees
-        ++ (treeBytes (treeRecord s (record { box = rowAt table i .box; first = i; last = i + n })) ++ drop (16 * k + 16) trees)
+        → trees′ ≡ sets trees (16 * k) (treeBytes (treeRecord s (record { box = rowAt table i .box; first = i; last = i + n })))
         → Going limit s m table before trees′ (i + n) (k + 1)
     write trees′ l w =
         record {
           same-length = l ∙ g .same-length;
-          each = λ t f. rw w (put limit s t m table before trees i k n f (g .each t f) h e small);
+          each = λ t f. rw w (put limit s t m table before trees i k n f (g .each t f) h e small (rw (← g .same-length) (turn .record-room)));
         }

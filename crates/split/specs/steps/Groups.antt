@@ -12,10 +12,10 @@ use Rattle.math.specs.declared.axis.Axis.{Axis}
 use Rattle.math.specs.declared.axis.Axis.the-variants.{X, Y, Z}
 use Rattle.math.specs.Vec3s.{_⊕_, _⊗_}
 use Rattle.math.specs.Transform.{half}
-use Rattle.split.specs.declared.boxes.BoxWords.{BoxWords}
+use Rattle.entries.specs.declared.boxes.BoxWords.{BoxWords}
 use Rattle.split.specs.declared.groups.Counts.{Counts}
 use Rattle.split.specs.Rule.{below, countBelow, offset, nearestAxis, twoLeads}
-use Rattle.split.specs.Sorted.{sortBoxes}
+use Rattle.sorting.specs.Sorted.{sortBoxes}
 
 -- how many centres are below the average, on each axis
 abbrev pub countsOf : (ℕ → BoxWords) → Vec3 → List ℕ → Counts

@@ -1,4 +1,4 @@
--- `core::write_nodes` meets its contract: the records, and at threshold 1 the padding behind them (EmitLaws, `padded`).
+-- `core::write_nodes` meets its contract: the records, and at threshold 1 the padding stored behind them.
 use borrow.Author.Needs.{needs}
 use Rattle.bvh.proofs.core.write_nodes.Statement.{statement}
 use Rattle.bvh.proofs.core.write_nodes.Tie as tie
@@ -23,7 +23,8 @@ returns : tie.Need-returns
 returns c =
     let put = c .before .before .before .before .before .before .before .before .before in
     let one = c .before .before .before .before .before .if1 .taken in
-    nodes-padded _ _ _ _ _ _ _ (put .put-nodes .ensures) _ one (put .before .before .before .before .before .pre .2) (c .before .before .pad-nodes .ensures)
+    let pre = put .before .before .before .before .before .pre in
+    nodes-padded _ _ _ _ _ _ _ (put .put-nodes .ensures) _ one (pre .2) (pre .3) (c .before .before .pad-nodes .ensures)
 
 same-length-2 : tie.Need-same-length-2
 same-length-2 c = search needs

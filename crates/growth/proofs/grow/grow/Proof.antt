@@ -9,7 +9,7 @@ use mathlib.Core.List.{List}
 use native.Mathlib.Omega.{arith}
 use mathlib.Core.Path.{_≡_, refl, _∙_}
 use lib.ListN.{length, getD, set, take, drop, length-set}
-use Rattle.split.specs.Boxes.{boxAt}
+use Rattle.entries.specs.Boxes.{boxAt}
 use Rattle.growth.specs.Grow.{builder}
 use Rattle.growth.specs.steps.Laid.{Room}
 use Rattle.growth.proofs.Lawful.{Lawful, lawful}

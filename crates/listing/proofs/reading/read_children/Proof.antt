@@ -25,10 +25,10 @@ loop-less c = omega arith
 
 loop-again : tie.Need-loop-again Inv-loop μ-loop
 loop-again c =
-    let a = c .before .before .before .before .before .before .before .before .args in
+    let s = c .before .before .before .before .before .before .before .before in
+    let a = s .args in
     let l = c .before .before .before .before .before .loop in
-    let put = c .before .before .put-child in
-    child-next (a .bytes .now) (a .entries .now) (l .entries) _ (l .i) (a .n) (l .inv) (omega arith) (put .kept .0) (put .ensures)
+    child-next (a .bytes .now) (a .entries .now) (l .entries) _ (l .i) (a .n) (l .inv) (omega arith) (s .pre .0) (c .before .before .put-child .ensures)
 
 same-length : tie.Need-same-length Inv-loop μ-loop
 same-length c = c .before .loop .inv .same

@@ -4,7 +4,8 @@ use Rattle.listing.proofs.text.put_signed.Statement.{statement}
 use Rattle.listing.proofs.text.put_signed.Tie as tie
 use mathlib.Core.Path.{_≡_}
 use Rattle.float32.specs.Casts.{low16bits}
-use Rattle.listing.proofs.Decimals.{short-read, bits-read, not-below, below-zero, bits-few}
+use Rattle.records.proofs.Fields.{short-read}
+use Rattle.listing.proofs.Decimals.{bits-read, not-below, below-zero, bits-few}
 use Rattle.listing.proofs.Putting.{put-as, put-then}
 use native.Mathlib.Omega.{arith}
 

@@ -4,13 +4,14 @@ use mathlib.Core.Bool.{Bool, cond}
 use mathlib.Core.List.{List, _++_}
 use Prim.Native.Nat.{ℕ}
 use lib.Dec.{ltb, eqb}
-use lib.ListN.{length, drop}
+use lib.ListN.{length}
 use borrow.Author.Tests.{lt-ltb, le-ltb}
 use Rattle.records.specs.Header.{nodeListBytes, pointsBytes, treeListBytes, headerBytes, headerAnswer, headerExit}
 use Rattle.records.specs.declared.header.Bvh.{Bvh}
+use Rattle.base.specs.Lists.{over}
 use Rattle.base.proofs.LittleEndian.{joined}
 use Rattle.records.proofs.Sizes.{node-list-bytes, points-bytes, header-bytes}
-use Rattle.base.proofs.StoreLaws.{store-next, stores-leave}
+use Rattle.base.proofs.StoreLaws.{store-next, sets-over}
 use borrow.Author.Needs.{needs}
 use Rattle.records.proofs.header.tree_header.Statement.{statement}
 use Rattle.records.proofs.header.tree_header.Tie as tie
@@ -20,9 +21,9 @@ answer : (h : Bvh) (out : List ℕ) {many short : Bool} → ltb 65535 (h .«tree
     → headerAnswer h out ≡ cond many 1 (cond short 2 0)
 answer h out m s = ap₂ (λ (many short : Bool). cond many 1 (cond short 2 0)) m s
 
-exit : (h : Bvh) (out : List ℕ) (n : ℕ) → headerAnswer h out ≡ n → headerExit h out ≡ cond (eqb n 0) (headerBytes h ++ drop 128 out) out
+exit : (h : Bvh) (out : List ℕ) (n : ℕ) → headerAnswer h out ≡ n → headerExit h out ≡ cond (eqb n 0) (over (headerBytes h) out) out
 unfolding headerExit
-exit h out n e = ap (λ (k : ℕ). cond (eqb k 0) (headerBytes h ++ drop 128 out) out) e
+exit h out n e = ap (λ (k : ℕ). cond (eqb k 0) (over (headerBytes h) out) out) e
 
 returns : tie.Need-returns
 returns c =
@@ -63,7 +64,7 @@ returns-3 c =
     let three =
     store-next out (nodeListBytes h ++ pointsBytes h) (treeListBytes h) 0 112 (joined (node-list-bytes h) (points-bytes h) .size) two
     (trees .put-tree-list .ensures) in
-    record { answer = sym e; bytes = three ∙ stores-leave out (headerBytes h) 0 128 (header-bytes h .size) (tests .if2 .left) ∙ sym (exit h out 0 e) }
+    record { answer = sym e; bytes = three ∙ sets-over (headerBytes h) out (rw (header-bytes h .size) (tests .if2 .left)) ∙ sym (exit h out 0 e) }
 
 pub tree-header-spec : {M : Type 1} → statement M
 tree-header-spec =

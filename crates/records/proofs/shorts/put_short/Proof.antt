@@ -1,21 +1,15 @@
 -- `shorts::put_short` meets its contract: v's low 16 bits are stored, and widening v to an i32 changes no number.
-use mathlib.Core.Path.{ap, subst, sym, _∙_}
+use mathlib.Core.Path.{ap, _∙_}
 use Prim.Native.Nat.{ℕ}
-use lib.IntN.{ℤ}
 use lib.Seq.{sets}
-use mir.Syntax.{w16, w32}
-use mir.Val.{SFits, toZ, ofZ}
-use mir.Facts.{toZ-ofZ, sfits-widen}
+use mir.Facts.{toZ-ofZ}
 use Rattle.float32.specs.Casts.{low16bits}
 use Rattle.base.specs.LittleEndian.{littleEndian}
 use Rattle.records.specs.Shorts.{shortBytes}
+use Rattle.records.proofs.Fields.{short-read}
 use borrow.Author.Needs.{needs}
 use Rattle.records.proofs.shorts.put_short.Statement.{statement}
 use Rattle.records.proofs.shorts.put_short.Tie as tie
-
--- v as an i16 and as an i32
-short-read : {v : ℤ} → SFits w16 v → SFits w32 (toZ w16 (ofZ w16 v))
-short-read f = subst (λ (z : ℤ). SFits w32 z) (sym (toZ-ofZ f)) (sfits-widen tt f)
 
 cast-low-bits : tie.Need-cast-low-bits
 cast-low-bits c = short-read (c .before .fits .v)

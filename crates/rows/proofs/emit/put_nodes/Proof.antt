@@ -57,7 +57,7 @@ loop-again c =
     let row = c .before .before .before .row-node in
     let put = c .before .before .put-node in
     row-next (a .scale) (a .threshold) (a .leaf-order .now) (a .m) (a .rows .now) (a .node-bytes .now) (l .node-bytes) (put .last .0) (row .result)
-    (l .i) (l .inv) (omega arith) (row .ensures) (put .kept .0) (put .ensures)
+    (l .i) (l .inv) (omega arith) (row .ensures) (entry i .pre .nodes-room) (put .ensures)
 
 same-length : tie.Need-same-length Inv-loop μ-loop
 same-length c = c .before .loop .inv .same

@@ -2,10 +2,9 @@
 use borrow.Author.Needs.{needs}
 use Rattle.rows.proofs.ranges.put_range.Statement.{statement}
 use Rattle.rows.proofs.ranges.put_range.Tie as tie
-use Prim.Native.Nat.{ℕ, _+_, _<_}
-use mathlib.Core.List.{_++_}
+use Prim.Native.Nat.{ℕ, _<_}
 use mathlib.Core.Path.{_≡_, ap, _∙_}
-use lib.ListN.{take, drop}
+use lib.Seq.{sets}
 use mir.Syntax.{w16}
 use mir.Val.{toZ}
 use mir.Facts.{toZ-pos}
@@ -14,7 +13,7 @@ use Rattle.records.specs.declared.BvhTree.{BvhTree}
 use Rattle.records.specs.declared.scale.Scale.{Scale}
 use Rattle.records.specs.Quantise.{quantiseOf}
 use Rattle.records.specs.Records.{treeBytes}
-use Rattle.split.specs.declared.boxes.BoxWords.{BoxWords}
+use Rattle.entries.specs.declared.boxes.BoxWords.{BoxWords}
 use Rattle.rows.specs.Output.{treeRecord}
 
 -- two corners quantised and two numbers are the range's record
@@ -53,7 +52,7 @@ returns c =
     let a = s .args in
     let bytes = a .tree-bytes .now in
     c .before .before .put-tree .ensures
-    ∙ ap (λ (t : BvhTree). take (a .at) bytes ++ (treeBytes t ++ drop (a .at + 16) bytes))
+    ∙ ap (λ (t : BvhTree). sets bytes (a .at) (treeBytes t))
     (made (a .scale) _ _ _ _ (a .first) (a .last) (s .pre .2) (s .pre .3) (q .before .before .row-box .ensures) (q .before .quantise .ensures)
     (q .quantise2 .ensures))
 

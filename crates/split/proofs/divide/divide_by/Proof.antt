@@ -8,9 +8,9 @@ use mathlib.Core.Path.{subst, ap}
 use mathlib.Core.Bool.{Bool}
 use mathlib.Core.List.{List}
 use Rattle.math.specs.declared.axis.Axis.the-variants.{X, Y, Z}
-use Rattle.split.specs.declared.boxes.BoxWords.{BoxWords}
+use Rattle.entries.specs.declared.boxes.BoxWords.{BoxWords}
 use Rattle.split.specs.declared.groups.Counts.{Counts}
-use Rattle.split.specs.Boxes.{boxAt}
+use Rattle.entries.specs.Boxes.{boxAt}
 use Rattle.split.specs.Rule.{chosen, groupOne, groupTwo}
 use Rattle.split.specs.steps.Groups.{Parted}
 use Rattle.split.proofs.Counting.{count-le}

@@ -13,11 +13,11 @@ use Rattle.math.specs.declared.vec3.Vec3.{Vec3}
 use Rattle.math.specs.Vec3s.{addOf, scaleOf}
 use Rattle.math.specs.Transform.{half}
 use Rattle.split.specs.declared.groups.Counts.{Counts}
-use Rattle.split.specs.declared.boxes.Corners.{Corners}
-use Rattle.split.specs.Boxes.{boxAt}
+use Rattle.entries.specs.declared.boxes.Corners.{Corners}
+use Rattle.entries.specs.Boxes.{boxAt}
 use Rattle.split.specs.Rule.{below}
 use Rattle.split.specs.steps.Groups.{countMore}
-use Rattle.split.proofs.Places.{Pass, begin, taken, finished, next-within}
+use Rattle.entries.proofs.Places.{Pass, begin, taken, finished, next-within}
 use Rattle.split.proofs.Counting.{onto, none, onto-more, onto-none, none-onto, small}
 
 abbrev Inv-loop : tie.InvT-loop

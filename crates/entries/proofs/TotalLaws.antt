@@ -1,0 +1,114 @@
+-- The fold by value is the fold of the words, since a choice between words is that between their floats; and where it has no NaN it
+-- gives the words back, since a number has one word. By induction on the list, over any box to start from.
+use Prim.Native.Nat.{ℕ, _+_, _*_, _<_}
+use native.Mathlib.Omega.{arith}
+use mathlib.Core.Path.{_≡_, refl, sym, ap, _∙_, subst}
+use mathlib.Core.Logic.{⊎-elim}
+use mathlib.Core.Bool.{Bool, false, not, _||_}
+use mathlib.Core.List.{List, [], _∷_}
+use lib.Dec.{T}
+use lib.ListN.{getD}
+use lib.Ieee.{binary32, ofBits, toBits, isNan}
+use lib.Ieee.Bits.{toBits-ofBits}
+use Rattle.base.proofs.Truth.{neither}
+use Rattle.float32.specs.Extremes.{vminWord, vmaxWord}
+use Rattle.float32.proofs.ExtremeLaws.{vminWord-value, vmaxWord-value, vminWord-either, vmaxWord-either}
+use Rattle.math.specs.declared.vec3.Vec3.{Vec3}
+use Rattle.math.specs.declared.words3.Words3.{Words3}
+use Rattle.math.specs.Stored.{valuesOf, bitsOf, vminWordsOf, vmaxWordsOf}
+use Rattle.math.specs.Vec3s.{addOf, vmin3Of, vmax3Of}
+use Rattle.entries.specs.declared.boxes.BoxWords.{BoxWords}
+use Rattle.entries.specs.declared.totals.Totals.{Totals}
+use Rattle.entries.specs.Boxes.{boxAt}
+use Rattle.entries.specs.Folding.{startBox, foldStep, foldFrom, foldBox}
+use Rattle.entries.specs.Average.{origin, sumFrom}
+use Rattle.entries.specs.steps.Totals.{cornersOf, totalsOf, totalStep, anyNan}
+
+-- ---- by value
+abbrev pub totalsFrom : (ℕ → BoxWords) → Totals → List ℕ → Totals
+totalsFrom at t [] = t
+totalsFrom at t (p ∷ ps) = totalsFrom at (totalStep t (cornersOf (at p))) ps
+
+min-values : (a b : Words3) → valuesOf (vminWordsOf a b) ≡ vmin3Of (valuesOf a) (valuesOf b)
+min-values a b = λ i. record { x = vminWord-value (a .x) (b .x) i; y = vminWord-value (a .y) (b .y) i; z = vminWord-value (a .z) (b .z) i }
+
+max-values : (a b : Words3) → valuesOf (vmaxWordsOf a b) ≡ vmax3Of (valuesOf a) (valuesOf b)
+max-values a b = λ i. record { x = vmaxWord-value (a .x) (b .x) i; y = vmaxWord-value (a .y) (b .y) i; z = vmaxWord-value (a .z) (b .z) i }
+
+-- one box more in the sum
+abbrev sumStep : Vec3 → BoxWords → Vec3
+sumStep s b = addOf (addOf s (valuesOf (b .min))) (valuesOf (b .max))
+
+step-is : (acc b : BoxWords) (s : Vec3) → totalsOf (foldStep acc b) (sumStep s b) ≡ totalStep (totalsOf acc s) (cornersOf b)
+step-is acc b s =
+    λ i. record { low = min-values (acc .min) (b .min) i; high = max-values (acc .max) (b .max) i; sum = sumStep s b }
+
+totals-are : (at : ℕ → BoxWords) (acc : BoxWords) (s : Vec3) (ps : List ℕ) → totalsFrom at (totalsOf acc s) ps ≡ totalsOf (foldFrom at acc ps) (sumFrom at s ps)
+totals-are at acc s [] = refl
+totals-are at acc s (p ∷ ps) =
+    ap (λ (t : Totals). totalsFrom at t ps) (sym (step-is acc (at p) s)) ∙ totals-are at (foldStep acc (at p)) (sumStep s (at p)) ps
+
+pub all-totals : (at : ℕ → BoxWords) (ps : List ℕ) → totalsFrom at (totalsOf startBox origin) ps ≡ totalsOf (foldBox at ps) (sumFrom at origin ps)
+unfolding foldBox
+all-totals at ps = totals-are at startBox origin ps
+
+-- ---- the words are of 32 bits
+abbrev Word : ℕ → Type 0
+Word n = n < 0x1_0000_0000
+
+abbrev Words : Words3 → Type 0
+Words w = Word (w .x) × Word (w .y) × Word (w .z)
+
+min-word : (a b : ℕ) → Word a → Word b → Word (vminWord a b)
+min-word a b h k = ⊎-elim (λ e. subst Word (sym e) h) (λ e. subst Word (sym e) k) (vminWord-either a b)
+
+max-word : (a b : ℕ) → Word a → Word b → Word (vmaxWord a b)
+max-word a b h k = ⊎-elim (λ e. subst Word (sym e) h) (λ e. subst Word (sym e) k) (vmaxWord-either a b)
+
+min-words : (a b : Words3) → Words a → Words b → Words (vminWordsOf a b)
+min-words a b h k = (min-word (a .x) (b .x) (h .0) (k .0), min-word (a .y) (b .y) (h .1) (k .1), min-word (a .z) (b .z) (h .2) (k .2))
+
+max-words : (a b : Words3) → Words a → Words b → Words (vmaxWordsOf a b)
+max-words a b h k = (max-word (a .x) (b .x) (h .0) (k .0), max-word (a .y) (b .y) (h .1) (k .1), max-word (a .z) (b .z) (h .2) (k .2))
+
+words-from : (ws : List ℕ) → ((i : ℕ) → Word (getD ws i 0)) → (acc : BoxWords) → Words (acc .min) → Words (acc .max) → (ps : List ℕ)
+    → Words (foldFrom (boxAt ws) acc ps .min) × Words (foldFrom (boxAt ws) acc ps .max)
+words-from ws h acc l u [] = (l, u)
+words-from ws h acc l u (p ∷ ps) =
+    words-from ws h (foldStep acc (boxAt ws p))
+    (min-words (acc .min) (boxAt ws p .min) l (h (7 * p + 1), h (7 * p + 1 + 1), h (7 * p + 1 + 2)))
+    (max-words (acc .max) (boxAt ws p .max) u (h (7 * p + 1 + 3), h (7 * p + 1 + 3 + 1), h (7 * p + 1 + 3 + 2)))
+    ps
+
+fold-words : (ws : List ℕ) → ((i : ℕ) → Word (getD ws i 0)) → (ps : List ℕ) → Words (foldBox (boxAt ws) ps .min) × Words (foldBox (boxAt ws) ps .max)
+unfolding foldBox
+fold-words ws h ps = words-from ws h startBox (omega arith, omega arith, omega arith) (omega arith, omega arith, omega arith) ps
+
+-- ---- a number's word
+word-back : (n : ℕ) → Word n → isNan (ofBits binary32 n) ≡ false → toBits binary32 (ofBits binary32 n) ≡ n
+word-back n h e = toBits-ofBits binary32 n h (subst (λ (b : Bool). T (not b)) (sym e) tt)
+
+words-back : (w : Words3) (v : Vec3) → Words w → v ≡ valuesOf w → anyNan v ≡ false → bitsOf v ≡ w
+unfolding anyNan
+words-back w v h e n =
+    let f = subst (λ (u : Vec3). (isNan (u .x) || (isNan (u .y) || isNan (u .z))) ≡ false) e n in
+    let nx : Bool = isNan (ofBits binary32 (w .x)) in
+    let ny : Bool = isNan (ofBits binary32 (w .y)) in
+    let nz : Bool = isNan (ofBits binary32 (w .z)) in
+    let k = neither nx (ny || nz) f in
+    let g = neither ny nz (k .1) in
+    let x = word-back (w .x) (h .0) (k .0) in
+    let y = word-back (w .y) (h .1) (g .0) in
+    let z = word-back (w .z) (h .2) (g .1) in
+    ap bitsOf e ∙ (λ i. record { x = x i; y = y i; z = z i })
+
+-- the fold's words, by its values
+pub by-value : (ws : List ℕ) → ((i : ℕ) → Word (getD ws i 0)) → (ps : List ℕ) (low high : Vec3)
+    → low ≡ valuesOf (foldBox (boxAt ws) ps .min)
+    → high ≡ valuesOf (foldBox (boxAt ws) ps .max)
+    → (anyNan low || anyNan high) ≡ false
+    → (bitsOf low ≡ foldBox (boxAt ws) ps .min) × (bitsOf high ≡ foldBox (boxAt ws) ps .max)
+by-value ws h ps low high l u e =
+    let n = neither (anyNan low) (anyNan high) e in
+    let w = fold-words ws h ps in
+    (words-back (foldBox (boxAt ws) ps .min) low (w .0) l (n .0), words-back (foldBox (boxAt ws) ps .max) high (w .1) u (n .1))

@@ -1,0 +1,6 @@
+pub mod Average
+pub mod Boxes
+pub mod Ends
+pub mod Folding
+pub mod Plain
+pub mod steps
