@@ -16,7 +16,7 @@ use Rattle.bvh.specs.declared.core.BuildRefusal.the-variants.{TooManyEnt
 use Rattle.bvh.specs.declared.core.Lengths.{Lengths}
 use Rattle.bvh.specs.declared.items.BvhItem.{BvhItem}
 use Rattle.bvh.specs.Build.{Entries, short, answerOf, kept, nodesWritten, treesWritten, orderWritten}
-use Rattle.split.specs.Boxes.{boxFrom}
+use Rattle.entries.specs.Boxes.{boxFrom}
 use Rattle.bvh.specs.Entry.{entriesOf, entriesIn, takenOf, Outputs, lent, lengthsOf, Answered}
 use Rattle.bvh.specs.Items.{itemWords, wordsOf, boxIn, present, marked}
 use Rattle.bvh.proofs.MarkedLaws.{marked-present}

@@ -5,7 +5,7 @@ use mathlib.Core.List.{List, _++_}
 use mathlib.Core.Path.{_≡_}
 use lib.ListN.{length}
 use Rattle.base.specs.Lists.{Within, Permutes}
-use Rattle.split.specs.declared.boxes.BoxWords.{BoxWords}
+use Rattle.entries.specs.declared.boxes.BoxWords.{BoxWords}
 use Rattle.split.proofs.DivideLaws.{divide-total, divide-some-first, divide-some-second, divide-within-first, divide-within-second, divide-permutes}
 use Rattle.bvh.specs.Tree.{Builder, builder}
 

@@ -12,10 +12,10 @@ use Rattle.float32.proofs.OrderLaws.{le-trans}
 use Rattle.math.specs.declared.axis.Axis.{Axis}
 use Rattle.math.specs.Axes.{coordinate}
 use Rattle.math.specs.declared.vec3.Vec3.{Vec3}
-use Rattle.split.specs.declared.boxes.BoxWords.{BoxWords}
-use Rattle.split.specs.Ends.{low, high, Proper, Bounded, Each}
-use Rattle.split.specs.Folding.{foldBox}
-use Rattle.split.proofs.FoldLaws.{fold-below-each, fold-above-each, fold-proper, fold-bounded, fold-contains}
+use Rattle.entries.specs.declared.boxes.BoxWords.{BoxWords}
+use Rattle.entries.specs.Ends.{low, high, Proper, Bounded, Each}
+use Rattle.entries.specs.Folding.{foldBox}
+use Rattle.entries.proofs.FoldLaws.{fold-below-each, fold-above-each, fold-proper, fold-bounded, fold-contains}
 use Rattle.records.specs.Axis.{extent, largest, smallest, nought, Measured}
 use Rattle.records.proofs.AxisLaws.{built, asked, Inside, built-below, built-above}
 

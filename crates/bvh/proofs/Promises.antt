@@ -14,7 +14,7 @@ use lib.ListN.{length, getD, drop}
 use lib.Seq.{drop-at, drop-drop, getD-drop}
 use Rattle.base.proofs.NumberLaws.{rising-once}
 use Rattle.base.specs.Lists.{occurrences, Rising, upFrom}
-use Rattle.split.specs.declared.boxes.BoxWords.{BoxWords}
+use Rattle.entries.specs.declared.boxes.BoxWords.{BoxWords}
 use Rattle.bvh.specs.Build.{Entries, treeOf}
 use Rattle.bvh.specs.Promises.{itemsIn, itemsOf, WellGrown}
 use Rattle.bvh.specs.Ranges.{rangeLimit}

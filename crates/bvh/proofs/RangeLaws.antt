@@ -13,7 +13,7 @@ use lib.ListN.{length, length-append}
 use lib.Seq.{drop-append-le, drop-append-add}
 use borrow.Author.Tests.{ltb-true, ltb-false, leb-true, leb-false, le-leb, lt-leb, lt-ltb, le-ltb}
 use Rattle.base.specs.Lists.{upFrom}
-use Rattle.split.specs.declared.boxes.BoxWords.{BoxWords}
+use Rattle.entries.specs.declared.boxes.BoxWords.{BoxWords}
 use Rattle.bvh.specs.Tree.{Node, leaf, inner, leafOrder, size}
 use Rattle.bvh.specs.Ranges.{Range, Subtree, parts, rangeOf, ranges, rangeLimit}
 use Rattle.bvh.specs.Rows.{Row, rows}

@@ -5,7 +5,7 @@ use mathlib.Core.Path.{_≡_, refl, sym, ap, ap₂, _∙_}
 use mathlib.Core.List.{List, [], _∷_, _++_, append-assoc}
 use lib.ListN.{length, getD, set, take, drop, length-append, length-drop, take-append-drop}
 use lib.Seq.{getD-drop, getD-at, set-at, take-add}
-use Rattle.split.specs.Boxes.{boxFrom, boxWords}
+use Rattle.entries.specs.Boxes.{boxFrom, boxWords}
 use Rattle.bvh.specs.Rows.{Row}
 use Rattle.bvh.specs.steps.Table.{rowWords, tableOf, rowAt, rowsIn}
 use Rattle.bvh.proofs.WordLaws.{box-drop}

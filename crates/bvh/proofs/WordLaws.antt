@@ -5,7 +5,7 @@ use mathlib.Core.Path.{_≡_, sym, ap, _∙_}
 use mathlib.Core.List.{List}
 use lib.ListN.{getD, drop}
 use lib.Seq.{getD-drop}
-use Rattle.split.specs.Boxes.{pointAt, boxFrom}
+use Rattle.entries.specs.Boxes.{pointAt, boxFrom}
 
 word-drop : (n : ℕ) (ws : List ℕ) (at k : ℕ) → getD (drop n ws) (at + k) 0 ≡ getD ws (n + at + k) 0
 word-drop n ws at k = getD-drop n ws (at + k) 0 ∙ ap (λ (m : ℕ). getD ws m 0) (sym (add-assoc n at k))

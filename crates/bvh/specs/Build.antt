@@ -5,7 +5,7 @@ use mathlib.Core.List.{List, _++_}
 use lib.Dec.{ltb}
 use lib.ListN.{length}
 use Rattle.base.specs.Lists.{over}
-use Rattle.split.specs.declared.boxes.BoxWords.{BoxWords}
+use Rattle.entries.specs.declared.boxes.BoxWords.{BoxWords}
 use Rattle.records.specs.declared.scale.Scale.{Scale}
 use Rattle.records.specs.Scale.{scaleOfBox}
 use Rattle.bvh.specs.declared.core.Build.{Build}

@@ -9,7 +9,7 @@ use Rattle.bvh.specs.declared.core.Build.{Build}
 use Rattle.bvh.specs.declared.items.BvhItem.{BvhItem}
 use Rattle.bvh.specs.declared.core.Lengths.{Lengths}
 use Rattle.bvh.specs.Build.{Entries, answerOf, kept, nodesWritten, treesWritten, orderWritten}
-use Rattle.split.specs.Boxes.{boxFrom}
+use Rattle.entries.specs.Boxes.{boxFrom}
 use Rattle.bvh.specs.Items.{boxIn, present, marked}
 
 -- the entries of a list of items

@@ -4,8 +4,8 @@ use mathlib.Core.Bool.{true, false}
 use mathlib.Core.List.{List, _++_}
 use lib.Dec.{leb}
 use lib.ListN.{length}
-use Rattle.split.specs.declared.boxes.BoxWords.{BoxWords}
-use Rattle.split.specs.Folding.{foldBox}
+use Rattle.entries.specs.declared.boxes.BoxWords.{BoxWords}
+use Rattle.entries.specs.Folding.{foldBox}
 use Rattle.split.specs.Rule.{firstOf, secondOf}
 
 -- A node has its box, and its items or its two children.

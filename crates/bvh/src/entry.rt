@@ -1,7 +1,7 @@
 // The entry point of a build: the entries are taken apart into words, and the core is given plain slices.
 use crate::core::Build;
 use crate::items::BvhItem;
-use split::boxes::BoxWords;
+use entries::boxes::BoxWords;
 ghost use mathlib.Core.Path.{_≡_};
 ghost use mathlib.Core.List.{_++_};
 ghost use Prim.Native.Nat.{_+_, _*_, _≤_};
@@ -29,7 +29,7 @@ fn put_item(entries: &mut [u32], i: usize, item: BvhItem)
     let min = item.min;
     let max = item.max;
     entries[at] = item.present;
-    split::boxes::put_box(entries, at + 1, BoxWords { min: min, max: max });
+    entries::boxes::put_box(entries, at + 1, BoxWords { min: min, max: max });
 }
 
 // The tree of the present entries. The work buffer is lent in five parts: the entries' words, places, temp, stack and rows.

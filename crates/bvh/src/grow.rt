@@ -5,9 +5,9 @@ ghost use mathlib.Core.Path.{_≡_};
 ghost use Prim.Native.Nat.{_+_, _-_, _*_, _≤_, _<_};
 ghost use lib.ListN.{length, set};
 ghost use Rattle.base.specs.Lists.{Within};
-ghost use Rattle.split.specs.Boxes.{boxAt};
-ghost use Rattle.split.specs.Folding.{foldBox};
-ghost use Rattle.split.specs.Plain.{Plain};
+ghost use Rattle.entries.specs.Boxes.{boxAt};
+ghost use Rattle.entries.specs.Folding.{foldBox};
+ghost use Rattle.entries.specs.Plain.{Plain};
 ghost use Rattle.bvh.specs.Tree.{builder};
 ghost use Rattle.bvh.specs.steps.Laid.{Room, InnerPut, Laid, Grown};
 ghost use Rattle.bvh.specs.steps.Table.{withRow};
@@ -22,7 +22,7 @@ fn put_leaf(rows: &mut [u32], m: usize, entries: &[u32], places: &[u32], lo: usi
       count = length (now (places .entry));
     }) (now (rows .entry)) ⌝ }
 {
-    let around = split::fold::fold_box(entries, places, plain);
+    let around = entries::fold::fold_box(entries, places, plain);
     put_row(rows, m, around, lo, places.len());
 }
 
@@ -110,7 +110,7 @@ pub fn grow_tree(
         put_leaf(rows, 0, entries, places, 0, false);
         return 1;
     }
-    let plain = split::boxes::all_numbers(entries);
+    let plain = entries::boxes::all_numbers(entries);
     let m = grow(places, temp, entries, stack, rows, threshold, plain);
     crate::sizes::fill_sizes(rows, m);
     m

@@ -1,6 +1,6 @@
 // The rows of a tree in the work buffer. A row has eight words: its box, its head and its count.
+use entries::boxes::BoxWords;
 use math::words3::Words3;
-use split::boxes::BoxWords;
 ghost use mathlib.Core.Path.{_≡_};
 ghost use Prim.Native.Nat.{_+_, _*_, _≤_, _<_};
 ghost use lib.ListN.{length, set};
@@ -48,7 +48,7 @@ pub fn put_row(rows: &mut [u32], i: usize, around: BoxWords, head: usize, items:
     ensures { λ _. ⌜ now (rows .exit) ≡ withRow i (record { box = around; head = head; count = items }) (now (rows .entry)) ⌝ }
 {
     let at = 8 * i;
-    split::boxes::put_box(rows, at, around);
+    entries::boxes::put_box(rows, at, around);
     rows[at + 6] = head as u32;
     rows[at + 7] = items as u32;
 }

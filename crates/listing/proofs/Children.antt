@@ -11,7 +11,7 @@ use Rattle.base.proofs.StoreLaws.{over-more}
 use Rattle.base.specs.Lists.{upFrom, over}
 use Rattle.base.specs.LittleEndian.{leAt}
 use Rattle.base.proofs.LittleEndian.{le-past}
-use Rattle.split.specs.Boxes.{boxWords, boxFrom}
+use Rattle.entries.specs.Boxes.{boxWords, boxFrom}
 use Rattle.bvh.specs.Items.{marked}
 use Rattle.bvh.specs.Entry.{entriesIn}
 use Rattle.listing.specs.Listing.{childrenOf}

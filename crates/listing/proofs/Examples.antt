@@ -14,8 +14,9 @@ use Rattle.float32.specs.Signs as Signs
 use Rattle.records.specs.Quantise.{quantiseOf}
 use Rattle.records.specs.Scale.{scaleOfBox}
 use Rattle.records.specs.declared.BoundVertex.{BoundVertex}
-use Rattle.split.specs.Folding.{foldBox}
-use Rattle.split.specs.Rule.{averageOf, below, above, countBelow, axisOf, chosen, groupOne, groupTwo, twoLeads, firstOf, secondOf}
+use Rattle.entries.specs.Folding.{foldBox}
+use Rattle.entries.specs.Average.{averageOf}
+use Rattle.split.specs.Rule.{below, above, countBelow, axisOf, chosen, groupOne, groupTwo, twoLeads, firstOf, secondOf}
 use Rattle.bvh.specs.Build.{treeOf}
 use Rattle.bvh.specs.Output.{nodeOf, treeRecord}
 use Rattle.bvh.specs.Tree.{growF, grow}

@@ -3,8 +3,8 @@ use Prim.Native.Nat.{ℕ, zero, suc, _+_, _*_}
 use mathlib.Core.List.{List, [], _∷_, _++_}
 use Rattle.base.specs.LittleEndian.{leAt}
 use Rattle.math.specs.declared.words3.Words3.{Words3}
-use Rattle.split.specs.declared.boxes.BoxWords.{BoxWords}
-use Rattle.split.specs.Boxes.{boxWords}
+use Rattle.entries.specs.declared.boxes.BoxWords.{BoxWords}
+use Rattle.entries.specs.Boxes.{boxWords}
 
 -- Rule L8 (01: w ignored): the x, y and z of the four floats from k on.
 unfoldable pub cornerAt : List ℕ → ℕ → Words3

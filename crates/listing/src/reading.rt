@@ -1,13 +1,13 @@
 // The child box records of the input, as the entries of a build.
 use base::little_endian::word_at;
+use entries::boxes::BoxWords;
 use math::words3::Words3;
-use split::boxes::BoxWords;
 ghost use mathlib.Core.Path.{_≡_};
 ghost use mathlib.Core.List.{_∷_, _++_};
 ghost use Prim.Native.Nat.{_+_, _*_, _≤_};
 ghost use lib.ListN.{length, take, drop};
 ghost use Rattle.base.specs.Lists.{over};
-ghost use Rattle.split.specs.Boxes.{boxWords};
+ghost use Rattle.entries.specs.Boxes.{boxWords};
 ghost use Rattle.listing.specs.Reading.{cornerAt, childBox, childWords};
 
 // The three words from `at` on. The fourth, w, is not read.
@@ -40,7 +40,7 @@ fn put_child(entries: &mut [u32], bytes: &[u8], i: usize)
 {
     let at = 7 * i;
     entries[at] = 1;
-    split::boxes::put_box(entries, at + 1, child_box(bytes, 32 * i));
+    entries::boxes::put_box(entries, at + 1, child_box(bytes, 32 * i));
 }
 
 // The first n records as entries.

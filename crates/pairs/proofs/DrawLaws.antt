@@ -11,8 +11,8 @@ use Rattle.base.proofs.StoreLaws.{store-next, stores-leave, over-more}
 use Rattle.math.specs.declared.aabb.Aabb.{Aabb}
 use Rattle.math.specs.declared.words3.Words3.{Words3}
 use Rattle.math.specs.Stored.{bitsOf}
-use Rattle.split.specs.Boxes.{boxWords}
-use Rattle.split.specs.declared.boxes.BoxWords.{BoxWords}
+use Rattle.entries.specs.Boxes.{boxWords}
+use Rattle.entries.specs.declared.boxes.BoxWords.{BoxWords}
 use Rattle.pairs.specs.declared.draw.Shape.{Shape}
 use Rattle.pairs.specs.Drawing.{nextOf, threeOn, drawnBox, presenceOf, entryWords, entriesOn, drawnEntries}
 

@@ -9,8 +9,8 @@ use Rattle.math.specs.declared.vec3.Vec3.{Vec3}
 use Rattle.math.specs.declared.aabb.Aabb.{Aabb}
 use Rattle.math.specs.Stored.{bitsOf}
 use Rattle.math.specs.Vec3s.{addOf, scaleOf, vaddOf, _⊗_}
-use Rattle.split.specs.Boxes.{boxAt, boxWords}
-use Rattle.split.specs.declared.boxes.BoxWords.{BoxWords}
+use Rattle.entries.specs.Boxes.{boxAt, boxWords}
+use Rattle.entries.specs.declared.boxes.BoxWords.{BoxWords}
 use Rattle.tree.specs.Pair.{boxValues}
 use Rattle.pairs.specs.declared.draw.Shape.{Shape}
 use Rattle.pairs.specs.declared.tally.Tally.{Tally}

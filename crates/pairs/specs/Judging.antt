@@ -7,7 +7,7 @@ use lib.Dec.{eqb, leb}
 use lib.ListN.{getD, set}
 use Rattle.base.specs.Lists.{oneIf}
 use Rattle.math.specs.declared.aabb.Aabb.{Aabb}
-use Rattle.split.specs.Boxes.{boxAt}
+use Rattle.entries.specs.Boxes.{boxAt}
 use Rattle.bvh.specs.Items.{isMarked}
 use Rattle.bvh.specs.Promises.{itemAt}
 use Rattle.walk.specs.Boxes.{meetsBox}

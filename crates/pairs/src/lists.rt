@@ -5,15 +5,15 @@ use crate::draw::drawn_box;
 use crate::draw::next;
 use crate::draw::three_on;
 use base::numbers::Place;
+use entries::boxes::BoxWords;
 use math::aabb::Aabb;
 use math::vec3::Vec3;
-use split::boxes::BoxWords;
 ghost use mathlib.Core.Path.{_≡_};
 ghost use Prim.Native.Nat.{_+_, _*_, _≤_, _<_};
 ghost use lib.ListN.{length, getD};
 ghost use lib.Seq.{sets};
 ghost use Rattle.base.specs.Lists.{over};
-ghost use Rattle.split.specs.Boxes.{boxAt};
+ghost use Rattle.entries.specs.Boxes.{boxAt};
 ghost use Rattle.bvh.specs.Items.{isMarked};
 ghost use Rattle.tree.specs.Pair.{boxValues};
 ghost use Rattle.pairs.specs.Drawing.{cubeOf, nextOf, threeOn, isAbsent, presenceOf, entryWords, entriesOn, drawnEntries};
@@ -41,7 +41,7 @@ fn put_entry(entries: &mut [u32], i: usize, shape: Shape, s: u32) -> u32
     let first = next(s);
     let b = drawn_box(first, shape);
     entries[at] = presence(first, shape.absent);
-    split::boxes::put_box(
+    entries::boxes::put_box(
         entries,
         at + 1,
         BoxWords {
@@ -88,7 +88,7 @@ pub fn box_of(list: &[u32; 4900], place: Place) -> Aabb
     requires { ⌜ place .0 < 700 ⌝ }
     ensures { λ r. ⌜ r ≡ boxValues (boxAt (now (list .entry)) (place .0)) ⌝ }
 {
-    as_floats(split::boxes::box_at(list, place))
+    as_floats(entries::boxes::box_at(list, place))
 }
 
 // The same on each axis.

@@ -6,9 +6,9 @@ use borrow.Author.Tests.{lt-ltb, le-ltb}
 use Rattle.base.proofs.Truth.{when, unless}
 use Rattle.bvh.specs.Entry.{entriesIn}
 use Rattle.bvh.specs.Items.{marked}
-use Rattle.split.specs.Boxes.{boxAt}
-use Rattle.split.specs.Folding.{foldBox}
-use Rattle.split.specs.declared.boxes.BoxWords.{BoxWords}
+use Rattle.entries.specs.Boxes.{boxAt}
+use Rattle.entries.specs.Folding.{foldBox}
+use Rattle.entries.specs.declared.boxes.BoxWords.{BoxWords}
 use Rattle.premises.specs.declared.ordinary.Premises.{Premises}
 use Rattle.premises.specs.Faults.{extentFault}
 use Rattle.premises.specs.Judgement.{faulty, refusedBy, firstFault, judgementOf, premisesOf, Judged}

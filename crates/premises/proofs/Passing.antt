@@ -10,9 +10,9 @@ use lib.ListN.{getD}
 use Rattle.base.proofs.Truth.{when, unless}
 use Rattle.bvh.specs.Items.{isMarked, marked}
 use Rattle.bvh.proofs.MarkedLaws.{marked-next}
-use Rattle.split.specs.Boxes.{boxAt}
-use Rattle.split.specs.Folding.{startBox, foldStep, foldFrom}
-use Rattle.split.specs.declared.boxes.BoxWords.{BoxWords}
+use Rattle.entries.specs.Boxes.{boxAt}
+use Rattle.entries.specs.Folding.{startBox, foldStep, foldFrom}
+use Rattle.entries.specs.declared.boxes.BoxWords.{BoxWords}
 use Rattle.premises.specs.Faults.{boxFault}
 use Rattle.premises.specs.Judgement.{faulty, firstFault}
 

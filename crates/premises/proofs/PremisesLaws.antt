@@ -18,9 +18,9 @@ use Rattle.float32.specs.Signs.{absOf}
 use Rattle.math.specs.declared.axis.Axis.{Axis}
 use Rattle.math.specs.declared.axis.Axis.the-variants.{X, Y, Z}
 use Rattle.records.specs.Axis.{largest, smallest, nought}
-use Rattle.split.specs.Ends.{low, high, Proper, Bounded}
-use Rattle.split.specs.Folding.{foldBox}
-use Rattle.split.specs.declared.boxes.BoxWords.{BoxWords}
+use Rattle.entries.specs.Ends.{low, high, Proper, Bounded}
+use Rattle.entries.specs.Folding.{foldBox}
+use Rattle.entries.specs.declared.boxes.BoxWords.{BoxWords}
 use Rattle.bvh.specs.declared.items.BvhItem.{BvhItem}
 use Rattle.bvh.specs.Build.{Entries}
 use Rattle.bvh.specs.Entry.{entriesIn, entriesOf}

@@ -8,8 +8,8 @@ use Rattle.float32.specs.Signs.{absOf}
 use Rattle.math.specs.declared.axis.Axis.the-variants.{X, Y, Z}
 use Rattle.math.specs.declared.words3.Words3.{Words3}
 use Rattle.records.specs.Axis.{largest, smallest, nought}
-use Rattle.split.specs.Ends.{low, high}
-use Rattle.split.specs.declared.boxes.BoxWords.{BoxWords}
+use Rattle.entries.specs.Ends.{low, high}
+use Rattle.entries.specs.declared.boxes.BoxWords.{BoxWords}
 use Rattle.tree.specs.Pair.{extentOn}
 
 -- at most 2^100 in size; a NaN and an infinity are not

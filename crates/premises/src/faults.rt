@@ -1,6 +1,6 @@
 // What breaks the premises in one box, and in the box of all.
+use entries::boxes::BoxWords;
 use math::words3::Words3;
-use split::boxes::BoxWords;
 ghost use mathlib.Core.Path.{_≡_};
 ghost use Prim.Native.Nat.{_<_};
 ghost use lib.Ieee.{binary32, ofBits};

@@ -1,14 +1,14 @@
 // Whether the entries meet the premises of point 3: the first entry that breaks them, else the box of all.
 use base::numbers::Place;
-use split::boxes::BoxWords;
+use entries::boxes::BoxWords;
 ghost use mathlib.Core.Bool.{cond};
 ghost use mathlib.Core.Path.{_≡_};
 ghost use Prim.Native.Nat.{_+_, _*_, _≤_, _<_};
 ghost use lib.ListN.{length, getD, take};
 ghost use Rattle.bvh.specs.Entry.{entriesIn};
 ghost use Rattle.bvh.specs.Items.{isMarked, marked};
-ghost use Rattle.split.specs.Boxes.{boxAt};
-ghost use Rattle.split.specs.Folding.{foldStep, foldBox};
+ghost use Rattle.entries.specs.Boxes.{boxAt};
+ghost use Rattle.entries.specs.Folding.{foldStep, foldBox};
 ghost use Rattle.premises.specs.Faults.{boxFault};
 ghost use Rattle.premises.specs.Judgement.{firstFault, judgementOf, Judged};
 
@@ -29,7 +29,7 @@ fn entry_fault(entries: &[u32], p: usize) -> u32
     if entries[7 * p] == 0 {
         return 0;
     }
-    crate::faults::box_fault(split::boxes::box_at(entries, Place(p as u32)))
+    crate::faults::box_fault(entries::boxes::box_at(entries, Place(p as u32)))
 }
 
 // The first of n entries that breaks the premises by itself.
@@ -64,7 +64,7 @@ fn fold_entry(entries: &[u32], p: usize, acc: BoxWords) -> BoxWords
     if entries[7 * p] == 0 {
         return acc;
     }
-    let b = split::boxes::box_at(entries, Place(p as u32));
+    let b = entries::boxes::box_at(entries, Place(p as u32));
     BoxWords {
         min: math::words3::vmin_words(acc.min, b.min),
         max: math::words3::vmax_words(acc.max, b.max),
@@ -76,7 +76,7 @@ fn fold_present(entries: &[u32], n: usize) -> BoxWords
     requires { ⌜ (7 * n ≤ length (now entries)) × (n ≤ 32767) ⌝ }
     ensures { λ r. ⌜ r ≡ foldBox (boxAt (now (entries .entry))) (marked 0 n (now (entries .entry))) ⌝ }
 {
-    let mut acc = split::boxes::start_box();
+    let mut acc = entries::boxes::start_box();
     let mut p = 0;
     while p < n {
         acc = fold_entry(entries, p, acc);

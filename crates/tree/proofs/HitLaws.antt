@@ -7,8 +7,8 @@ use mathlib.Core.List.{List, _++_}
 use mathlib.Core.Path.{_≡_, refl, sym, ap₂, _∙_}
 use Rattle.base.proofs.ListLaws.{occurs-append}
 use Rattle.base.specs.Lists.{occurrences, Permutes}
-use Rattle.split.specs.Folding.{foldBox}
-use Rattle.split.specs.declared.boxes.BoxWords.{BoxWords}
+use Rattle.entries.specs.Folding.{foldBox}
+use Rattle.entries.specs.declared.boxes.BoxWords.{BoxWords}
 use Rattle.bvh.specs.Tree.{Node, inner, Builder, builder, grow, leafOrder}
 use Rattle.bvh.proofs.Lawful.{Lawful, lawful}
 use Rattle.bvh.proofs.TreeLaws.{grow-induction}

@@ -18,7 +18,7 @@ use Rattle.records.specs.declared.BvhNode.{BvhNode}
 use Rattle.records.specs.declared.BvhTree.{BvhTree}
 use Rattle.records.specs.declared.scale.Scale.{Scale}
 use Rattle.records.specs.Records.{treeAt}
-use Rattle.split.specs.declared.boxes.BoxWords.{BoxWords}
+use Rattle.entries.specs.declared.boxes.BoxWords.{BoxWords}
 use Rattle.bvh.specs.steps.Decode.{Small}
 use Rattle.bvh.specs.Output.{idOf, nodeOf, nodesBytes, treeRecord, treesBytes}
 use Rattle.bvh.specs.Ranges.{Range, Subtree, parts, rangeOf, ranges}

@@ -16,9 +16,9 @@ use Rattle.math.specs.declared.aabb.Aabb.{Aabb}
 use Rattle.records.specs.Axis.{unitOn, Measured}
 use Rattle.records.specs.declared.BoundVertex.{BoundVertex}
 use Rattle.records.specs.Scale.{scaleOfBox}
-use Rattle.split.specs.Ends.{low, high}
-use Rattle.split.specs.Folding.{foldBox}
-use Rattle.split.specs.declared.boxes.BoxWords.{BoxWords}
+use Rattle.entries.specs.Ends.{low, high}
+use Rattle.entries.specs.Folding.{foldBox}
+use Rattle.entries.specs.declared.boxes.BoxWords.{BoxWords}
 use Rattle.bvh.proofs.MeetLaws.{all-measured, part-below, part-above}
 use Rattle.bvh.specs.Build.{Entries}
 use Rattle.walk.specs.Boxes.{overlap, queryOf, meetsBox, meets}

@@ -12,7 +12,7 @@ use lib.ListN.{length, drop, length-append, length-map}
 use lib.Seq.{drop-at, drop-drop}
 use Rattle.base.proofs.ListLaws.{occurs-append}
 use Rattle.base.specs.Lists.{occurrences, upFrom}
-use Rattle.split.specs.declared.boxes.BoxWords.{BoxWords}
+use Rattle.entries.specs.declared.boxes.BoxWords.{BoxWords}
 use Rattle.base.proofs.NumberLaws.{length-up, up-within}
 use Rattle.bvh.specs.Output.{idOf}
 use Rattle.bvh.specs.Promises.{itemAt}

@@ -12,9 +12,9 @@ use Rattle.math.specs.declared.axis.Axis.{Axis}
 use Rattle.math.specs.Stored.{valuesOf}
 use Rattle.math.specs.declared.aabb.Aabb.{Aabb}
 use Rattle.records.specs.Axis.{extent, largest, smallest, nought}
-use Rattle.split.specs.Ends.{low, high, Proper, Bounded, Each}
-use Rattle.split.specs.Folding.{foldBox}
-use Rattle.split.specs.declared.boxes.BoxWords.{BoxWords}
+use Rattle.entries.specs.Ends.{low, high, Proper, Bounded, Each}
+use Rattle.entries.specs.Folding.{foldBox}
+use Rattle.entries.specs.declared.boxes.BoxWords.{BoxWords}
 use Rattle.bvh.specs.declared.core.Build.{Build}
 use Rattle.bvh.specs.declared.core.Build.the-variants.{Built, Refused}
 use Rattle.bvh.specs.declared.core.BuiltTree.{BuiltTree}

@@ -8,7 +8,7 @@ use Rattle.base.specs.Lists.{occurrences, upFrom}
 use Rattle.math.specs.declared.aabb.Aabb.{Aabb}
 use Rattle.records.specs.Quantise.{quantiseOf}
 use Rattle.records.specs.declared.scale.Scale.{Scale}
-use Rattle.split.specs.declared.boxes.BoxWords.{BoxWords}
+use Rattle.entries.specs.declared.boxes.BoxWords.{BoxWords}
 use Rattle.bvh.specs.Output.{idOf}
 use Rattle.bvh.specs.Ranges.{Subtree}
 use Rattle.bvh.specs.Rows.{Row}

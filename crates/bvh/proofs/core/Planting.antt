@@ -9,7 +9,7 @@ use lib.Seq.{length-take-le, take-at}
 use Rattle.base.proofs.NumberLaws.{below-wider}
 use Rattle.base.proofs.WithinLaws.{below-within}
 use Rattle.base.specs.Lists.{Below}
-use Rattle.split.specs.Boxes.{boxAt}
+use Rattle.entries.specs.Boxes.{boxAt}
 use Rattle.bvh.specs.declared.core.Task.{Task}
 use Rattle.bvh.specs.Entry.{lent}
 use Rattle.bvh.specs.Items.{marked}

@@ -12,8 +12,8 @@ use Rattle.base.proofs.WithinLaws.{below-within, within-below}
 use Rattle.base.specs.Lists.{Within, over, Below}
 use Rattle.records.specs.declared.scale.Scale.{Scale}
 use Rattle.records.specs.Scale.{scaleOfBox}
-use Rattle.split.specs.Boxes.{boxAt}
-use Rattle.split.specs.declared.boxes.BoxWords.{BoxWords}
+use Rattle.entries.specs.Boxes.{boxAt}
+use Rattle.entries.specs.declared.boxes.BoxWords.{BoxWords}
 use Rattle.bvh.specs.declared.core.Planted.{Planted}
 use Rattle.bvh.specs.declared.core.Task.{Task}
 use Rattle.bvh.specs.Build.{scaleIn, treeOf, nodesWritten, treesWritten, orderWritten}

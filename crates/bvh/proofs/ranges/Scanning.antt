@@ -14,7 +14,7 @@ use Rattle.base.specs.Lists.{over}
 use Rattle.records.specs.declared.scale.Scale.{Scale}
 use Rattle.records.specs.Records.{treeBytes}
 use Rattle.records.proofs.Sizes.{tree-bytes}
-use Rattle.split.specs.declared.boxes.BoxWords.{BoxWords}
+use Rattle.entries.specs.declared.boxes.BoxWords.{BoxWords}
 use Rattle.bvh.specs.Tree.{Node, leaf, inner, leafOrder, size}
 use Rattle.bvh.specs.Rows.{Row, rows}
 use Rattle.bvh.specs.Ranges.{Range, parts, rangeOf, ranges}

@@ -2,7 +2,7 @@
 use Prim.Native.Nat.{ℕ, zero, suc, _+_, _*_}
 use mathlib.Core.List.{List, [], _∷_, _++_}
 use lib.ListN.{getD, take, drop}
-use Rattle.split.specs.Boxes.{boxFrom, boxWords}
+use Rattle.entries.specs.Boxes.{boxFrom, boxWords}
 use Rattle.bvh.specs.Rows.{Row}
 
 -- a row's words: its box, its head and its count

@@ -8,7 +8,7 @@ use lib.ListN.{length}
 use mir.Syntax.{w16}
 use mir.Val.{toZ}
 use mir.Facts.{toZ-pos}
-use Rattle.split.specs.declared.boxes.BoxWords.{BoxWords}
+use Rattle.entries.specs.declared.boxes.BoxWords.{BoxWords}
 use Rattle.records.specs.Quantise.{quantiseOf}
 use Rattle.bvh.specs.Output.{idOf, nodeOf}
 use Rattle.bvh.specs.Rows.{Row}

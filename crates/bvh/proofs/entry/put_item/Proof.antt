@@ -6,7 +6,7 @@ use Prim.Native.Nat.{_+_, _*_}
 use lib.ListN.{set, length-set}
 use mathlib.Core.Path.{refl, _∙_}
 use Rattle.base.proofs.StoreLaws.{stores-leave}
-use Rattle.split.specs.Boxes.{boxWords}
+use Rattle.entries.specs.Boxes.{boxWords}
 use Rattle.bvh.specs.Items.{itemBox}
 use Rattle.bvh.proofs.ItemWords.{mark-then-box}
 use native.Mathlib.Omega.{arith}

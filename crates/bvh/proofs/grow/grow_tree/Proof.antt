@@ -6,7 +6,7 @@ use Prim.Native.Nat.{_*_, _≤_, _<_}
 use mathlib.Core.Path.{sym, subst}
 use lib.Dec.{T}
 use lib.ListN.{length}
-use Rattle.split.specs.Boxes.{boxAt}
+use Rattle.entries.specs.Boxes.{boxAt}
 use Rattle.bvh.proofs.Lawful.{lawful}
 use Rattle.bvh.proofs.grow.Finished.{empty, finished}
 use native.Mathlib.Omega.{arith}

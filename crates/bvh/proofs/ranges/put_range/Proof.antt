@@ -14,7 +14,7 @@ use Rattle.records.specs.declared.BvhTree.{BvhTree}
 use Rattle.records.specs.declared.scale.Scale.{Scale}
 use Rattle.records.specs.Quantise.{quantiseOf}
 use Rattle.records.specs.Records.{treeBytes}
-use Rattle.split.specs.declared.boxes.BoxWords.{BoxWords}
+use Rattle.entries.specs.declared.boxes.BoxWords.{BoxWords}
 use Rattle.bvh.specs.Output.{treeRecord}
 
 -- two corners quantised and two numbers are the range's record

@@ -8,8 +8,8 @@ use mathlib.Core.Path.{_≡_, refl, sym, ap, _∙_}
 use lib.ListN.{length, getD, set, take, drop, length-append, length-set}
 use lib.Seq.{length-take-le, drop-cons, append-snoc, set-at}
 use Rattle.base.proofs.StoreLaws.{stores-leave}
-use Rattle.split.specs.Boxes.{boxWords}
-use Rattle.split.specs.declared.boxes.BoxWords.{BoxWords}
+use Rattle.entries.specs.Boxes.{boxWords}
+use Rattle.entries.specs.declared.boxes.BoxWords.{BoxWords}
 use Rattle.bvh.specs.steps.Table.{withRow}
 use native.Mathlib.Omega.{arith}
 

@@ -7,8 +7,8 @@ use mathlib.Core.Path.{refl, ap, _∙_}
 use lib.ListN.{set, length-set}
 use lib.Seq.{sets}
 use Rattle.base.proofs.StoreLaws.{stores-leave}
-use Rattle.split.specs.declared.boxes.BoxWords.{BoxWords}
-use Rattle.split.specs.Boxes.{boxWords}
+use Rattle.entries.specs.declared.boxes.BoxWords.{BoxWords}
+use Rattle.entries.specs.Boxes.{boxWords}
 use Rattle.listing.specs.Reading.{childBox}
 use Rattle.bvh.proofs.ItemWords.{mark-then-box}
 use native.Mathlib.Omega.{arith}

@@ -7,7 +7,7 @@ use mathlib.Core.Path.{ap, _∙_}
 use borrow.Author.Tests.{lt-ltb, le-ltb}
 use native.Mathlib.Omega.{arith}
 use Rattle.math.specs.declared.aabb.Aabb.{Aabb}
-use Rattle.split.specs.Boxes.{boxAt}
+use Rattle.entries.specs.Boxes.{boxAt}
 use Rattle.tree.specs.Pair.{boxValues}
 use Rattle.pairs.specs.Drawing.{belowOf, atBox, queryBox}
 use Rattle.pairs.proofs.CountLaws.{chosen-first, chosen-second}

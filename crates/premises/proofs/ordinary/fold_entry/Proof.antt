@@ -4,7 +4,7 @@ use Rattle.premises.proofs.ordinary.fold_entry.Statement.{statement}
 use Rattle.premises.proofs.ordinary.fold_entry.Tie as tie
 use mathlib.Core.Path.{ap, _∙_}
 use Rattle.math.specs.Stored.{vminWordsOf, vmaxWordsOf}
-use Rattle.split.specs.declared.boxes.BoxWords.{BoxWords}
+use Rattle.entries.specs.declared.boxes.BoxWords.{BoxWords}
 use Rattle.premises.proofs.Passing.{unmarked, is-marked}
 
 mul-if1 : tie.Need-mul-if1

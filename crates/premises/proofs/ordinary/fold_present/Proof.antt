@@ -2,7 +2,7 @@
 use Rattle.premises.proofs.ordinary.fold_present.Statement.{statement}
 use Rattle.premises.proofs.ordinary.fold_present.Tie as tie
 use Prim.Native.Nat.{_-_}
-use Rattle.split.specs.Folding.{foldBox}
+use Rattle.entries.specs.Folding.{foldBox}
 use Rattle.premises.proofs.Passing.{Folded, folded-begin, folded-next, folded-end}
 use borrow.Author.Needs.{needs}
 
