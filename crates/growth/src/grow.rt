@@ -7,6 +7,7 @@ ghost use lib.ListN.{length, set};
 ghost use Rattle.base.specs.Lists.{Within};
 ghost use Rattle.entries.specs.Boxes.{boxAt};
 ghost use Rattle.entries.specs.Folding.{foldBox};
+ghost use Rattle.entries.specs.Kept.{Kept};
 ghost use Rattle.entries.specs.Plain.{Plain};
 ghost use Rattle.growth.specs.Grow.{builder};
 ghost use Rattle.growth.specs.steps.Laid.{Room, InnerPut, Laid, Grown};
@@ -37,11 +38,12 @@ fn put_inner(
     plain: bool,
 ) -> usize
     requires { ⌜ (8 * m + 8 ≤ length (now rows)) × (2 ≤ length (now places)) × (length (now places) < 32768)
-        × (length (now places) ≤ length (now temp)) × (Within (length (now entries)) (now places)) × (Plain plain (now entries)) ⌝ }
+        × (length (now places) ≤ length (now temp)) × (Within (length (now entries)) (now places)) × (Plain plain (now entries))
+        × (Kept (now entries) (now centres)) ⌝ }
     ensures { λ r. ⌜ InnerPut (builder (boxAt (now (entries .entry)))) m (now (places .entry)) (now (places .exit)) (now (rows .entry))
         (now (rows .exit)) r ⌝ }
 {
-    let cut = split::divide::divide(places, temp, entries, plain);
+    let cut = split::divide::divide(places, temp, entries, centres, plain);
     let around = cut.around;
     put_row(rows, m, around, 0, 0);
     cut.first
@@ -69,7 +71,7 @@ pub fn grow(
     plain: bool,
 ) -> usize
     requires { ⌜ (0 < length (now places)) × (Room threshold (now places) (now temp) (now entries) (now stack) (now rows))
-        × (Plain plain (now entries)) ⌝ }
+        × (Plain plain (now entries)) × (Kept (now entries) (now centres)) ⌝ }
     ensures { λ r. ⌜ Laid (builder (boxAt (now (entries .entry)))) threshold (now (places .entry)) (now (places .exit)) (now (rows .exit)) r ⌝ }
 {
     let n = places.len();
@@ -115,6 +117,7 @@ pub fn grow_tree(
         return 1;
     }
     let plain = entries::boxes::all_numbers(entries);
+    entries::average::put_centres(entries, centres, plain);
     let m = grow(
         places,
         temp,

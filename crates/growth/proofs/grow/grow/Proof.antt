@@ -195,6 +195,7 @@ put-inner-requires c κs =
       omega (arith, t .in-temp),
       segment-within i,
       entry i .pre .2,
+      entry i .pre .3,
     )
 
 sub-push-two : tie.Need-sub-push-two Inv-loop μ-loop

@@ -1,4 +1,4 @@
--- `grow::grow_tree` meets its contract: without places one empty leaf, else the laid rows with their sizes.
+-- `grow::grow_tree` meets its contract: without places one empty leaf, else the laid rows with their sizes. The centres are kept once for all.
 use borrow.Author.Needs.{needs}
 use Rattle.growth.proofs.grow.grow_tree.Statement.{statement}
 use Rattle.growth.proofs.grow.grow_tree.Tie as tie
@@ -11,15 +11,18 @@ use Rattle.growth.proofs.Lawful.{lawful}
 use Rattle.growth.proofs.grow.Finished.{empty, finished}
 use native.Mathlib.Omega.{arith}
 
--- the function's entry, from where `grow` returned, and that place from the end
-abbrev entry : tie.After-grow → tie.Start
-entry c = c .before .before .before .before .before .before .before .before .before .before .before .before .before .before
+-- the function's entry, from where the centres are put and from where `grow` returned, and that place from the end
+abbrev start : tie.After-put-centres → tie.Start
+start c = c .before .before .before .before .before .before .before .before .before .before
 
-abbrev laid : tie.After-slice-known11 → tie.After-grow
+abbrev entry : tie.After-grow → tie.Start
+entry c = start (c .before .before .before .before .before .before .before .before)
+
+abbrev laid : tie.After-slice-known12 → tie.After-grow
 laid c = c .before .before .before .before .before .before .before .before .before .before .before .before
 
 some : (c : tie.After-grow) → 0 < length (entry c .args .places .now)
-some c = let z = c .before .before .before .before .before .before .before .if1 .left in omega arith
+some c = let z = c .before .before .before .before .before .before .before .before .before .before .before .if1 .left in omega arith
 
 fits : (c : tie.After-grow) → 8 * c .grow .result ≤ length (c .grow .last .1 .1 .1 .1 .0)
 fits c = omega (arith, c .grow .kept .1 .1 .1 .1 .0, c .grow .ensures .most, entry c .pre .0 .rows-room)
@@ -45,8 +48,16 @@ returns c =
 all-numbers-requires : tie.Need-all-numbers-requires
 all-numbers-requires c κs = search needs
 
+put-centres-requires : tie.Need-put-centres-requires
+put-centres-requires c κs =
+    let p = c .before .before .before .before .before .before .before .before .before .pre in
+    (p .1, p .2, c .before .all-numbers .ensures)
+
 grow-requires : tie.Need-grow-requires
-grow-requires c κs = search needs
+grow-requires c κs =
+    let put = c .before .before .before .before .before .before .before in
+    let z = put .before .before .before .if1 .left in
+    (omega arith, start put .pre .0, put .before .before .all-numbers .ensures, put .put-centres .ensures)
 
 fill-sizes-requires : tie.Need-fill-sizes-requires
 fill-sizes-requires c κs = search needs
@@ -81,6 +92,7 @@ grow-tree-spec =
     same-length-2
     returns
     all-numbers-requires
+    put-centres-requires
     grow-requires
     fill-sizes-requires
     same-length-3
