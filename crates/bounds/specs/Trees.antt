@@ -65,7 +65,7 @@ pub record Answers (e : Entries) (th : ℕ) (l : Lengths) (r : BuildAnswer) (bef
 
 -- 01, Build: the words of a work buffer for n entries.
 abbrev pub workLen : ℕ → ℕ
-workLen n = 26 * n + 8
+workLen n = 30 * n + 8
 
 -- a part's length where `left` words are left
 abbrev pub partOf : ℕ → ℕ → ℕ
@@ -83,7 +83,8 @@ cutWork n w l =
       places = partOf n (w - 7 * n);
       temp = partOf n (w - 8 * n);
       stack = partOf n (w - 9 * n);
-      rows = w - 10 * n;
+      rows = partOf (8 * (2 * n + 1)) (w - 10 * n);
+      centres = w - (26 * n + 8);
     }
 
 -- an output is too short

@@ -417,15 +417,15 @@ fn build_answer(b: Build) -> BuildAnswer
 }
 
 // The words that a build of n entries works in, all parts together: 7n for the entries, n each for places, temp and stack, 8(2n + 1) for
-// the rows.
+// the rows, 4n for the centres.
 #[no_mangle]
 pub extern "C" fn bounds_work_len(entries: u32) -> u64
     ensures { λ r. ⌜ r ≡ workLen entries ⌝ }
 {
-    26 * (entries as u64) + 8
+    30 * (entries as u64) + 8
 }
 
-// The tree of the present items. What it works in is lent in five parts: entries, places, temp, stack and rows.
+// The tree of the present items. What it works in is lent in six parts: entries, places, temp, stack, rows and centres.
 #[no_mangle]
 pub extern "C" fn bounds_build_bvh(
     items: &[BvhItem],
@@ -438,10 +438,11 @@ pub extern "C" fn bounds_build_bvh(
     temp: &mut [u32],
     stack: &mut [u32],
     rows: &mut [u32],
+    centres: &mut [f32],
 ) -> BuildAnswer
     ensures { λ r. ⌜ Answers (entriesOf (now (items .entry))) threshold
         (lengthsOf (outputs (now («node_bytes» .entry)) (now («tree_bytes» .entry)) (now (order .entry)))
-        (lent (now (entries .entry)) (now (places .entry)) (now (temp .entry)) (now (stack .entry)) (now (rows .entry)))) r
+        (lent (now (entries .entry)) (now (places .entry)) (now (temp .entry)) (now (stack .entry)) (now (rows .entry)) (now (centres .entry)))) r
         (outputs (now («node_bytes» .entry)) (now («tree_bytes» .entry)) (now (order .entry)))
         (outputs (now («node_bytes» .exit)) (now («tree_bytes» .exit)) (now (order .exit))) ⌝ }
 {
@@ -456,6 +457,7 @@ pub extern "C" fn bounds_build_bvh(
         temp,
         stack,
         rows,
+        centres,
     ))
 }
 

@@ -7,6 +7,7 @@ use mathlib.Core.Logic.{_⊎_, inl, inr, ⊎-elim}
 use mathlib.Core.Bool.{Bool, true, false, cond, _&&_, _||_, or-true}
 use mathlib.Core.List.{List, [], _∷_, _++_, append-nil}
 use lib.Dec.{leb, ltb}
+use lib.Ieee.{Float}
 use lib.ListN.{length, getD, take, drop}
 use lib.Seq.{take-at, getD-append-add}
 use borrow.Author.Tests.{lt-ltb, leb-true, leb-false}
@@ -103,18 +104,18 @@ pub taken-fits : (n room : ℕ) → (takenOf n room ≤ n) × (7 * takenOf n roo
 taken-fits n room = ⊎-elim (λ all. omega arith) (λ none. omega arith) (taken-cases n room)
 
 -- What the core answers over the words, the entry point answers over the items.
-pub answers : (items : List BvhItem) (th : ℕ) (entries places temp stack rows : List ℕ) (r : Build) (o o′ : Outputs)
+pub answers : (items : List BvhItem) (th : ℕ) (entries places temp stack rows : List ℕ) (centres : List Float) (r : Build) (o o′ : Outputs)
     → let n = length items in
     let held = apart items entries (takenOf n (length entries)) in
-    Answered (entriesIn n (take (7 * n) held)) th (lengthsOf o (lent held places temp stack rows)) r o o′
-    → Answered (entriesOf items) th (lengthsOf o (lent entries places temp stack rows)) r o o′
+    Answered (entriesIn n (take (7 * n) held)) th (lengthsOf o (lent held places temp stack rows centres)) r o o′
+    → Answered (entriesOf items) th (lengthsOf o (lent entries places temp stack rows centres)) r o o′
 unfolding entriesIn entriesOf
-answers items th entries places temp stack rows r o o′ a =
+answers items th entries places temp stack rows centres r o o′ a =
     let n = length items in
     let k = takenOf n (length entries) in
     let fits = taken-fits n (length entries) in
     let same : length (apart items entries k) ≡ length entries = length-apart items entries k (fits .0) (fits .1) in
-    let l = lengthsOf o (lent entries places temp stack rows) in
+    let l = lengthsOf o (lent entries places temp stack rows centres) in
     let b : Answered (entriesIn n (take (7 * n) (apart items entries k))) th l r o o′ = rw same at a in
     ⊎-elim
     (λ all. subst (λ (e : Entries). Answered e th l r o o′) (whole (all .0)) b)

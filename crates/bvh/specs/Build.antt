@@ -38,6 +38,7 @@ abbrev pub short : ℕ → Lengths → Bool
 short n l =
     ltb (l .nodes) (16 * (2 * n + 1)) || ltb (l .trees) (16 * (2 * n + 1)) || ltb (l .order) n
     || ltb (l .entries) (7 * n) || ltb (l .places) n || ltb (l .temp) n || ltb (l .stack) n || ltb (l .rows) (8 * (2 * n + 1))
+    || ltb (l .centres) (4 * n)
 
 -- the values of a build that is not refused
 abbrev pub builtOf : Entries → ℕ → Node → BuiltTree

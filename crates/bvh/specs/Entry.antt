@@ -4,6 +4,7 @@ use mathlib.Core.Bool.{cond, _&&_}
 use mathlib.Core.List.{List}
 use mathlib.Core.Path.{_≡_}
 use lib.Dec.{leb}
+use lib.Ieee.{Float}
 use lib.ListN.{length}
 use Rattle.bvh.specs.declared.core.Build.{Build}
 use Rattle.bvh.specs.declared.items.BvhItem.{BvhItem}
@@ -30,19 +31,21 @@ pub record Outputs : Type 0 where
   pub trees : List ℕ
   pub order : List ℕ
 
--- The other buffers that it is lent: the entries' words, and four parts of work.
+-- The other buffers that it is lent: the entries' words, and five parts of work.
 pub record Lent : Type 0 where
   pub entries : List ℕ
   pub places : List ℕ
   pub temp : List ℕ
   pub stack : List ℕ
   pub rows : List ℕ
+  pub centres : List Float
 
 abbrev pub outputs : List ℕ → List ℕ → List ℕ → Outputs
 outputs nodes trees order = record { nodes = nodes; trees = trees; order = order }
 
-abbrev pub lent : List ℕ → List ℕ → List ℕ → List ℕ → List ℕ → Lent
-lent entries places temp stack rows = record { entries = entries; places = places; temp = temp; stack = stack; rows = rows }
+abbrev pub lent : List ℕ → List ℕ → List ℕ → List ℕ → List ℕ → List Float → Lent
+lent entries places temp stack rows centres =
+    record { entries = entries; places = places; temp = temp; stack = stack; rows = rows; centres = centres }
 
 abbrev pub lengthsOf : Outputs → Lent → Lengths
 lengthsOf o l =
@@ -55,6 +58,7 @@ lengthsOf o l =
       temp = length (l .temp);
       stack = length (l .stack);
       rows = length (l .rows);
+      centres = length (l .centres);
     }
 
 -- Rule B2 (01, Build): the answer, and the three outputs whole. Nothing is said of the work buffers.

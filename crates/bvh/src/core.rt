@@ -1,5 +1,5 @@
 // The build on plain slices: the checks, the tree in the work buffers, and last the outputs, so that a refusal changes none of them.
-// The work buffer is lent in four parts, since two parts of one slice cannot be lent at once.
+// The work buffer is lent in five parts, since two parts of one slice cannot be lent at once.
 use math::words3::Words3;
 use records::scale::Scale;
 use rows::ranges::RANGE_LIMIT;
@@ -47,6 +47,7 @@ pub struct Lengths {
     pub temp: usize,
     pub stack: usize,
     pub rows: usize,
+    pub centres: usize,
 }
 
 // How many entries there are, and how many items a leaf may have.
@@ -88,7 +89,10 @@ fn too_short(n: usize, l: Lengths) -> bool
     if l.stack < n {
         return true;
     }
-    l.rows < 8 * rows
+    if l.rows < 8 * rows {
+        return true;
+    }
+    l.centres < 4 * n
 }
 
 // The records of m rows and, at threshold 1, the padding; how many records that is.
@@ -135,13 +139,22 @@ fn plant(
     temp: &mut [u32],
     stack: &mut [u32],
     rows: &mut [u32],
+    centres: &mut [f32],
     task: Task,
 ) -> Planted
-    requires { ⌜ WorkRoom task (lent (now entries) (now places) (now temp) (now stack) (now rows)) ⌝ }
+    requires { ⌜ WorkRoom task (lent (now entries) (now places) (now temp) (now stack) (now rows) (now centres)) ⌝ }
     ensures { λ r. ⌜ TreePlanted task (now (entries .entry)) (now (places .exit)) (now (rows .exit)) r ⌝ }
 {
     let k = crate::items::gather(entries, task.n, places);
-    let m = growth::grow::grow_tree(&mut places[..k], temp, entries, stack, rows, task.threshold);
+    let m = growth::grow::grow_tree(
+        &mut places[..k],
+        temp,
+        entries,
+        stack,
+        rows,
+        centres,
+        task.threshold,
+    );
     Planted {
         present: k,
         nodes: m,
@@ -198,10 +211,11 @@ pub fn build_core(
     temp: &mut [u32],
     stack: &mut [u32],
     rows: &mut [u32],
+    centres: &mut [f32],
 ) -> Build
     ensures { λ r. ⌜ Answered (entriesIn n (take (7 * n) (now (entries .entry)))) threshold
         (lengthsOf (outputs (now («node_bytes» .entry)) (now («tree_bytes» .entry)) (now (order .entry)))
-        (lent (now (entries .entry)) (now (places .entry)) (now (temp .entry)) (now (stack .entry)) (now (rows .entry)))) r
+        (lent (now (entries .entry)) (now (places .entry)) (now (temp .entry)) (now (stack .entry)) (now (rows .entry)) (now (centres .entry)))) r
         (outputs (now («node_bytes» .entry)) (now («tree_bytes» .entry)) (now (order .entry)))
         (outputs (now («node_bytes» .exit)) (now («tree_bytes» .exit)) (now (order .exit))) ⌝ }
 {
@@ -223,6 +237,7 @@ pub fn build_core(
         temp: temp.len(),
         stack: stack.len(),
         rows: rows.len(),
+        centres: centres.len(),
     };
     if too_short(n, lengths) {
         return Build::Refused(BuildRefusal::BufferTooShort);
@@ -232,7 +247,7 @@ pub fn build_core(
         threshold: threshold as usize,
     };
     let listed = &entries[..7 * n];
-    let planted = plant(listed, places, temp, stack, rows, task);
+    let planted = plant(listed, places, temp, stack, rows, centres, task);
     if 32767 < planted.nodes {
         return Build::Refused(BuildRefusal::TooManyNodes);
     }

@@ -32,7 +32,7 @@ fn put_item(entries: &mut [u32], i: usize, item: BvhItem)
     entries::boxes::put_box(entries, at + 1, BoxWords { min: min, max: max });
 }
 
-// The tree of the present entries. The work buffer is lent in five parts: the entries' words, places, temp, stack and rows.
+// The tree of the present entries. The work buffer is lent in six parts: the entries' words, places, temp, stack, rows and centres.
 pub fn build_bvh(
     items: &[BvhItem],
     threshold: u32,
@@ -44,10 +44,11 @@ pub fn build_bvh(
     temp: &mut [u32],
     stack: &mut [u32],
     rows: &mut [u32],
+    centres: &mut [f32],
 ) -> Build
     ensures { λ r. ⌜ Answered (entriesOf (now (items .entry))) threshold
         (lengthsOf (outputs (now («node_bytes» .entry)) (now («tree_bytes» .entry)) (now (order .entry)))
-        (lent (now (entries .entry)) (now (places .entry)) (now (temp .entry)) (now (stack .entry)) (now (rows .entry)))) r
+        (lent (now (entries .entry)) (now (places .entry)) (now (temp .entry)) (now (stack .entry)) (now (rows .entry)) (now (centres .entry)))) r
         (outputs (now («node_bytes» .entry)) (now («tree_bytes» .entry)) (now (order .entry)))
         (outputs (now («node_bytes» .exit)) (now («tree_bytes» .exit)) (now (order .exit))) ⌝ }
 {
@@ -68,5 +69,6 @@ pub fn build_bvh(
         temp,
         stack,
         rows,
+        centres,
     )
 }

@@ -1,3 +1,4 @@
+mod CentreLaws
 pub mod FoldLaws
 pub mod Places
 mod TotalLaws

@@ -1,12 +1,17 @@
-// The average of a node's boxes.
+// The average of a node's boxes, and the centres that are kept of all boxes.
 use crate::boxes::BoxWords;
 use crate::boxes::Corners;
+use base::numbers::Place;
 use math::vec3::Vec3;
 ghost use mathlib.Core.Path.{_≡_};
-ghost use Prim.Native.Nat.{_<_};
+ghost use mathlib.Core.List.{[], _∷_};
+ghost use Prim.Native.Nat.{_+_, _*_, _≤_, _<_};
 ghost use lib.ListN.{length};
+ghost use lib.Seq.{sets};
+ghost use lib.Ieee.{binary32, ofBits};
 ghost use Rattle.entries.specs.Boxes.{boxAt};
 ghost use Rattle.base.specs.Lists.{Within};
+ghost use Rattle.entries.specs.Kept.{lanesAt, Kept};
 ghost use Rattle.entries.specs.Plain.{Plain};
 ghost use Rattle.float32.specs.Counts.{ofCount};
 ghost use Rattle.math.specs.Vec3s.{_⊘_, addOf, scaleOf};
@@ -44,5 +49,52 @@ pub fn measure(entries: &[u32], places: &[u32], plain: bool) -> Measured
     Measured {
         around: crate::fold::fold_by_value(entries, places, t.low, t.high),
         average: average(t.sum, places.len()),
+    }
+}
+
+// A centre as it is kept: its three floats, and 0, so that it is one vector.
+pub struct Lanes {
+    pub x: f32,
+    pub y: f32,
+    pub z: f32,
+    pub w: f32,
+}
+
+// The four lanes of entry i: its centre, and 0.
+fn put_centre(centres: &mut [f32], i: usize, c: Vec3)
+    requires { ⌜ 4 * i + 4 ≤ length (now centres) ⌝ }
+    ensures { λ _. ⌜ now (centres .exit) ≡ sets (now (centres .entry)) (4 * i) (c .x ∷ c .y ∷ c .z ∷ ofBits binary32 0 ∷ []) ⌝ }
+{
+    let at = 4 * i;
+    centres[at] = c.x;
+    centres[at + 1] = c.y;
+    centres[at + 2] = c.z;
+    centres[at + 3] = 0.0;
+}
+
+// The centre of each entry, computed once a build: it is the box's alone, and of subnormals it takes long.
+pub fn put_centres(entries: &[u32], centres: &mut [f32], plain: bool)
+    requires { ⌜ (4 * length (now entries) ≤ 7 * length (now centres)) × (length (now entries) < 4294967296) × (Plain plain (now entries)) ⌝ }
+    ensures { λ _. ⌜ Kept (now (entries .entry)) (now (centres .exit)) ⌝ }
+{
+    let mut i = 0;
+    while 7 * i + 7 <= entries.len() {
+        let c = centre(crate::boxes::corners_at(entries, Place(i as u32), plain));
+        put_centre(centres, i, c);
+        i += 1;
+    }
+}
+
+// The centre that is kept for a place.
+pub fn centre_at(centres: &[f32], place: Place) -> Lanes
+    requires { ⌜ 4 * place .0 + 4 ≤ length (now centres) ⌝ }
+    ensures { λ r. ⌜ r ≡ lanesAt (now (centres .entry)) (place .0) ⌝ }
+{
+    let at = 4 * (place.0 as usize);
+    Lanes {
+        x: centres[at],
+        y: centres[at + 1],
+        z: centres[at + 2],
+        w: centres[at + 3],
     }
 }

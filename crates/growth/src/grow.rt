@@ -7,6 +7,7 @@ ghost use lib.ListN.{length, set};
 ghost use Rattle.base.specs.Lists.{Within};
 ghost use Rattle.entries.specs.Boxes.{boxAt};
 ghost use Rattle.entries.specs.Folding.{foldBox};
+ghost use Rattle.entries.specs.Kept.{Kept};
 ghost use Rattle.entries.specs.Plain.{Plain};
 ghost use Rattle.growth.specs.Grow.{builder};
 ghost use Rattle.growth.specs.steps.Laid.{Room, InnerPut, Laid, Grown};
@@ -32,15 +33,17 @@ fn put_inner(
     temp: &mut [u32],
     entries: &[u32],
     rows: &mut [u32],
+    centres: &[f32],
     m: usize,
     plain: bool,
 ) -> usize
     requires { ⌜ (8 * m + 8 ≤ length (now rows)) × (2 ≤ length (now places)) × (length (now places) < 32768)
-        × (length (now places) ≤ length (now temp)) × (Within (length (now entries)) (now places)) × (Plain plain (now entries)) ⌝ }
+        × (length (now places) ≤ length (now temp)) × (Within (length (now entries)) (now places)) × (Plain plain (now entries))
+        × (Kept (now entries) (now centres)) ⌝ }
     ensures { λ r. ⌜ InnerPut (builder (boxAt (now (entries .entry)))) m (now (places .entry)) (now (places .exit)) (now (rows .entry))
         (now (rows .exit)) r ⌝ }
 {
-    let cut = split::divide::divide(places, temp, entries, plain);
+    let cut = split::divide::divide(places, temp, entries, centres, plain);
     let around = cut.around;
     put_row(rows, m, around, 0, 0);
     cut.first
@@ -63,11 +66,12 @@ pub fn grow(
     entries: &[u32],
     stack: &mut [u32],
     rows: &mut [u32],
+    centres: &[f32],
     threshold: usize,
     plain: bool,
 ) -> usize
     requires { ⌜ (0 < length (now places)) × (Room threshold (now places) (now temp) (now entries) (now stack) (now rows))
-        × (Plain plain (now entries)) ⌝ }
+        × (Plain plain (now entries)) × (Kept (now entries) (now centres)) ⌝ }
     ensures { λ r. ⌜ Laid (builder (boxAt (now (entries .entry)))) threshold (now (places .entry)) (now (places .exit)) (now (rows .exit)) r ⌝ }
 {
     let n = places.len();
@@ -84,7 +88,7 @@ pub fn grow(
             sp += 1;
             m += 1;
         } else {
-            let a = put_inner(&mut places[lo..hi], temp, entries, rows, m, plain);
+            let a = put_inner(&mut places[lo..hi], temp, entries, rows, centres, m, plain);
             push_two(stack, sp, a, k - a);
             sp -= 1;
             m += 1;
@@ -100,9 +104,11 @@ pub fn grow_tree(
     entries: &[u32],
     stack: &mut [u32],
     rows: &mut [u32],
+    centres: &mut [f32],
     threshold: usize,
 ) -> usize
-    requires { ⌜ Room threshold (now places) (now temp) (now entries) (now stack) (now rows) ⌝ }
+    requires { ⌜ (Room threshold (now places) (now temp) (now entries) (now stack) (now rows))
+        × (4 * length (now entries) ≤ 7 * length (now centres)) × (length (now entries) < 4294967296) ⌝ }
     ensures { λ r. ⌜ Grown (builder (boxAt (now (entries .entry)))) threshold (now (places .entry)) (now (places .exit)) (now (rows .exit)) r ⌝ }
 {
     // An empty leaf and an inner row both have the count 0: only here is a leaf empty.
@@ -111,7 +117,17 @@ pub fn grow_tree(
         return 1;
     }
     let plain = entries::boxes::all_numbers(entries);
-    let m = grow(places, temp, entries, stack, rows, threshold, plain);
+    entries::average::put_centres(entries, centres, plain);
+    let m = grow(
+        places,
+        temp,
+        entries,
+        stack,
+        rows,
+        centres,
+        threshold,
+        plain,
+    );
     rows::sizes::fill_sizes(rows, m);
     m
 }

@@ -67,6 +67,7 @@ pub record Roomy (l : Lengths) : Type 0 where
   pub temp-room : 256 ≤ l .temp
   pub stack-room : 256 ≤ l .stack
   pub rows-room : 4104 ≤ l .rows
+  pub centres-room : 1024 ≤ l .centres
 
 not-short : (n : ℕ) (l : Lengths) → n ≤ 256 → Roomy l → short n l ≡ false
 not-short n l h r =
@@ -79,6 +80,7 @@ not-short n l h r =
       le-ltb (l .temp) n (omega arith),
       le-ltb (l .stack) n (omega arith),
       le-ltb (l .rows) (8 * (2 * n + 1)) (omega arith),
+      le-ltb (l .centres) (4 * n) (omega arith),
     )
 
 module _ (e : Entries) (f : FewEntries e) where

@@ -46,6 +46,7 @@ fn put_children(out: &mut [u8], input: &[u8]) -> usize
     let mut temp = [0u32; 256];
     let mut stack = [0u32; 256];
     let mut rows = [0u32; 4104];
+    let mut centres = [0.0f32; 1024];
     let built = bvh::core::build_core(
         n,
         1,
@@ -57,6 +58,7 @@ fn put_children(out: &mut [u8], input: &[u8]) -> usize
         &mut temp,
         &mut stack,
         &mut rows,
+        &mut centres,
     );
     // So few boxes are not refused.
     let Build::Built(tree) = built else {

@@ -58,6 +58,7 @@ fn ask(list: &[u32; 4900], n: usize, threshold: u32, query: Aabb) -> Tally {
     let mut temp = [0u32; 700];
     let mut stack = [0u32; 700];
     let mut rows = [0u32; 11208];
+    let mut centres = [0.0f32; 2800];
     let mut out = [0u16; 700];
     let found = tree::pair::build_and_walk(
         n,
@@ -71,6 +72,7 @@ fn ask(list: &[u32; 4900], n: usize, threshold: u32, query: Aabb) -> Tally {
         &mut temp,
         &mut stack,
         &mut rows,
+        &mut centres,
         &mut out,
     );
     let Found::Walked(tree, walk) = found else {

@@ -30,38 +30,49 @@ module _ (at : ℕ → BoxWords) (avg : Vec3) where
 
   -- the counts c, with those of ps added
   pub onto : Counts → List ℕ → Counts
-  onto c ps = record { x = c .x + countBelow at avg X ps; y = c .y + countBelow at avg Y ps; z = c .z + countBelow at avg Z ps }
+  onto c ps = record { x = c .x + countBelow at avg X ps; y = c .y + countBelow at avg Y ps; z = c .z + countBelow at avg Z ps; all = c .all + length ps }
 
   onto-at : (a : Axis) (n p : ℕ) (ps : List ℕ) → n + oneIf (below at avg a p) + countBelow at avg a ps ≡ n + countBelow at avg a (p ∷ ps)
   onto-at a n p ps = omega (arith, count-more a p ps)
 
+  more-all : (n p : ℕ) (ps : List ℕ) → n + 1 + length ps ≡ n + length (p ∷ ps)
+  more-all n p ps = omega arith
+
   pub onto-more : (c : Counts) (p : ℕ) (ps : List ℕ) → onto (countMore at avg c p) ps ≡ onto c (p ∷ ps)
   unfolding onto
-  onto-more c p ps = λ i. record { x = onto-at X (c .x) p ps i; y = onto-at Y (c .y) p ps i; z = onto-at Z (c .z) p ps i }
+  onto-more c p ps = λ i. record { x = onto-at X (c .x) p ps i; y = onto-at Y (c .y) p ps i; z = onto-at Z (c .z) p ps i; all = more-all (c .all) p ps i }
 
   onto-nothing : (a : Axis) (n : ℕ) → n ≡ n + countBelow at avg a []
   onto-nothing a n = omega (arith, count-none a)
 
+  none-all : (n : ℕ) → n ≡ n + length {A = ℕ} []
+  none-all n = omega arith
+
   pub onto-none : (c : Counts) → c ≡ onto c []
   unfolding onto
-  onto-none c = λ i. record { x = onto-nothing X (c .x) i; y = onto-nothing Y (c .y) i; z = onto-nothing Z (c .z) i }
+  onto-none c = λ i. record { x = onto-nothing X (c .x) i; y = onto-nothing Y (c .y) i; z = onto-nothing Z (c .z) i; all = none-all (c .all) i }
 
   nothing-onto : (a : Axis) (ps : List ℕ) → 0 + countBelow at avg a ps ≡ countBelow at avg a ps
   nothing-onto a ps = omega arith
 
   abbrev pub none : Counts
-  none = record { x = 0; y = 0; z = 0 }
+  none = record { x = 0; y = 0; z = 0; all = 0 }
+
+  all-onto : (ps : List ℕ) → 0 + length ps ≡ length ps
+  all-onto ps = omega arith
 
   pub none-onto : (ps : List ℕ) → onto none ps ≡ countsOf at avg ps
   unfolding onto
-  none-onto ps = λ i. record { x = nothing-onto X ps i; y = nothing-onto Y ps i; z = nothing-onto Z ps i }
+  none-onto ps = λ i. record { x = nothing-onto X ps i; y = nothing-onto Y ps i; z = nothing-onto Z ps i; all = all-onto ps i }
 
   -- so far at most as many as there are places
-  pub small : (n : ℕ) (ps : List ℕ) (c : Counts) (i : ℕ) → Pass onto n ps none c i → (c .x ≤ length ps) × (c .y ≤ length ps) × (c .z ≤ length ps)
+  pub small : (n : ℕ) (ps : List ℕ) (c : Counts) (i : ℕ) → Pass onto n ps none c i
+      → (c .x ≤ length ps) × (c .y ≤ length ps) × (c .z ≤ length ps) × (c .all ≤ length ps)
   unfolding onto
   small n ps c i q =
       let e = q .rest in (
         omega (arith, ap (λ (r : Counts). r .x) e, count-le X ps),
         omega (arith, ap (λ (r : Counts). r .y) e, count-le Y ps),
         omega (arith, ap (λ (r : Counts). r .z) e, count-le Z ps),
+        omega (arith, ap (λ (r : Counts). r .all) e),
       )

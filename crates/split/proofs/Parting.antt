@@ -21,7 +21,7 @@ use Rattle.split.specs.Rule.{above}
 use Rattle.split.specs.steps.Groups.{stepOf, centreAt, passes, Parted}
 
 -- the two words of an axis are those that stand `step` after x's
-centre-along : (ws : List ℕ) (p : ℕ) (a : Axis) → centreAt ws (stepOf a) p ≡ coordinate a (centreOf (boxAt ws p))
+pub centre-along : (ws : List ℕ) (p : ℕ) (a : Axis) → centreAt ws (stepOf a) p ≡ coordinate a (centreOf (boxAt ws p))
 centre-along ws p X = let z : 7 * p + 1 + 0 ≡ 7 * p + 1 = omega arith in rw z
 centre-along ws p Y = let z : 7 * p + 1 + 1 + 3 ≡ 7 * p + 1 + 3 + 1 = omega arith in rw z
 centre-along ws p Z = let z : 7 * p + 1 + 2 + 3 ≡ 7 * p + 1 + 3 + 2 = omega arith in rw z

@@ -57,7 +57,7 @@ parted-within test n ps u k p w =
     (within-append n (sift test ps) (sift (λ q. not (test q)) ps) (within-sift n test ps w) (within-sift n (λ q. not (test q)) ps w))
 
 module _ (at : ℕ → BoxWords) (ps : List ℕ) where
-  pub chosen-by : (avg : Vec3) (c : Counts) (a : Axis) → avg ≡ averageOf at ps → c ≡ countsOf at avg ps → a ≡ axisBy (length ps) c
+  pub chosen-by : (avg : Vec3) (c : Counts) (a : Axis) → avg ≡ averageOf at ps → c ≡ countsOf at avg ps → a ≡ axisBy (c .all) c
       → above at avg a ≡ chosen at ps
   unfolding chosen axisOf
   chosen-by avg c a e f g = rw (g, f, e)

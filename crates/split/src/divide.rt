@@ -6,6 +6,7 @@ ghost use Prim.Native.Nat.{_/_, _≤_, _<_};
 ghost use lib.ListN.{length};
 ghost use Rattle.entries.specs.Boxes.{boxAt};
 ghost use Rattle.base.specs.Lists.{Within};
+ghost use Rattle.entries.specs.Kept.{Kept};
 ghost use Rattle.entries.specs.Plain.{Plain};
 ghost use Rattle.entries.specs.Folding.{foldBox};
 ghost use Rattle.entries.specs.Average.{averageOf};
@@ -39,23 +40,35 @@ pub struct Cut {
 }
 
 // The first group, then the second, in place of the places, by their average, with `temp` to work in; how many the first has.
-fn divide_by(places: &mut [u32], temp: &mut [u32], entries: &[u32], avg: Vec3, plain: bool) -> usize
+fn divide_by(
+    places: &mut [u32],
+    temp: &mut [u32],
+    entries: &[u32],
+    centres: &[f32],
+    avg: Vec3,
+) -> usize
     requires { ⌜ (2 ≤ length (now places)) × (length (now places) < 32768) × (length (now places) ≤ length (now temp)) ×
         (Within (length (now entries)) (now places))
-        × (avg ≡ averageOf (boxAt (now entries)) (now places)) × (Plain plain (now entries)) ⌝ }
+        × (avg ≡ averageOf (boxAt (now entries)) (now places)) × (Kept (now entries) (now centres)) ⌝ }
     ensures { λ r. ⌜ Divided (boxAt (now (entries .entry))) (now (places .entry)) (now (places .exit)) r ⌝ }
 {
-    let counts = crate::groups::count_below(entries, places, avg, plain);
-    let axis = crate::groups::choose_axis(places.len() as u32, counts);
-    let k = crate::groups::partition(places, temp, entries, avg, axis, plain);
+    let counts = crate::groups::count_below(entries, centres, places, avg);
+    let axis = crate::groups::choose_axis(counts);
+    let k = crate::groups::partition(places, temp, entries, centres, avg, axis);
     let h = settle(places, temp, entries, k);
     crate::groups::leader_first(places, temp, h)
 }
 
 // The first group, then the second, in place of the places, with `temp` to work in; their box, and how many the first has.
-pub fn divide(places: &mut [u32], temp: &mut [u32], entries: &[u32], plain: bool) -> Cut
+pub fn divide(
+    places: &mut [u32],
+    temp: &mut [u32],
+    entries: &[u32],
+    centres: &[f32],
+    plain: bool,
+) -> Cut
     requires { ⌜ (2 ≤ length (now places)) × (length (now places) < 32768) × (length (now places) ≤ length (now temp))
-        × (Within (length (now entries)) (now places)) × (Plain plain (now entries)) ⌝ }
+        × (Within (length (now entries)) (now places)) × (Plain plain (now entries)) × (Kept (now entries) (now centres)) ⌝ }
     ensures { λ r. ⌜ (Divided (boxAt (now (entries .entry))) (now (places .entry)) (now (places .exit)) (r .first))
         × (r .around ≡ foldBox (boxAt (now (entries .entry))) (now (places .entry))) ⌝ }
 {
@@ -63,6 +76,6 @@ pub fn divide(places: &mut [u32], temp: &mut [u32], entries: &[u32], plain: bool
     let around = m.around;
     Cut {
         around: around,
-        first: divide_by(places, temp, entries, m.average, plain),
+        first: divide_by(places, temp, entries, centres, m.average),
     }
 }

@@ -11,41 +11,45 @@ ghost use lib.Ieee.{lt};
 ghost use Rattle.entries.specs.declared.boxes.BoxWords.{BoxWords};
 ghost use Rattle.entries.specs.Boxes.{boxAt};
 ghost use Rattle.base.specs.Lists.{oneIf, Within};
-ghost use Rattle.entries.specs.Plain.{Plain};
+ghost use Rattle.entries.specs.Kept.{Kept};
 ghost use Rattle.split.specs.Rule.{above, offset, twoLeads};
 ghost use Rattle.split.specs.steps.Groups.{countsOf, axisBy, stepOf, passes, Parted, LeaderFirst};
 
-// How many centres are below the average, on each axis.
+// How many centres are below the average, on each axis, and how many there are.
 pub struct Counts {
     pub x: u32,
     pub y: u32,
     pub z: u32,
+    pub all: u32,
 }
 
 // 1 where a is below b, else 0: a NaN is below nothing, and nothing below it.
 fn one_if_below(a: f32, b: f32) -> u32
-    ensures { λ r. ⌜ r ≡ oneIf (lt a b) ⌝ }
+    ensures { λ r. ⌜ (r ≡ oneIf (lt a b)) × (r ≤ 1) ⌝ }
 {
     if a < b { 1 } else { 0 }
 }
 
-// The counts on the three axes, in one pass.
-pub fn count_below(entries: &[u32], places: &[u32], avg: Vec3, plain: bool) -> Counts
-    requires { ⌜ (Within (length (now entries)) (now places)) × (length (now places) < 65536) × (Plain plain (now entries)) ⌝ }
+// The counts on the three axes, in one pass. The fourth lane, 0 against 1, counts the places: with it the lanes of a place
+// are compared as one vector.
+pub fn count_below(entries: &[u32], centres: &[f32], places: &[u32], avg: Vec3) -> Counts
+    requires { ⌜ (Within (length (now entries)) (now places)) × (length (now places) < 65536) × (Kept (now entries) (now centres)) ⌝ }
     ensures { λ r. ⌜ r ≡ countsOf (boxAt (now (entries .entry))) avg (now (places .entry)) ⌝ }
 {
-    let mut counts = Counts { x: 0, y: 0, z: 0 };
+    let mut counts = Counts {
+        x: 0,
+        y: 0,
+        z: 0,
+        all: 0,
+    };
     let mut i = 0;
     while i < places.len() {
-        let c = entries::average::centre(entries::boxes::corners_at(
-            entries,
-            Place(places[i]),
-            plain,
-        ));
+        let c = entries::average::centre_at(centres, Place(places[i]));
         counts = Counts {
             x: counts.x + one_if_below(c.x, avg.x),
             y: counts.y + one_if_below(c.y, avg.y),
             z: counts.z + one_if_below(c.z, avg.z),
+            all: counts.all + one_if_below(c.w, 1.0),
         };
         i += 1;
     }
@@ -53,19 +57,20 @@ pub fn count_below(entries: &[u32], places: &[u32], avg: Vec3, plain: bool) -> C
 }
 
 // Twice the distance of the count c from n / 2: whole numbers, where the source has floats that are exact.
-fn offset(n: u32, c: u32) -> u32
+fn offset(n: usize, c: u32) -> usize
     requires { ⌜ (n < 65536) × (c ≤ n) ⌝ }
     ensures { λ r. ⌜ r ≡ offset n c ⌝ }
 {
-    let d = 2 * c;
+    let d = 2 * (c as usize);
     if d < n { n - d } else { d - n }
 }
 
 // The axis whose count is nearest n / 2, x before y before z.
-pub fn choose_axis(n: u32, c: Counts) -> Axis
-    requires { ⌜ (n < 65536) × (c .x ≤ n) × (c .y ≤ n) × (c .z ≤ n) ⌝ }
-    ensures { λ r. ⌜ r ≡ axisBy n c ⌝ }
+pub fn choose_axis(c: Counts) -> Axis
+    requires { ⌜ (c .all < 65536) × (c .x ≤ c .all) × (c .y ≤ c .all) × (c .z ≤ c .all) ⌝ }
+    ensures { λ r. ⌜ r ≡ axisBy (c .all) c ⌝ }
 {
+    let n = c.all as usize;
     let x = offset(n, c.x);
     let y = offset(n, c.y);
     let z = offset(n, c.z);
@@ -88,15 +93,13 @@ fn step_of(a: Axis) -> usize
     }
 }
 
-// 1 where the place's centre is above the cut, else 0, on the axis that comes `step` words after x. Only that axis is read.
-fn one_if_above(entries: &[u32], place: Place, step: usize, cut: f32, plain: bool) -> usize
-    requires { ⌜ (7 * place .0 + 7 ≤ length (now entries)) × (step < 3) × (Plain plain (now entries)) ⌝ }
+// 1 where the place's centre is above the cut, else 0, on the axis that comes `step` lanes after x. Only that lane is read.
+fn one_if_above(entries: &[u32], centres: &[f32], place: Place, step: usize, cut: f32) -> usize
+    requires { ⌜ (7 * place .0 + 7 ≤ length (now entries)) × (step < 3) × (Kept (now entries) (now centres)) ⌝ }
     ensures { λ r. ⌜ r ≡ oneIf (passes (now (entries .entry)) step cut (place .0)) ⌝ }
 {
-    let at = 7 * (place.0 as usize) + 1 + step;
-    let low = entries::boxes::value(entries[at], plain);
-    let high = entries::boxes::value(entries[at + 3], plain);
-    if (low + high) * 0.5 > cut { 1 } else { 0 }
+    let at = 4 * (place.0 as usize) + step;
+    if centres[at] > cut { 1 } else { 0 }
 }
 
 // Copies the first n places of `src` into `dst`, from `at` on.
@@ -117,11 +120,11 @@ pub fn partition(
     places: &mut [u32],
     temp: &mut [u32],
     entries: &[u32],
+    centres: &[f32],
     avg: Vec3,
     axis: Axis,
-    plain: bool,
 ) -> usize
-    requires { ⌜ (length (now places) ≤ length (now temp)) × (Within (length (now entries)) (now places)) × (Plain plain (now entries)) ⌝ }
+    requires { ⌜ (length (now places) ≤ length (now temp)) × (Within (length (now entries)) (now places)) × (Kept (now entries) (now centres)) ⌝ }
     ensures { λ r. ⌜ Parted (above (boxAt (now (entries .entry))) avg axis) (now (places .entry)) (now (places .exit)) r ⌝ }
 {
     let n = places.len();
@@ -133,7 +136,7 @@ pub fn partition(
         let p = places[i];
         places[k] = p;
         temp[i - k] = p;
-        k += one_if_above(entries, Place(p), step, cut, plain);
+        k += one_if_above(entries, centres, Place(p), step, cut);
         i += 1;
     }
     paste(places, k, temp, n - k);

@@ -63,10 +63,11 @@ pub fn build_and_walk(
     temp: &mut [u32],
     stack: &mut [u32],
     rows: &mut [u32],
+    centres: &mut [f32],
     out: &mut [u16],
 ) -> Found
     ensures { λ r. ⌜ Paired (entriesIn n (take (7 * n) (now (entries .entry)))) threshold query
-        (lent (now (entries .entry)) (now (places .entry)) (now (temp .entry)) (now (stack .entry)) (now (rows .entry)))
+        (lent (now (entries .entry)) (now (places .entry)) (now (temp .entry)) (now (stack .entry)) (now (rows .entry)) (now (centres .entry)))
         (outputs (now («node_bytes» .entry)) (now («tree_bytes» .entry)) (now (order .entry)))
         (outputs (now («node_bytes» .exit)) (now («tree_bytes» .exit)) (now (order .exit)))
         (now (out .entry)) (now (out .exit)) r ⌝ }
@@ -82,6 +83,7 @@ pub fn build_and_walk(
         temp,
         stack,
         rows,
+        centres,
     );
     match built {
         Build::Refused(why) => Found::Unbuilt(why),

@@ -18,10 +18,11 @@ fn build_two(
     temp: &mut [u32],
     stack: &mut [u32],
     rows: &mut [u32],
+    centres: &mut [f32],
 ) -> Build
     ensures { λ r. ⌜ Answered (entriesOf (a ∷ b ∷ [])) 1
         (lengthsOf (outputs (now («node_bytes» .entry)) (now («tree_bytes» .entry)) (now (order .entry)))
-        (lent (now (entries .entry)) (now (places .entry)) (now (temp .entry)) (now (stack .entry)) (now (rows .entry)))) r
+        (lent (now (entries .entry)) (now (places .entry)) (now (temp .entry)) (now (stack .entry)) (now (rows .entry)) (now (centres .entry)))) r
         (outputs (now («node_bytes» .entry)) (now («tree_bytes» .entry)) (now (order .entry)))
         (outputs (now («node_bytes» .exit)) (now («tree_bytes» .exit)) (now (order .exit))) ⌝ }
 {
@@ -37,6 +38,7 @@ fn build_two(
         temp,
         stack,
         rows,
+        centres,
     )
 }
 
@@ -100,6 +102,7 @@ pub fn run(to: i32) {
     let mut temp = [0u32; 2];
     let mut stack = [0u32; 2];
     let mut rows = [0u32; 40];
+    let mut centres = [0.0f32; 8];
     let built = build_two(
         a,
         b,
@@ -111,6 +114,7 @@ pub fn run(to: i32) {
         &mut temp,
         &mut stack,
         &mut rows,
+        &mut centres,
     );
     let Build::Built(tree) = built else {
         io::write_all(to, b"refused\n");

@@ -50,7 +50,7 @@ int main(void) {
     };
     uint8_t nodes[16 * ROWS] = {0}, trees[16 * ROWS] = {0}, header[128] = {0};
     uint16_t order[ENTRIES] = {0};
-    number("work_len(2)", (int64_t)bounds_work_len(ENTRIES), 26 * ENTRIES + 8);
+    number("work_len(2)", (int64_t)bounds_work_len(ENTRIES), 30 * ENTRIES + 8);
     size_t words = bounds_work_len(ENTRIES);
     uint32_t *work = calloc(words, sizeof *work);
     if (!work) return 2;

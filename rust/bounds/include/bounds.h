@@ -105,7 +105,7 @@ typedef struct {
     uint32_t trees_count;
 } bounds_bvh;
 
-/* Words of entries, places, temp, stack and rows together for so many entries: 26 each, and 8. */
+/* Words of entries, places, temp, stack, rows and centres together for so many entries: 30 each, and 8. */
 uint64_t bounds_work_len(uint32_t entries);
 
 /* Builds the tree of the present ones among n items, a leaf of which holds at most `threshold`. Refusals 1 (over
@@ -119,13 +119,14 @@ uint64_t bounds_work_len(uint32_t entries);
  *   places      n
  *   temp        n
  *   stack       n
- *   rows        8 * (2n + 1) */
+ *   rows        8 * (2n + 1)
+ *   centres     4n */
 bounds_build_answer bounds_build_bvh(const bounds_item *items, size_t item_count, uint32_t threshold,
                                      uint8_t *node_bytes, size_t node_bytes_len,
                                      uint8_t *tree_bytes, size_t tree_bytes_len, uint16_t *order, size_t order_len,
                                      uint32_t *entries, size_t entries_len, uint32_t *places, size_t places_len,
                                      uint32_t *temp, size_t temp_len, uint32_t *stack, size_t stack_len,
-                                     uint32_t *rows, size_t rows_len);
+                                     uint32_t *rows, size_t rows_len, float *centres, size_t centres_len);
 
 /* The length of a part of which `least` are needed, taken off what is left. */
 static inline size_t bounds_part(size_t least, size_t *left) {
@@ -143,11 +144,12 @@ static inline bounds_build_answer bounds_build_bvh_in(const bounds_item *items, 
                                                       uint32_t *work, size_t work_len) {
     size_t n = item_count < 32767 ? item_count : 32767, left = work_len;
     size_t entries = bounds_part(7 * n, &left), places = bounds_part(n, &left);
-    size_t temp = bounds_part(n, &left), stack = bounds_part(n, &left);
+    size_t temp = bounds_part(n, &left), stack = bounds_part(n, &left), rows = bounds_part(8 * (2 * n + 1), &left);
     uint32_t *places_at = work + entries, *temp_at = places_at + places, *stack_at = temp_at + temp;
+    uint32_t *rows_at = stack_at + stack;
     return bounds_build_bvh(items, item_count, threshold, node_bytes, node_bytes_len, tree_bytes, tree_bytes_len, order,
                             order_len, work, entries, places_at, places, temp_at, temp, stack_at, stack,
-                            stack_at + stack, left);
+                            rows_at, rows, (float *)(rows_at + rows), left);
 }
 
 /* Writes the 128 bytes of a tree's header. Refusals 1 (over 65,535 trees), 2 (under 128 bytes), in this order. */

@@ -133,7 +133,7 @@ pub fn records_len(entries: usize) -> usize {
 /// Words of the work buffer for so many entries.
 ///
 /// ```
-/// assert_eq!(bounds::bvh::work_len(2), 60);
+/// assert_eq!(bounds::bvh::work_len(2), 68);
 /// ```
 pub fn work_len(entries: usize) -> usize {
     u32::try_from(entries).map_or(usize::MAX, |n| ffi::bounds_work_len(n) as usize)
@@ -213,12 +213,12 @@ pub fn tree_header(out: &mut [u8], bvh: &Bvh) -> Result<(), Refusal> {
     Refusal::check(ffi::tree_header(out, header))
 }
 
-/// The work buffer in five parts: entries, places, temp, stack, rows. Each gets its length or what is left, and the last
-/// all that is left: the library then finds a part too short where the whole is.
-fn cut(work: &mut [u32], entries: usize) -> [&mut [u32]; 5] {
+/// The work buffer in six parts: entries, places, temp, stack, rows, centres. Each gets its length or what is left, and
+/// the last all that is left: the library then finds a part too short where the whole is.
+fn cut(work: &mut [u32], entries: usize) -> [&mut [u32]; 6] {
     let n = entries.min(ENTRIES);
     let mut rest = work;
-    [7 * n, n, n, n, usize::MAX].map(|len| {
+    [7 * n, n, n, n, 8 * (2 * n + 1), usize::MAX].map(|len| {
         let whole = std::mem::take(&mut rest);
         let part;
         (part, rest) = whole.split_at_mut(len.min(whole.len()));

@@ -126,7 +126,7 @@ unsafe extern "C" {
     pub safe fn bounds_transform_vector(m: Mat4, v: Vec3) -> Vec3; // likewise
     pub safe fn bounds_transform_box(b: Aabb, m: Mat4) -> Aabb; // likewise; a fourth coordinate of 0 gives infinities
 
-    pub safe fn bounds_work_len(entries: u32) -> u64; // any number; 26 of them and 8 more stay below 2^64
+    pub safe fn bounds_work_len(entries: u32) -> u64; // any number; 30 of them and 8 more stay below 2^64
 
     // Memory is reached, and only through each pointer and the length behind it: called below, with slices.
     fn bounds_build_bvh(
@@ -149,6 +149,8 @@ unsafe extern "C" {
         stack_len: usize,
         rows: *mut u32,
         rows_len: usize,
+        centres: *mut f32,
+        centres_len: usize,
     ) -> BuildAnswer;
     fn bounds_tree_header(out: *mut u8, out_len: usize, bvh: Bvh) -> u32;
     fn bounds_walk(
@@ -168,18 +170,19 @@ unsafe extern "C" {
     fn bounds_ordinary(entry_count: usize, entries: *const u32, entries_len: usize) -> Premises;
 }
 
-/// `bounds_build_bvh`; what it works in is lent in five parts: entries, places, temp, stack and rows.
+/// `bounds_build_bvh`; what it works in is lent in six parts: entries, places, temp, stack, rows and centres.
 pub fn build_bvh(
     items: &[BvhItem],
     threshold: u32,
     node_bytes: &mut [u8],
     tree_bytes: &mut [u8],
     order: &mut [u16],
-    [entries, places, temp, stack, rows]: [&mut [u32]; 5],
+    [entries, places, temp, stack, rows, centres]: [&mut [u32]; 6],
 ) -> BuildAnswer {
     // SAFETY: each pointer comes from a slice and goes with that slice's length, and all its cells are initialised. The
     // items are only read: seven words each, as `bounds_item` has them, and any words will do. The others, being
-    // exclusive borrows, overlap neither them nor one another. The threshold may be any number.
+    // exclusive borrows, overlap neither them nor one another. The centres are lent as floats: those have a word's size
+    // and alignment, and any bits are a float's and a word's. The threshold may be any number.
     unsafe {
         bounds_build_bvh(
             items.as_ptr(),
@@ -201,6 +204,8 @@ pub fn build_bvh(
             stack.len(),
             rows.as_mut_ptr(),
             rows.len(),
+            centres.as_mut_ptr().cast::<f32>(),
+            centres.len(),
         )
     }
 }
@@ -269,8 +274,8 @@ mod tests {
     use super::*;
 
     const ENTRIES: usize = 3;
-    /// Entries, places, temp, stack, rows.
-    const PARTS: [usize; 5] = [7 * ENTRIES, ENTRIES, ENTRIES, ENTRIES, 8 * (2 * ENTRIES + 1)];
+    /// Entries, places, temp, stack, rows, centres.
+    const PARTS: [usize; 6] = [7 * ENTRIES, ENTRIES, ENTRIES, ENTRIES, 8 * (2 * ENTRIES + 1), 4 * ENTRIES];
 
     /// Boxes 2i to 2i + 1 on each axis; any mark but 0 says present.
     fn items() -> [BvhItem; ENTRIES] {
@@ -282,7 +287,7 @@ mod tests {
         })
     }
 
-    fn build(parts: [usize; 5]) -> (BuildAnswer, Vec<u8>) {
+    fn build(parts: [usize; 6]) -> (BuildAnswer, Vec<u8>) {
         let mut work = parts.map(|len| vec![0; len]);
         let work = work.each_mut().map(|part| &mut part[..]);
         let (mut nodes, mut trees, mut order) = (vec![7; 112], vec![7; 112], vec![7; ENTRIES]);

@@ -37,10 +37,12 @@ pub record Enough (n : ℕ) (o : Outputs) (l : Lent) : Type 0 where
   pub temp-room : n ≤ length (l .temp)
   pub stack-room : n ≤ length (l .stack)
   pub rows-room : 8 * (2 * n + 1) ≤ length (l .rows)
+  pub centres-room : 4 * n ≤ length (l .centres)
 
 pub enough : (n : ℕ) (o : Outputs) (l : Lent) → short n (lengthsOf o l) ≡ false → Enough n o l
 enough n o l e =
-    let e₇ = neither _ (ltb (length (l .rows)) (8 * (2 * n + 1))) e in
+    let e₈ = neither _ (ltb (length (l .centres)) (4 * n)) e in
+    let e₇ = neither _ (ltb (length (l .rows)) (8 * (2 * n + 1))) (e₈ .0) in
     let e₆ = neither _ (ltb (length (l .stack)) n) (e₇ .0) in
     let e₅ = neither _ (ltb (length (l .temp)) n) (e₆ .0) in
     let e₄ = neither _ (ltb (length (l .places)) n) (e₅ .0) in
@@ -56,6 +58,7 @@ enough n o l e =
       temp-room = ltb-false _ _ (e₅ .1);
       stack-room = ltb-false _ _ (e₆ .1);
       rows-room = ltb-false _ _ (e₇ .1);
+      centres-room = ltb-false _ _ (e₈ .1);
     }
 
 module _ (n th : ℕ) (o : Outputs) (l : Lent) (few : n ≤ 32767) (some : 1 ≤ th) (room : Enough n o l) where
@@ -68,7 +71,7 @@ module _ (n th : ℕ) (o : Outputs) (l : Lent) (few : n ≤ 32767) (some : 1 ≤
   entries-long : length listed ≡ 7 * n
   entries-long = length-take-le (7 * n) (l .entries) (room .entries-room)
 
-  pub work-room : WorkRoom task (lent listed (l .places) (l .temp) (l .stack) (l .rows))
+  pub work-room : WorkRoom task (lent listed (l .places) (l .temp) (l .stack) (l .rows) (l .centres))
   work-room =
       record {
         few = few;
@@ -78,6 +81,7 @@ module _ (n th : ℕ) (o : Outputs) (l : Lent) (few : n ≤ 32767) (some : 1 ≤
         temp-room = room .temp-room;
         stack-room = room .stack-room;
         rows-room = room .rows-room;
+        centres-room = room .centres-room;
       }
 
   pub writable : (p : Planted) (places′ temp′ rows′ : List ℕ) → TreePlanted task listed places′ rows′ p → p .nodes ≤ 32767

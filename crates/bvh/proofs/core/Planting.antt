@@ -4,6 +4,7 @@ use native.Mathlib.Nat.{zero-add}
 use native.Mathlib.Omega.{arith}
 use mathlib.Core.List.{List, _++_}
 use mathlib.Core.Path.{_≡_, sym, ap, _∙_, subst}
+use lib.Ieee.{Float}
 use lib.ListN.{length, take, drop}
 use lib.Seq.{length-take-le, take-at}
 use Rattle.base.proofs.NumberLaws.{below-wider}
@@ -33,9 +34,9 @@ module _ (n k : ℕ) (entries places : List ℕ) (g : Gathered n entries places 
   gathered-long = length-take-le k places (omega (arith, g .most))
 
 module _ (t : Task) (k : ℕ) (entries places : List ℕ) (g : Gathered (t .n) entries places k) (fits : t .n ≤ length places) where
-  pub grow-room : (before temp stack table : List ℕ) → WorkRoom t (lent entries before temp stack table)
+  pub grow-room : (before temp stack table : List ℕ) (centres : List Float) → WorkRoom t (lent entries before temp stack table centres)
       → Room (t .threshold) (take k places) temp entries stack table
-  grow-room before temp stack table w =
+  grow-room before temp stack table centres w =
       let long = gathered-long (t .n) k entries places g fits in
       let most = g .most in
       record {

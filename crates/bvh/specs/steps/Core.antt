@@ -40,6 +40,7 @@ pub record WorkRoom (t : Task) (l : Lent) : Type 0 where
   pub temp-room : t .n ≤ length (l .temp)
   pub stack-room : t .n ≤ length (l .stack)
   pub rows-room : 8 * (2 * t .n + 1) ≤ length (l .rows)
+  pub centres-room : 4 * t .n ≤ length (l .centres)
 
 -- The tree of the marked places is planted: their number, and its rows.
 pub record TreePlanted (t : Task) (entries places table : List ℕ) (p : Planted) : Type 0 where

@@ -17,14 +17,14 @@ use Rattle.split.specs.declared.groups.Counts.{Counts}
 use Rattle.split.specs.Rule.{below, countBelow, offset, nearestAxis, twoLeads}
 use Rattle.sorting.specs.Sorted.{sortBoxes}
 
--- how many centres are below the average, on each axis
+-- how many centres are below the average, on each axis, and how many there are
 abbrev pub countsOf : (ℕ → BoxWords) → Vec3 → List ℕ → Counts
-countsOf at avg ps = record { x = countBelow at avg X ps; y = countBelow at avg Y ps; z = countBelow at avg Z ps }
+countsOf at avg ps = record { x = countBelow at avg X ps; y = countBelow at avg Y ps; z = countBelow at avg Z ps; all = length ps }
 
 -- the counts with one place more
 abbrev pub countMore : (ℕ → BoxWords) → Vec3 → Counts → ℕ → Counts
 countMore at avg c p =
-    record { x = c .x + oneIf (below at avg X p); y = c .y + oneIf (below at avg Y p); z = c .z + oneIf (below at avg Z p) }
+    record { x = c .x + oneIf (below at avg X p); y = c .y + oneIf (below at avg Y p); z = c .z + oneIf (below at avg Z p); all = c .all + 1 }
 
 -- Rule T5: the axis, by the counts of n items.
 abbrev pub axisBy : ℕ → Counts → Axis

@@ -7,7 +7,7 @@ use mathlib.Core.Bool.{false}
 use mathlib.Core.Path.{_≡_, sym, _∙_}
 use lib.Seq.{length-take-le}
 use Rattle.bvh.specs.Build.{short}
-use Rattle.bvh.specs.Entry.{Outputs, Lent, lengthsOf}
+use Rattle.bvh.specs.Entry.{Outputs, Lent, lent, lengthsOf}
 use Rattle.bvh.proofs.core.Answering.{Enough, enough, work-room, writable}
 use Rattle.bvh.proofs.core.Answering.{too-many-entries, threshold-below, threshold-above, buffer-too-short, too-many-nodes, built}
 use native.Mathlib.Omega.{arith}
@@ -15,16 +15,16 @@ use native.Mathlib.Omega.{arith}
 -- where the lengths are checked, from where the tree is planted; that place from where its nodes are counted; and this from where all is
 -- written
 abbrev checked : tie.After-plant → tie.Else4
-checked c = c .before .before .before .before .before .before
+checked c = c .before .before .before .before .before .before .before
 
 abbrev grown : tie.Else5 → tie.After-plant
-grown c = c .before .before .before .before .before .before .before .before .before .before
+grown c = c .before .before .before .before .before .before .before .before .before .before .before .before
 
 abbrev counted : tie.After-write-tree → tie.Else5
 counted c = c .before .before .before .before .before .before .before
 
 abbrev start : tie.Else4 → tie.Start
-start c = c .before .before .before .before .before .before .before .before .before .before .before .before .before
+start c = c .before .before .before .before .before .before .before .before .before .before .before .before .before .before
 
 abbrev before : tie.Else4 → Outputs
 before c =
@@ -34,7 +34,7 @@ before c =
 abbrev work : tie.Else4 → Lent
 work c =
     let a = start c .args in
-    record { entries = a .entries .now; places = a .places .now; temp = a .temp .now; stack = a .stack .now; rows = a .rows .now }
+    lent (a .entries .now) (a .places .now) (a .temp .now) (a .stack .now) (a .rows .now) (a .centres .now)
 
 -- what the checks have shown
 few : (c : tie.Else4) → start c .args .n ≤ 32767
@@ -77,7 +77,7 @@ slice-aggregate-listed c = sym (length-take-le _ _ (room (c .before) .entries-ro
 
 plant-requires : tie.Need-plant-requires
 plant-requires c κs =
-    let p = c .before .before .before .before .before in
+    let p = c .before .before .before .before .before .before in
     work-room _ _ (before p) (work p) (few p) (some p) (room p)
 
 same-length : tie.Need-same-length
@@ -92,9 +92,12 @@ same-length-3 c = search needs
 same-length-4 : tie.Need-same-length-4
 same-length-4 c = search needs
 
+same-length-5 : tie.Need-same-length-5
+same-length-5 c = search needs
+
 returns-5 : tie.Need-returns-5
 returns-5 c =
-    let g = c .before .before .before .before .before .before .before .before .before .before in
+    let g = c .before .before .before .before .before .before .before .before .before .before .before .before in
     let p = checked g in
     too-many-nodes _ _ _ _ _ (few p) (some p) (most p) (long p) (omega (arith, c .if5 .taken, g .plant .ensures .grown .size-is))
 
@@ -107,9 +110,6 @@ write-tree-requires c κs =
     writable _ _ (before p) (work p) (few p) (some p) (room p) _ _ _ _ (g .plant .ensures) (counted .if5 .left)
     (k .1 .0) (k .1 .1 .0) (k .1 .1 .1 .1 .0)
 
-same-length-5 : tie.Need-same-length-5
-same-length-5 c = search needs
-
 same-length-6 : tie.Need-same-length-6
 same-length-6 c = search needs
 
@@ -117,20 +117,32 @@ same-length-7 : tie.Need-same-length-7
 same-length-7 c = search needs
 
 same-length-8 : tie.Need-same-length-8
-same-length-8 c =
-    let w = c .before .before .before .before .before .before .before .before in
-    grown (counted w) .plant .kept .1 .0
+same-length-8 c = search needs
 
 same-length-9 : tie.Need-same-length-9
 same-length-9 c =
     let w = c .before .before .before .before .before .before .before .before in
-    w .write-tree .kept .1 .1 .1 .1 .1 .0 ∙ grown (counted w) .plant .kept .1 .1 .0
+    grown (counted w) .plant .kept .1 .0
 
 same-length-10 : tie.Need-same-length-10
-same-length-10 c = search needs
+same-length-10 c =
+    let w = c .before .before .before .before .before .before .before .before in
+    w .write-tree .kept .1 .1 .1 .1 .1 .0 ∙ grown (counted w) .plant .kept .1 .1 .0
 
 same-length-11 : tie.Need-same-length-11
-same-length-11 c = search needs
+same-length-11 c =
+    let w = c .before .before .before .before .before .before .before .before in
+    grown (counted w) .plant .kept .1 .1 .1 .0
+
+same-length-12 : tie.Need-same-length-12
+same-length-12 c =
+    let w = c .before .before .before .before .before .before .before .before in
+    grown (counted w) .plant .kept .1 .1 .1 .1 .0
+
+same-length-13 : tie.Need-same-length-13
+same-length-13 c =
+    let w = c .before .before .before .before .before .before .before .before in
+    grown (counted w) .plant .kept .1 .1 .1 .1 .1 .0
 
 returns-6 : tie.Need-returns-6
 returns-6 c =
@@ -156,13 +168,15 @@ build-core-spec =
     same-length-2
     same-length-3
     same-length-4
+    same-length-5
     returns-5
     write-tree-requires
-    same-length-5
     same-length-6
     same-length-7
     same-length-8
     same-length-9
     same-length-10
     same-length-11
+    same-length-12
+    same-length-13
     returns-6)

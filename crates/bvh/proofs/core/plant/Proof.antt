@@ -10,7 +10,7 @@ use native.Mathlib.Omega.{arith}
 
 -- the function's entry, from where the places are gathered
 abbrev start : tie.After-gather → tie.Start
-start c = c .before .before .before .before .before .before .before
+start c = c .before .before .before .before .before .before .before .before
 
 fits : (c : tie.After-gather) → start c .args .task .n ≤ length (c .gather .last .1 .1 .0)
 fits c = omega (arith, c .gather .kept .1 .1 .0, start c .pre .places-room)
@@ -28,8 +28,12 @@ slice-aggregate-grow-tree c =
 
 grow-tree-requires : tie.Need-grow-tree-requires
 grow-tree-requires c κs =
-    let g = c .before .before .before .before .before .before in
-    grow-room (start g .args .task) _ _ _ (g .gather .ensures) (fits g) _ _ _ _ (start g .pre)
+    let g = c .before .before .before .before .before .before .before in
+    let p = start g .pre in (
+      grow-room (start g .args .task) _ _ _ (g .gather .ensures) (fits g) _ _ _ _ _ p,
+      omega (arith, p .entries-are, p .centres-room),
+      omega (arith, p .entries-are, p .few),
+    )
 
 same-length : tie.Need-same-length
 same-length c = search needs
@@ -43,10 +47,13 @@ same-length-3 c = search needs
 same-length-4 : tie.Need-same-length-4
 same-length-4 c = search needs
 
+same-length-5 : tie.Need-same-length-5
+same-length-5 c = search needs
+
 returns : tie.Need-returns
 returns c =
-    let w = c .before .before .before .before .before .before .before .before in
-    let g = w .before .before .before .before .before .before .before in
+    let w = c .before .before .before .before .before .before .before .before .before .before in
+    let g = w .before .before .before .before .before .before .before .before in
     planted (start g .args .task) _ _ _ (g .gather .ensures) (fits g) _ _ _ (w .grow-tree .kept .0) (w .grow-tree .ensures)
 
 pub plant-spec : {M : Type 1} → statement M
@@ -61,4 +68,5 @@ plant-spec =
     same-length-2
     same-length-3
     same-length-4
+    same-length-5
     returns)

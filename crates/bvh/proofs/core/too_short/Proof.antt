@@ -88,12 +88,12 @@ returns-7 c =
       lt-ltb _ _ (c .if7 .taken),
     )
 
-mul-result : tie.Need-mul-result
-mul-result c = search needs
+mul-if8 : tie.Need-mul-if8
+mul-if8 c = search needs
 
 returns-8 : tie.Need-returns-8
 returns-8 c =
-    let c₇ = c .before in
+    let c₇ = c .before .before in
     let c₆ = c₇ .before .before in
     let c₅ = c₆ .before .before in
     let c₄ = c₅ .before .before in
@@ -108,6 +108,31 @@ returns-8 c =
       le-ltb _ _ (c₅ .if5 .left),
       le-ltb _ _ (c₆ .if6 .left),
       le-ltb _ _ (c₇ .if7 .left),
+      lt-ltb _ _ (c .if8 .taken),
+    )
+
+mul-result : tie.Need-mul-result
+mul-result c = search needs
+
+returns-9 : tie.Need-returns-9
+returns-9 c =
+    let c₈ = c .before in
+    let c₇ = c₈ .before .before in
+    let c₆ = c₇ .before .before in
+    let c₅ = c₆ .before .before in
+    let c₄ = c₅ .before .before in
+    let c₃ = c₄ .before .before in
+    let c₂ = c₃ .before .before in
+    let c₁ = c₂ .before .before in
+    rw (
+      le-ltb _ _ (c₁ .if1 .left),
+      le-ltb _ _ (c₂ .if2 .left),
+      le-ltb _ _ (c₃ .if3 .left),
+      le-ltb _ _ (c₄ .if4 .left),
+      le-ltb _ _ (c₅ .if5 .left),
+      le-ltb _ _ (c₆ .if6 .left),
+      le-ltb _ _ (c₇ .if7 .left),
+      le-ltb _ _ (c₈ .if8 .left),
     )
 
 pub too-short-spec : {M : Type 1} → statement M
@@ -126,5 +151,7 @@ too-short-spec =
     returns-5
     returns-6
     returns-7
+    mul-if8
+    returns-8
     mul-result
-    returns-8)
+    returns-9)

@@ -16,17 +16,17 @@ use Rattle.growth.proofs.Lawful.{Lawful, lawful}
 use Rattle.growth.proofs.grow.Going.{Slices, Going, Top, top, start, ended, leaf-turn, inner-turn, segment-length, room-set}
 
 abbrev Inv-loop : tie.InvT-loop
-Inv-loop places₀ temp₀ entries stack₀ rows₀ threshold plain n sp₀ lo₀ m₀ places temp stack rows sp lo m =
+Inv-loop places₀ temp₀ entries stack₀ rows₀ centres threshold plain n sp₀ lo₀ m₀ places temp stack rows sp lo m =
     let s₀ : Slices = record { places = places₀; temp = temp₀; stack = stack₀; rows = rows₀ } in
     let s : Slices = record { places = places; temp = temp; stack = stack; rows = rows } in
     (Going (builder (boxAt entries)) threshold entries s₀ s sp lo m) × (n ≡ length places₀)
 
 abbrev μ-loop : tie.MeasureT-loop
-μ-loop places₀ temp₀ entries stack₀ rows₀ threshold plain n sp₀ lo₀ m₀ places temp stack rows sp lo m = 2 * n - m
+μ-loop places₀ temp₀ entries stack₀ rows₀ centres threshold plain n sp₀ lo₀ m₀ places temp stack rows sp lo m = 2 * n - m
 
 -- the entry of the function that a turn is in
 abbrev entry : tie.In-loop Inv-loop μ-loop → tie.Start Inv-loop μ-loop
-entry c = c .before .before .before .before .before .before .before
+entry c = c .before .before .before .before .before .before .before .before
 
 -- the turn that either arm is in: before its call, after it, and at its end
 abbrev leaf-call : tie.After-put-leaf-arg2 Inv-loop μ-loop → tie.In-loop Inv-loop μ-loop
@@ -91,10 +91,10 @@ segment-within c =
     within-take size (width c) (drop (l .lo) (l .places)) (within-drop size (l .lo) (l .places) (l .inv .0 .within))
 
 sub-sp : tie.Need-sub-sp Inv-loop μ-loop
-sub-sp c = omega (arith, c .before .before .before .before .before .pre .1 .stack-room)
+sub-sp c = omega (arith, c .before .before .before .before .before .before .pre .1 .stack-room)
 
 cast-stack : tie.Need-cast-stack Inv-loop μ-loop
-cast-stack c = omega (arith, c .before .before .before .before .before .pre .1 .few)
+cast-stack c = omega (arith, c .before .before .before .before .before .before .pre .1 .few)
 
 mul-stack : tie.Need-mul-stack Inv-loop μ-loop
 mul-stack c = omega arith
@@ -104,7 +104,7 @@ slice-write-stack c = omega arith
 
 loop-holds : tie.Need-loop-holds Inv-loop μ-loop
 loop-holds c =
-    let s = c .before .before .before .before .before in
+    let s = c .before .before .before .before .before .before in
     (start _ (law s) _ _ (before s) (room s) (s .args .stack .now) refl (s .pre .0), refl)
 
 mul-k : tie.Need-mul-k Inv-loop μ-loop
@@ -195,6 +195,7 @@ put-inner-requires c κs =
       omega (arith, t .in-temp),
       segment-within i,
       entry i .pre .2,
+      entry i .pre .3,
     )
 
 sub-push-two : tie.Need-sub-push-two Inv-loop μ-loop
@@ -256,7 +257,7 @@ same-length-4 c = omega arith
 
 returns : tie.Need-returns Inv-loop μ-loop
 returns c =
-    let s = c .before .before .before .before .before .before .before in
+    let s = c .before .before .before .before .before .before .before .before in
     ended _ (law s) _ _ (before s) (room s) _ _ _ _ (c .before .loop .inv .0) (omega arith)
 
 pub grow-spec : {M : Type 1} → statement M

@@ -13,7 +13,7 @@ use Rattle.listing.proofs.Putting.{put-as}
 use native.Mathlib.Omega.{arith}
 
 start : tie.After-build-core → tie.Start
-start c = c .before .before .before .before .before .before .before .before .before .before .before .before .before .before
+start c = c .before .before .before .before .before .before .before .before .before .before .before .before .before .before .before
 
 -- the outputs as the build leaves them
 abbrev written : tie.After-build-core → Outputs
@@ -28,7 +28,7 @@ unfolding start
 left c =
     let input = start c .args .input .now in
     let n = length input / 32 in
-    let read = c .before .before .before .before .before .before .before .before .before .before in
+    let read = c .before .before .before .before .before .before .before .before .before .before .before in
     made
     (ap (entriesIn n) (children-taken input _ _ n (read .read-children .ensures)) ∙ children-are input (start c .pre .2))
     (few-children input (start c .pre .1))
@@ -41,6 +41,7 @@ left c =
       temp-room = omega arith;
       stack-room = omega arith;
       rows-room = omega arith;
+      centres-room = omega arith;
     })
     (c .build-core .ensures)
 
@@ -74,6 +75,9 @@ slice-aggregate-build-core-7 c = search needs
 slice-aggregate-build-core-8 : tie.Need-slice-aggregate-build-core-8
 slice-aggregate-build-core-8 c = search needs
 
+slice-aggregate-build-core-9 : tie.Need-slice-aggregate-build-core-9
+slice-aggregate-build-core-9 c = search needs
+
 build-core-requires : tie.Need-build-core-requires
 build-core-requires c κs = search needs
 
@@ -85,7 +89,7 @@ enum-told c = search needs
 
 returns : tie.Need-returns
 returns c =
-    let build = c .before .before .before .before .before .before .before .before .before in
+    let build = c .before .before .before .before .before .before .before .before .before .before in
     absurd (made-not _ (left build) _ (c .enum-told .given .1))
 
 slice-aggregate-put-records : tie.Need-slice-aggregate-put-records
@@ -97,7 +101,7 @@ slice-aggregate-put-records-2 c = search needs
 put-records-requires : tie.Need-put-records-requires
 unfolding start
 put-records-requires c κs =
-    let build = c .before .before .before .before .before .before .before .before .before .before .before .before .before in
+    let build = c .before .before .before .before .before .before .before .before .before .before .before .before .before .before in
     let e = childrenOf (start build .args .input .now) in
     let m = left build in
     let kept = build .build-core .kept in
@@ -113,7 +117,7 @@ same-length c = search needs
 returns-2 : tie.Need-returns-2
 unfolding start
 returns-2 c =
-    let build = c .before .before .before .before .before .before .before .before .before .before .before .before .before .before .before .before in
+    let build = c .before .before .before .before .before .before .before .before .before .before .before .before .before .before .before .before .before in
     let tree = c .before .before .before .before .before .before .before .built .given in
     let text = made-listed (childrenOf (start build .args .input .now)) (left build) (tree .0 .0) (tree .1) in
     put-as text (omega arith) (c .before .before .put-records .ensures)
@@ -132,6 +136,7 @@ put-children-spec =
     slice-aggregate-build-core-6
     slice-aggregate-build-core-7
     slice-aggregate-build-core-8
+    slice-aggregate-build-core-9
     build-core-requires
     enum-known-built
     enum-told

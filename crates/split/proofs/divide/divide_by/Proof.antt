@@ -18,7 +18,7 @@ use Rattle.split.proofs.Steps.{Met, chosen-by, parted-met, met-divided,
 
 -- the function's entry, from after the partition; and the partition, from after it is settled
 abbrev entry : tie.After-partition → tie.Start
-entry c = c .before .before .before .before .before .before .before .before .before
+entry c = c .before .before .before .before .before .before .before .before .before .before
 
 abbrev partition : tie.After-settle → tie.After-partition
 partition c = c .before .before .before .before .before .before .before
@@ -54,18 +54,16 @@ meets c =
 count-below-requires : tie.Need-count-below-requires
 count-below-requires c κs = search needs
 
-cast-choose-axis : tie.Need-cast-choose-axis
-cast-choose-axis c = search needs
-
 choose-axis-requires : tie.Need-choose-axis-requires
 choose-axis-requires c κs =
-    let g = c .before .before .before .before .before in
+    let g = c .before .before .before .before .before .before in
     let avg = g .args .avg in
-    let e = c .count-below .ensures in (
-      omega arith,
-      omega (arith, ap (λ (n : Counts). n .x) e, count-le (boxes-of g) avg X (places-of g)),
-      omega (arith, ap (λ (n : Counts). n .y) e, count-le (boxes-of g) avg Y (places-of g)),
-      omega (arith, ap (λ (n : Counts). n .z) e, count-le (boxes-of g) avg Z (places-of g)),
+    let e = c .count-below .ensures in
+    let all = ap (λ (n : Counts). n .all) e in (
+      omega (arith, all),
+      omega (arith, all, ap (λ (n : Counts). n .x) e, count-le (boxes-of g) avg X (places-of g)),
+      omega (arith, all, ap (λ (n : Counts). n .y) e, count-le (boxes-of g) avg Y (places-of g)),
+      omega (arith, all, ap (λ (n : Counts). n .z) e, count-le (boxes-of g) avg Z (places-of g)),
     )
 
 partition-requires : tie.Need-partition-requires
@@ -105,7 +103,6 @@ divide-by-spec =
     tie.close
     (tie.spec
     count-below-requires
-    cast-choose-axis
     choose-axis-requires
     partition-requires
     settle-requires

@@ -3,78 +3,76 @@ use native.Mathlib.Omega.{arith}
 use borrow.Author.Needs.{needs}
 use Rattle.split.proofs.groups.count_below.Statement.{statement}
 use Rattle.split.proofs.groups.count_below.Tie as tie
-use Prim.Native.Nat.{_+_, _-_}
+use Prim.Native.Nat.{_+_, _-_, _≤_}
 use mathlib.Core.Path.{_≡_, ap, _∙_}
 use lib.ListN.{length, getD, drop}
-use lib.Ieee.{lt}
+use lib.Ieee.{binary32, ofBits, lt}
 use Rattle.base.specs.Lists.{oneIf}
-use Rattle.base.proofs.ListLaws.{one-or-none}
-use Rattle.math.specs.declared.vec3.Vec3.{Vec3}
-use Rattle.math.specs.Vec3s.{addOf, scaleOf}
-use Rattle.math.specs.Transform.{half}
 use Rattle.split.specs.declared.groups.Counts.{Counts}
-use Rattle.entries.specs.declared.boxes.Corners.{Corners}
+use Rattle.entries.specs.declared.average.Lanes.{Lanes}
 use Rattle.entries.specs.Boxes.{boxAt}
 use Rattle.split.specs.Rule.{below}
 use Rattle.split.specs.steps.Groups.{countMore}
 use Rattle.entries.proofs.Places.{Pass, begin, taken, finished, next-within}
+use Rattle.split.proofs.LaneLaws.{lane-counts}
 use Rattle.split.proofs.Counting.{onto, none, onto-more, onto-none, none-onto, small}
 
 abbrev Inv-loop : tie.InvT-loop
-Inv-loop entries places avg plain counts₀ i₀ counts i = Pass (onto (boxAt entries) avg) (length entries) places (none (boxAt entries) avg) counts i
+Inv-loop entries centres places avg counts₀ i₀ counts i = Pass (onto (boxAt entries) avg) (length entries) places (none (boxAt entries) avg) counts i
 
 abbrev μ-loop : tie.MeasureT-loop
-μ-loop entries places avg plain counts₀ i₀ counts i = length places - i
+μ-loop entries centres places avg counts₀ i₀ counts i = length places - i
 
 loop-holds : tie.Need-loop-holds Inv-loop μ-loop
 loop-holds c =
-    let at = boxAt (c .before .before .args .entries .now) in
-    begin (onto at (c .before .before .args .avg)) _ (c .before .before .args .places .now) (none at (c .before .before .args .avg)) (c .before .before .pre .0)
+    let g = c .before .before .before in
+    let at = boxAt (g .args .entries .now) in
+    begin (onto at (g .args .avg)) _ (g .args .places .now) (none at (g .args .avg)) (g .pre .0)
 
 mul-t8 : tie.Need-mul-t8 Inv-loop μ-loop
 mul-t8 c = search needs
 
-shared-slice-read-t12 : tie.Need-shared-slice-read-t12 Inv-loop μ-loop
-shared-slice-read-t12 c = search needs
+shared-slice-read-t11 : tie.Need-shared-slice-read-t11 Inv-loop μ-loop
+shared-slice-read-t11 c = search needs
 
-corners-at-requires : tie.Need-corners-at-requires Inv-loop μ-loop
-corners-at-requires c κs =
+centre-at-requires : tie.Need-centre-at-requires Inv-loop μ-loop
+centre-at-requires c κs =
     let l = c .before .before .loop in
-    let g = c .before .before .before .before .before in
-    (next-within _ _ (g .args .places .now) _ (l .counts) (l .i) (l .inv) (omega arith), g .pre .2)
-
-centre-requires : tie.Need-centre-requires Inv-loop μ-loop
-centre-requires c κs = search needs
+    let g = c .before .before .before .before .before .before in
+    omega (arith, next-within _ _ (g .args .places .now) _ (l .counts) (l .i) (l .inv) (omega arith), g .pre .2 .room)
 
 one-if-below-requires : tie.Need-one-if-below-requires Inv-loop μ-loop
 one-if-below-requires c κs = search needs
 
-add-t14 : tie.Need-add-t14 Inv-loop μ-loop
-add-t14 c =
-    let mid = c .before .before in
-    let g = mid .before .before .before .before .before .before .before .args in
-    let few = small (boxAt (g .entries .now)) (g .avg) _ (g .places .now) _ _ (mid .before .before .before .before .loop .inv) in
-    omega (arith, c .before .one-if-below .ensures, one-or-none (lt (mid .centre .result .x) (g .avg .x)), few .0)
+-- no count is greater than the number of places
+few : (c : tie.After-centre-at Inv-loop μ-loop)
+    → let n = c .before .before .before .loop .counts in
+    let m = length (c .before .before .before .before .before .before .before .args .places .now) in
+    (n .x ≤ m) × (n .y ≤ m) × (n .z ≤ m) × (n .all ≤ m)
+few c =
+    let g = c .before .before .before .before .before .before .before .args in
+    small (boxAt (g .entries .now)) (g .avg) _ (g .places .now) _ _ (c .before .before .before .loop .inv)
+
+add-t13 : tie.Need-add-t13 Inv-loop μ-loop
+add-t13 c = omega (arith, c .before .one-if-below .ensures .1, few (c .before .before) .0)
 
 one-if-below-requires-2 : tie.Need-one-if-below-requires-2 Inv-loop μ-loop
 one-if-below-requires-2 c κs = search needs
 
-add-t16 : tie.Need-add-t16 Inv-loop μ-loop
-add-t16 c =
-    let mid = c .before .before .before .before in
-    let g = mid .before .before .before .before .before .before .before .args in
-    let few = small (boxAt (g .entries .now)) (g .avg) _ (g .places .now) _ _ (mid .before .before .before .before .loop .inv) in
-    omega (arith, c .before .one-if-below2 .ensures, one-or-none (lt (mid .centre .result .y) (g .avg .y)), few .1)
+add-t15 : tie.Need-add-t15 Inv-loop μ-loop
+add-t15 c = omega (arith, c .before .one-if-below2 .ensures .1, few (c .before .before .before .before) .1)
 
 one-if-below-requires-3 : tie.Need-one-if-below-requires-3 Inv-loop μ-loop
 one-if-below-requires-3 c κs = search needs
 
-add-t18 : tie.Need-add-t18 Inv-loop μ-loop
-add-t18 c =
-    let mid = c .before .before .before .before .before .before in
-    let g = mid .before .before .before .before .before .before .before .args in
-    let few = small (boxAt (g .entries .now)) (g .avg) _ (g .places .now) _ _ (mid .before .before .before .before .loop .inv) in
-    omega (arith, c .before .one-if-below3 .ensures, one-or-none (lt (mid .centre .result .z) (g .avg .z)), few .2)
+add-t17 : tie.Need-add-t17 Inv-loop μ-loop
+add-t17 c = omega (arith, c .before .one-if-below3 .ensures .1, few (c .before .before .before .before .before .before) .2)
+
+one-if-below-requires-4 : tie.Need-one-if-below-requires-4 Inv-loop μ-loop
+one-if-below-requires-4 c κs = search needs
+
+add-t19 : tie.Need-add-t19 Inv-loop μ-loop
+add-t19 c = omega (arith, c .before .one-if-below4 .ensures .1, few (c .before .before .before .before .before .before .before .before) .3)
 
 add-i : tie.Need-add-i Inv-loop μ-loop
 add-i c = search needs
@@ -85,29 +83,33 @@ loop-less c = search needs
 loop-again : tie.Need-loop-again Inv-loop μ-loop
 unfolding below
 loop-again c =
-    let mid = c .before .before .before .before .before .before in
-    let l = mid .before .before .before .before .loop in
-    let g = mid .before .before .before .before .before .before .before .args in
+    let mid = c .before .before .before .before .before .before .before .before in
+    let l = mid .before .before .before .loop in
+    let s = mid .before .before .before .before .before .before .before in
+    let g = s .args in
     let at = boxAt (g .entries .now) in
     let ps = g .places .now in
     let n = l .counts in
-    let below-x = c .before .before .before .before .before .one-if-below in
-    let below-y = c .before .before .before .one-if-below2 in
-    let below-z = c .before .one-if-below3 in
-    let centre = mid .centre .ensures ∙ ap (λ (e : Corners). scaleOf (addOf (e .low) (e .high)) half) (mid .before .corners-at .ensures) in
-    let x = below-x .ensures ∙ ap (λ (v : Vec3). oneIf (lt (v .x) (g .avg .x))) centre in
-    let y = below-y .ensures ∙ ap (λ (v : Vec3). oneIf (lt (v .y) (g .avg .y))) centre in
-    let z = below-z .ensures ∙ ap (λ (v : Vec3). oneIf (lt (v .z) (g .avg .z))) centre in
-    let step : record { x = n .x + below-x .result; y = n .y + below-y .result; z = n .z + below-z .result }
+    let below-x = c .before .before .before .before .before .before .before .one-if-below in
+    let below-y = c .before .before .before .before .before .one-if-below2 in
+    let below-z = c .before .before .before .one-if-below3 in
+    let counts = c .before .one-if-below4 in
+    let inside = next-within _ _ ps _ n (l .i) (l .inv) (omega arith) in
+    let lanes = mid .centre-at .ensures ∙ s .pre .2 .lanes (getD ps (l .i) 0) inside in
+    let x = below-x .ensures .0 ∙ ap (λ (v : Lanes). oneIf (lt (v .x) (g .avg .x))) lanes in
+    let y = below-y .ensures .0 ∙ ap (λ (v : Lanes). oneIf (lt (v .y) (g .avg .y))) lanes in
+    let z = below-z .ensures .0 ∙ ap (λ (v : Lanes). oneIf (lt (v .z) (g .avg .z))) lanes in
+    let w = counts .ensures .0 ∙ ap (λ (v : Lanes). oneIf (lt (v .w) (ofBits binary32 0x3f80_0000))) lanes ∙ lane-counts in
+    let step : record { x = n .x + below-x .result; y = n .y + below-y .result; z = n .z + below-z .result; all = n .all + counts .result }
     ≡ countMore at (g .avg) n (getD ps (l .i) 0) =
-    λ i. record { x = n .x + x i; y = n .y + y i; z = n .z + z i } in
+    λ i. record { x = n .x + x i; y = n .y + y i; z = n .z + z i; all = n .all + w i } in
     taken (onto at (g .avg)) _ ps _ n _ (l .i) (l .inv) (omega arith)
     (ap (λ (k : Counts). onto at (g .avg) k (drop (l .i + 1) ps)) step ∙ onto-more at (g .avg) n (getD ps (l .i) 0) (drop (l .i + 1) ps))
 
 returns : tie.Need-returns Inv-loop μ-loop
 returns c =
     let l = c .before .loop in
-    let g = c .before .before .before .before .args in
+    let g = c .before .before .before .before .before .args in
     let at = boxAt (g .entries .now) in
     onto-none at (g .avg) (l .counts)
     ∙ finished (onto at (g .avg)) _ (g .places .now) _ (l .counts) (l .i) (l .inv) (c .loop-test .left)
@@ -121,15 +123,16 @@ count-below-spec =
     μ-loop
     loop-holds
     mul-t8
-    shared-slice-read-t12
-    corners-at-requires
-    centre-requires
+    shared-slice-read-t11
+    centre-at-requires
     one-if-below-requires
-    add-t14
+    add-t13
     one-if-below-requires-2
-    add-t16
+    add-t15
     one-if-below-requires-3
-    add-t18
+    add-t17
+    one-if-below-requires-4
+    add-t19
     add-i
     loop-less
     loop-again

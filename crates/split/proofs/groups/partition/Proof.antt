@@ -13,10 +13,10 @@ use Rattle.split.specs.steps.Groups.{passes}
 use Rattle.split.proofs.Parting.{Parting, begin, next-same, turn, parted, passes-above, step-small}
 
 abbrev Inv-loop : tie.InvT-loop
-Inv-loop a₀ t₀ entries plain n step cut k₀ i₀ a t k i = Parting (passes entries step cut) a₀ t₀ a t k i
+Inv-loop a₀ t₀ entries centres n step cut k₀ i₀ a t k i = Parting (passes entries step cut) a₀ t₀ a t k i
 
 abbrev μ-loop : tie.MeasureT-loop
-μ-loop a₀ t₀ entries plain n step cut k₀ i₀ a t k i = n - i
+μ-loop a₀ t₀ entries centres n step cut k₀ i₀ a t k i = n - i
 
 step-of-requires : tie.Need-step-of-requires Inv-loop μ-loop
 step-of-requires c κs = search needs
@@ -25,7 +25,9 @@ coordinate-requires : tie.Need-coordinate-requires Inv-loop μ-loop
 coordinate-requires c κs = search needs
 
 loop-holds : tie.Need-loop-holds Inv-loop μ-loop
-loop-holds c = begin _ (c .before .before .before .before .before .args .places .now) (c .before .before .before .before .before .args .temp .now)
+loop-holds c =
+    let g = c .before .before .before .before .before .before .args in
+    begin _ (g .places .now) (g .temp .now)
 
 mul-p : tie.Need-mul-p Inv-loop μ-loop
 mul-p c = omega arith
@@ -51,7 +53,7 @@ slice-write-temp c = omega arith
 one-if-above-requires : tie.Need-one-if-above-requires Inv-loop μ-loop
 one-if-above-requires c κs =
     let l = c .before .before .loop in
-    let g = c .before .before .before .before .before .before .before .before in
+    let g = c .before .before .before .before .before .before .before .before .before in
     let e = next-same _ (g .args .places .now) (g .args .temp .now) (l .places) (l .temp) (l .k) (l .i) (l .inv) (omega arith) in
     let step = c .before .before .before .before .step-of in (
       rw e (within-at _ (g .args .places .now) (l .i) (g .pre .1) (omega arith)),
@@ -62,7 +64,7 @@ one-if-above-requires c κs =
 add-k : tie.Need-add-k Inv-loop μ-loop
 add-k c =
     let l = c .before .before .before .loop in
-    let g = c .before .before .before .before .before .before .before .before .before .args in
+    let g = c .before .before .before .before .before .before .before .before .before .before .args in
     let step = c .before .before .before .before .before .step-of .result in
     let cut = c .before .before .before .before .coordinate .result in
     omega (arith, c .one-if-above .ensures, one-or-none (passes (g .entries .now) step cut (getD (l .places) (l .i) 0)))
@@ -76,7 +78,7 @@ loop-less c = omega arith
 loop-again : tie.Need-loop-again Inv-loop μ-loop
 loop-again c =
     let l = c .before .before .before .loop in
-    let g = c .before .before .before .before .before .before .before .before .before in
+    let g = c .before .before .before .before .before .before .before .before .before .before in
     let above = c .one-if-above in
     turn _ (g .args .places .now) (g .args .temp .now) (l .places) (l .temp) (l .k) (l .i) (above .result) (l .inv) (omega arith) (g .pre .0) (above .ensures)
 
@@ -98,7 +100,7 @@ returns c =
     let l = after .loop in
     let cut = after .before .coordinate in
     let step = after .before .before .step-of in
-    let g = after .before .before .before .before .before .before in
+    let g = after .before .before .before .before .before .before .before in
     let ps = g .args .places .now in
     let e = passes-above (g .args .entries .now) (g .args .avg) (g .args .axis) (step .result) (cut .result) (step .ensures) (cut .ensures) in
     rw (← e, c .before .before .paste .ensures)

@@ -5,14 +5,14 @@ use Rattle.tree.proofs.pair.build_and_walk.Tie as tie
 use Rattle.tree.proofs.pair.Pairing.{paired, unpaired}
 
 -- the call of the build, from where its answer is told apart
-abbrev build : tie.After-slice-known15 → tie.After-build-core
-build c = c .before .before .before .before .before .before .before .before .before .before .before .before .before .before
+abbrev build : tie.After-slice-known17 → tie.After-build-core
+build c = c .before .before .before .before .before .before .before .before .before .before .before .before .before .before .before .before
 
 -- where the tree is known, from behind the walk; and where the answer is told apart, from there
-abbrev known : tie.After-slice-known16 → tie.After-known-told2
+abbrev known : tie.After-slice-known18 → tie.After-known-told2
 known c = c .before .before .before .before .before .before .before .before
 
-abbrev answer : tie.After-known-told2 → tie.After-slice-known15
+abbrev answer : tie.After-known-told2 → tie.After-slice-known17
 answer c = c .before .before .before
 
 build-core-requires : tie.Need-build-core-requires
@@ -51,34 +51,40 @@ same-length-6 c = search needs
 same-length-7 : tie.Need-same-length-7
 same-length-7 c = search needs
 
+same-length-8 : tie.Need-same-length-8
+same-length-8 c = search needs
+
 returns : tie.Need-returns
 returns c =
     let told = c .before in
     unpaired _ _ _ _ _ _ _ _ _ (build (told .before .before) .build-core .ensures) (told .built .given .1)
 
-same-length-8 : tie.Need-same-length-8
-same-length-8 c = build (answer (known c)) .build-core .kept .1 .1 .1 .0
-
 same-length-9 : tie.Need-same-length-9
-same-length-9 c = search needs
+same-length-9 c = build (answer (known c)) .build-core .kept .1 .1 .1 .0
 
 same-length-10 : tie.Need-same-length-10
-same-length-10 c = search needs
+same-length-10 c = build (answer (known c)) .build-core .kept .1 .1 .1 .1 .0
 
 same-length-11 : tie.Need-same-length-11
-same-length-11 c = search needs
+same-length-11 c = build (answer (known c)) .build-core .kept .1 .1 .1 .1 .1 .0
 
 same-length-12 : tie.Need-same-length-12
-same-length-12 c = search needs
+same-length-12 c = build (answer (known c)) .build-core .kept .1 .1 .1 .1 .1 .1 .0
 
 same-length-13 : tie.Need-same-length-13
-same-length-13 c = search needs
+same-length-13 c = build (answer (known c)) .build-core .kept .1 .1 .1 .1 .1 .1 .1 .0
 
 same-length-14 : tie.Need-same-length-14
-same-length-14 c = search needs
+same-length-14 c = build (answer (known c)) .build-core .kept .1 .1 .1 .1 .1 .1 .1 .1 .0
 
 same-length-15 : tie.Need-same-length-15
-same-length-15 c = search needs
+same-length-15 c = build (answer (known c)) .build-core .kept .1 .1 .1 .1 .1 .1 .1 .1 .1 .0
+
+same-length-16 : tie.Need-same-length-16
+same-length-16 c = build (answer (known c)) .build-core .kept .1 .1 .1 .1 .1 .1 .1 .1 .1 .1 .0
+
+same-length-17 : tie.Need-same-length-17
+same-length-17 c = search needs
 
 returns-2 : tie.Need-returns-2
 returns-2 c =
@@ -102,8 +108,8 @@ build-and-walk-spec =
     same-length-5
     same-length-6
     same-length-7
-    returns
     same-length-8
+    returns
     same-length-9
     same-length-10
     same-length-11
@@ -111,4 +117,6 @@ build-and-walk-spec =
     same-length-13
     same-length-14
     same-length-15
+    same-length-16
+    same-length-17
     returns-2)
