@@ -61,7 +61,7 @@ unfolding ofBits
 ofBits-is b = refl
 
 -- c is the pattern without its sign.
-value-is : (b : ℕ) (s : Bool) (c : ℕ) → leb 0x8000_0000 b ≡ s → b % 0x8000_0000 ≡ c → c < 0x7f80_0000 → HasValue (ofBits binary32 b) s (magnitude c) (2 ^ 149)
+pub value-is : (b : ℕ) (s : Bool) (c : ℕ) → leb 0x8000_0000 b ≡ s → b % 0x8000_0000 ≡ c → c < 0x7f80_0000 → HasValue (ofBits binary32 b) s (magnitude c) (2 ^ 149)
 value-is b s c sign rest h =
     subst (λ (v : Float). HasValue v s (magnitude c) (2 ^ 149))
     (sym
