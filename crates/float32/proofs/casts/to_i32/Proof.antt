@@ -53,19 +53,21 @@ returns : tie.Need-returns
 returns c =
     let cut = c .before .before in
     let start = cut .before .before in
+    let word = cut .before .number-word in
+    let size = cut .cut-size in
     toZ-pos w32 (cast-result c .sfits)
     ∙ ap pos (c .lesser .ensures)
-    ∙ cast-above (start .args .x) (held start) (cut .before .number-word .result) (cut .cut-size .result) (cut .before .number-word .ensures) (cut .cut-size .ensures)
-    (c .before .if1 .taken)
+    ∙ cast-above (start .args .x) (held start) (word .result) (size .result) (word .ensures) (size .ensures) (c .before .if1 .taken)
 
 returns-2 : tie.Need-returns-2
 returns-2 c =
     let cut = c .before in
     let start = cut .before .before in
+    let word = cut .before .number-word in
+    let size = cut .cut-size in
     ap (λ (z : ℤ). toZ w32 (ofZ w32 z)) (read c)
     ∙ toZ-ofZ (minus-fits w32 (cut .cut-size .result) (size-le cut))
-    ∙ cast-below (start .args .x) (held start) (cut .before .number-word .result) (cut .cut-size .result) (cut .before .number-word .ensures) (cut .cut-size .ensures)
-    (c .if1 .left)
+    ∙ cast-below (start .args .x) (held start) (word .result) (size .result) (word .ensures) (size .ensures) (c .if1 .left)
 
 pub to-i32-spec : {M : Type 1} → statement M
 to-i32-spec =

@@ -41,20 +41,22 @@ returns : tie.Need-returns
 returns c =
     let cut = c .before .before in
     let start = cut .before .before in
+    let word = cut .before .number-word in
+    let size = cut .cut-size in
     toZ-pos w16 (size-lt (c .before))
     ∙ ap pos (c .before .lesser .ensures)
-    ∙ truncated-above (start .args .x) (held start) (cut .before .number-word .result) (cut .cut-size .result) (cut .before .number-word .ensures) (cut .cut-size .ensures)
-    (c .if1 .taken)
+    ∙ truncated-above (start .args .x) (held start) (word .result) (size .result) (word .ensures) (size .ensures) (c .if1 .taken)
 
 returns-2 : tie.Need-returns-2
 returns-2 c =
     let cut = c .before .before in
     let start = cut .before .before in
+    let word = cut .before .number-word in
+    let size = cut .cut-size in
     toZ-ofZ (sub-result c)
     ∙ minus-is w16 (c .before .lesser .result) (size-lt (c .before))
     ∙ ap (λ (n : ℕ). negℤ (pos n)) (c .before .lesser .ensures)
-    ∙ truncated-below (start .args .x) (held start) (cut .before .number-word .result) (cut .cut-size .result) (cut .before .number-word .ensures) (cut .cut-size .ensures)
-    (c .if1 .left)
+    ∙ truncated-below (start .args .x) (held start) (word .result) (size .result) (word .ensures) (size .ensures) (c .if1 .left)
 
 pub truncated-spec : {M : Type 1} → statement M
 truncated-spec =
