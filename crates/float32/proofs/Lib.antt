@@ -3,6 +3,7 @@ pub mod CastLaws
 pub mod ClampLaws
 pub mod CmpLaws
 pub mod CountLaws
+mod CutSize
 pub mod Exactness
 pub mod ExtremeLaws
 pub mod Halving
@@ -13,7 +14,6 @@ pub mod Monotone
 pub mod Order
 pub mod OrderLaws
 pub mod Patterns
-mod Range
 pub mod Relations
 pub mod RoundError
 pub mod Rounding
@@ -23,4 +23,5 @@ pub mod standard
 pub mod SumError
 mod Trichotomy
 mod Truncation
+mod WholePart
 pub mod Wrap

@@ -1,14 +1,15 @@
 -- -1 - n, which turns two's complement into a number and back, and what the machine reads of a signed number. Assumes nothing.
 use mathlib.Core.Path.{_≡_, refl, sym, ap, _∙_, subst}
 use mathlib.Core.Bool.{Bool, true, false, cond}
-use Prim.Native.Nat.{ℕ, zero, suc, _-_, _%_, _≤_, _<_}
+use Prim.Native.Nat.{ℕ, zero, suc, _-_, _%_, _^_, _≤_, _<_}
 use native.Mathlib.Nat.{zero-add}
 use native.Mathlib.Omega.{arith}
 use lib.Dec.{T, ltb, leb·zero}
-use lib.IntN.{ℤ, pos, negsuc, natAbs, _-ℤ_}
+use lib.IntN.{ℤ, pos, negsuc, negℤ, natAbs, _-ℤ_, +ℤ-idl}
+use lib.Pow.{pow-pos}
 use lib.Signed.{leZ, nonNeg}
-use mir.Syntax.{w16, w32}
-use mir.Val.{Fits, SFits, toZ, ofZ}
+use mir.Syntax.{Width, w16, w32}
+use mir.Val.{Fits, SFits, hbits, toZ, ofZ}
 use mir.Facts.{toZ-ofZ, toZ-pos}
 use borrow.Author.Tests.{le-ltb, lt-ltb, ltb-true, ltb-false}
 use Rattle.float32.specs.Casts.{low16bits, signed16}
@@ -76,3 +77,11 @@ signed-fits-at b false h k = record { sfits = k refl }
 
 pub signed-fits : (b : ℕ) → SFits w16 (signed16 b)
 signed-fits b = signed-fits-at b (ltb b 32768) (ltb-true b 32768) (λ h. flipped b (ltb-false b 32768 h))
+
+-- ---- -n, for an n of the lower half of a width's words, read back at that width or at a narrower one
+pub minus-is : (w : Width) (n : ℕ) → n < 2 ^ hbits w → pos 0 -ℤ toZ w n ≡ negℤ (pos n)
+minus-is w n h = ap (λ (z : ℤ). pos 0 -ℤ z) (toZ-pos w h) ∙ +ℤ-idl (negℤ (pos n))
+
+pub minus-fits : (w : Width) (n : ℕ) → n ≤ 2 ^ hbits w → SFits w (negℤ (pos n))
+minus-fits w zero h = record { sfits = pow-pos (hbits w) }
+minus-fits w (suc n) h = record { sfits = h }

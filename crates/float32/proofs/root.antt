@@ -1,5 +1,6 @@
 pub mod Cases
 pub mod Chosen
+mod Cubic
 pub mod Examples
 pub mod Fractions
 pub mod Grid

@@ -1,5 +1,6 @@
 pub mod ArithmeticStandard
 pub mod Casts
+pub mod CastSteps
 pub mod CastStandard
 pub mod Comparison
 pub mod Counts

@@ -1,20 +1,42 @@
 // Floats to integers, as Rust's casts have them.
 ghost use mathlib.Core.Path.{_≡_};
-ghost use Prim.Native.Nat.{_<_};
+ghost use Prim.Native.Nat.{_<_, min};
+ghost use Rattle.float32.specs.CastSteps.{cutSize, numberWord};
 ghost use Rattle.float32.specs.Casts.{castI32, low16, low16bits, signed16, shortOf, truncatedOf, vertexOf};
+
+fn lesser(a: u32, b: u32) -> u32
+    ensures { λ r. ⌜ r ≡ min a b ⌝ }
+{
+    if a < b { a } else { b }
+}
+
+fn number_word(x: f32) -> u32
+    ensures { λ r. ⌜ r ≡ numberWord x ⌝ }
+{
+    // `to_bits` is undefined at a NaN.
+    if x != x { 0 } else { f32::to_bits(x) }
+}
+
+// Without a branch: a shift by more places than there are digits leaves nothing.
+fn cut_size(pattern: u32) -> u32
+    ensures { λ r. ⌜ r ≡ cutSize pattern ⌝ }
+{
+    // The digits with the leading one are the number itself where the exponent's field is 158.
+    let digits = ((0x0080_0000 + pattern % 0x0080_0000) as u64) * 256;
+    let places = 158 - lesser(pattern / 0x0080_0000, 158);
+    lesser((digits >> lesser(places, 32)) as u32, 0x8000_0000)
+}
 
 // Rust's `x as i32`: toward zero, to the nearest end of the range where it is out of it, and 0 for a NaN.
 pub fn to_i32(x: f32) -> i32
     ensures { λ r. ⌜ r ≡ castI32 x ⌝ }
 {
-    if x >= 2147483648.0 {
-        2147483647
-    } else if x >= -2147483648.0 {
-        std::num::truncating_f32_to_i64(x) as i32
-    } else if x != x {
-        0
+    let word = number_word(x);
+    let size = cut_size(word % 0x8000_0000);
+    if word < 0x8000_0000 {
+        lesser(size, 2147483647) as i32
     } else {
-        -2147483648
+        -(size as i64) as i32
     }
 }
 
@@ -59,15 +81,9 @@ pub fn to_short(x: f32) -> i16
 pub fn truncated(x: f32) -> i16
     ensures { λ r. ⌜ r ≡ truncatedOf x ⌝ }
 {
-    if x < -32767.0 {
-        -32767
-    } else if x > 32767.0 {
-        32767
-    } else if x != x {
-        0
-    } else {
-        std::num::truncating_f32_to_i64(x) as i16
-    }
+    let word = number_word(x);
+    let size = lesser(cut_size(word % 0x8000_0000), 32767) as i16;
+    if word < 0x8000_0000 { size } else { -size }
 }
 
 // A vertex value, as vertices are stored.

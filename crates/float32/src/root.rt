@@ -6,17 +6,35 @@ ghost use Rattle.float32.specs.SquareRoot.{isqrt, sqrtOf};
 ghost use Rattle.float32.specs.RootSteps.{Scales, rootBits};
 
 // The whole part of √n, by Newton's iteration: from any guess above 0 one step leads to the root or above it, and from above each step falls.
-fn isqrt(n: u64) -> u64
-    requires { ⌜ n < 2 ^ 48 ⌝ }
+fn isqrt(n: u64, guess: u64) -> u64
+    requires { ⌜ (n < 2 ^ 48) × (0x0080_0000 ≤ guess) × (guess < 0x0200_0000) ⌝ }
     ensures { λ r. ⌜ r ≡ isqrt n ⌝ }
 {
-    // The root's chord from 2^46 to 2^48, the radicands of `root_bits`, moved up by half of its greatest distance: within 5 % of the root.
-    let chord = 5941931 + n / 25165824;
-    let mut root = (chord + n / chord) / 2;
+    let mut root = (guess + n / guess) / 2;
     while n < root * root {
         root = (root + n / root) / 2;
     }
     root
+}
+
+// 1 or √2, in units of 2^-31.
+fn factor(odd: u32) -> u64
+    ensures { λ r. ⌜ (2147483648 ≤ r) × (r ≤ 3037000500) ⌝ }
+{
+    if odd == 0 { 2147483648 } else { 3037000500 }
+}
+
+// √(significand * 2^(23 + odd)) within 0.007 %, so that one step of `isqrt` is nearly always enough. For significand / 2^23 = 2 - y it is the cubic
+// nearest to √(2 - y), in units of 2^-31.
+fn guess(significand: u32, odd: u32) -> u64
+    requires { ⌜ (0x0080_0000 ≤ significand) × (significand < 0x0100_0000) ⌝ }
+    ensures { λ r. ⌜ (0x0080_0000 ≤ r) × (r < 0x0200_0000) ⌝ }
+{
+    let y = (0x0100_0000 - significand) as u64;
+    let bend = 71131262 + y * 53552716 / 0x0080_0000;
+    let slope = 764894619 + y * bend / 0x0080_0000;
+    let root = 3037211312 - y * slope / 0x0080_0000;
+    root * factor(odd) / 0x0080_0000_0000
 }
 
 // The number significand * 2^exponent / 2^275, with a significand of 24 digits.
@@ -51,7 +69,7 @@ fn root_bits(significand: u32, exponent: u32) -> u32
     ensures { λ r. ⌜ r ≡ rootBits significand exponent ⌝ }
 {
     let n = (significand as u64) << (23 + exponent % 2);
-    let root = isqrt(n);
+    let root = isqrt(n, guess(significand, exponent % 2));
     // The radicand is whole, so √n is above root + 1/2 exactly where n is above root * (root + 1), and there is no tie.
     if n - root * root > root {
         (exponent / 2) * 0x0080_0000 + ((root + 1) as u32)
@@ -70,7 +88,7 @@ pub fn sqrt(x: f32) -> f32
     }
     if pattern < 0x7f80_0000 {
         let scaled = parts(pattern);
-        return crate::words::value(root_bits(scaled.significand, scaled.exponent));
+        return f32::from_bits(root_bits(scaled.significand, scaled.exponent));
     }
     if pattern == 0x7f80_0000 {
         return x;

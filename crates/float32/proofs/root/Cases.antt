@@ -61,7 +61,8 @@ unfolding ofBits
 ofBits-is b = refl
 
 -- c is the pattern without its sign.
-value-is : (b : ℕ) (s : Bool) (c : ℕ) → leb 0x8000_0000 b ≡ s → b % 0x8000_0000 ≡ c → c < 0x7f80_0000 → HasValue (ofBits binary32 b) s (magnitude c) (2 ^ 149)
+pub value-is : (b : ℕ) (s : Bool) (c : ℕ) → leb 0x8000_0000 b ≡ s → b % 0x8000_0000 ≡ c → c < 0x7f80_0000
+    → HasValue (ofBits binary32 b) s (magnitude c) (2 ^ 149)
 value-is b s c sign rest h =
     subst (λ (v : Float). HasValue v s (magnitude c) (2 ^ 149))
     (sym
@@ -126,6 +127,12 @@ above-zero b m h B k s =
   where
     half : h < 380 → 24 + h / 2 ≤ 277
     half l = omega arith
+
+pub root-finite : (b m h : ℕ) → Scales b m h → rootBits m h < 0x7f80_0000
+root-finite b m h s = go (rounded (radicand m h) (isqrt (radicand m h))) (kept-lt m h (s .least) (s .most)) (s .power)
+  where
+    go : (q : ℕ) → q < 0x100_0000 → h < 380 → h / 2 * 0x80_0000 + q < 0x7f80_0000
+    go q k l = omega arith
 
 -- ---- the zeros and the infinity are their own roots
 pub zero-root : ofBits binary32 0 ≡ sqrtOf binary32 (ofBits binary32 0)

@@ -14,27 +14,25 @@ pub record Above (n root : ℕ) : Type 0 where
   pub small : root ≤ 0x400_0000
 
 abbrev Inv-loop : tie.InvT-loop
-Inv-loop n chord root₀ root = Above n root
+Inv-loop n guess root₀ root = Above n root
 
 abbrev μ-loop : tie.MeasureT-loop
-μ-loop n chord root₀ root = root
+μ-loop n guess root₀ root = root
 
-quotient : (n : ℕ) → n < 2 ^ 48 → n / (5941931 + n / 25165824) < 0x400_0000
-quotient n h = div-lt-iff-lt-mul {k = 5941931 + n / 25165824} {x = n} {y = 0x400_0000} (omega arith) .1 (omega arith)
-
-add-chord : tie.Need-add-chord Inv-loop μ-loop
-add-chord c = omega arith
+quotient : (n g : ℕ) → n < 2 ^ 48 → 0x80_0000 ≤ g → n / g < 0x200_0000
+quotient n g h k = div-lt-iff-lt-mul {k = g} {x = n} {y = 0x200_0000} (omega arith) .1 (omega arith)
 
 div-root : tie.Need-div-root Inv-loop μ-loop
 div-root c = omega arith
 
 add-root : tie.Need-add-root Inv-loop μ-loop
-add-root c = omega (arith, quotient (c .args .n) (c .pre))
+add-root c = omega (arith, quotient (c .args .n) (c .args .guess) (c .pre .0) (c .pre .1))
 
 loop-holds : tie.Need-loop-holds Inv-loop μ-loop
 loop-holds c =
     let n = c .args .n in
-    record { root-below = step-above n (5941931 + n / 25165824) (omega arith); small = omega (arith, quotient n (c .pre)) }
+    let g = c .args .guess in
+    record { root-below = step-above n g (omega (arith, c .pre .1)); small = omega (arith, quotient n g (c .pre .0) (c .pre .1)) }
 
 mul-loop : tie.Need-mul-loop Inv-loop μ-loop
 mul-loop c = omega (arith, mul-le-mul (c .loop .inv .small) (c .loop .inv .small))
@@ -64,7 +62,6 @@ isqrt-spec =
     (tie.spec
     Inv-loop
     μ-loop
-    add-chord
     div-root
     add-root
     loop-holds

@@ -20,12 +20,13 @@ radicand-of c = radicand (c .args .significand) (c .args .exponent)
 n-is : (c : tie.Start) → radicand-of c % 2 ^ 64 ≡ radicand-of c
 n-is c = in-word (c .args .significand) (c .args .exponent) (c .pre .0) (c .pre .1)
 
-q-is : (c : tie.After-isqrt) → c .isqrt .result ≡ isqrt (radicand-of (c .before))
-q-is c = c .isqrt .ensures ∙ ap isqrt (n-is (c .before))
+q-is : (c : tie.After-isqrt) → c .isqrt .result ≡ isqrt (radicand-of (c .before .before))
+q-is c = c .isqrt .ensures ∙ ap isqrt (n-is (c .before .before))
 
 q-le : (c : tie.After-isqrt) → c .isqrt .result ≤ 0xff_ffff
 q-le c =
-    subst (λ (q : ℕ). q ≤ 0xff_ffff) (sym (q-is c)) (root-le (c .before .args .significand) (c .before .args .exponent) (c .before .pre .0) (c .before .pre .1))
+    let start = c .before .before in
+    subst (λ (q : ℕ). q ≤ 0xff_ffff) (sym (q-is c)) (root-le (start .args .significand) (start .args .exponent) (start .pre .0) (start .pre .1))
 
 add-n : tie.Need-add-n
 add-n c = search needs
@@ -36,16 +37,22 @@ cast-n c = search needs
 shl-n : tie.Need-shl-n
 shl-n c = search needs
 
+guess-requires : tie.Need-guess-requires
+guess-requires c κs = search needs
+
 isqrt-requires : tie.Need-isqrt-requires
-isqrt-requires c κs = subst (λ (n : ℕ). n < 2 ^ 48) (sym (n-is c)) (radicand-lt (c .args .significand) (c .args .exponent) (c .pre .0) (c .pre .1))
+isqrt-requires c κs =
+    let start = c .before in
+    let small = radicand-lt (start .args .significand) (start .args .exponent) (start .pre .0) (start .pre .1) in
+    (subst (λ (n : ℕ). n < 2 ^ 48) (sym (n-is start)) small, c .guess .ensures .0, c .guess .ensures .1)
 
 mul-if1 : tie.Need-mul-if1
 mul-if1 c = omega (arith, mul-le-mul (q-le c) (q-le c))
 
 sub-if1 : tie.Need-sub-if1
 sub-if1 c =
-    let n = radicand-of (c .before) in
-    subst (λ (q : ℕ). q * q ≤ n % 2 ^ 64) (sym (q-is c)) (subst (λ (x : ℕ). isqrt n * isqrt n ≤ x) (sym (n-is (c .before))) (isqrt-is n .low))
+    let n = radicand-of (c .before .before) in
+    subst (λ (q : ℕ). q * q ≤ n % 2 ^ 64) (sym (q-is c)) (subst (λ (x : ℕ). isqrt n * isqrt n ≤ x) (sym (n-is (c .before .before))) (isqrt-is n .low))
 
 mul-result : tie.Need-mul-result
 mul-result c = search needs
@@ -80,10 +87,10 @@ stays x n n' q q' e k t =
     ∙ sym (ap (λ (b : Bool). x + cond b (q + 1) q) (le-ltb q (n - q * q) (subst (λ (z : ℕ). n - z * z ≤ z) k (subst (λ (z : ℕ). z - q' * q' ≤ q') e t))))
 
 returns : tie.Need-returns
-returns c = up _ _ _ _ _ (n-is (c .before .before)) (q-is (c .before)) (c .if1 .taken)
+returns c = up _ _ _ _ _ (n-is (c .before .before .before)) (q-is (c .before)) (c .if1 .taken)
 
 returns-2 : tie.Need-returns-2
-returns-2 c = stays _ _ _ _ _ (n-is (c .before .before)) (q-is (c .before)) (c .if1 .left)
+returns-2 c = stays _ _ _ _ _ (n-is (c .before .before .before)) (q-is (c .before)) (c .if1 .left)
 
 pub root-bits-spec : {M : Type 1} → statement M
 root-bits-spec =
@@ -92,6 +99,7 @@ root-bits-spec =
     add-n
     cast-n
     shl-n
+    guess-requires
     isqrt-requires
     mul-if1
     sub-if1

@@ -7,7 +7,8 @@ use lib.Dec.{T}
 use lib.Ieee.{Float, binary32, fits, ofBits}
 use lib.Ieee.Bits.{ofBits-toBits, toBits-lt}
 use Rattle.float32.specs.SquareRoot.{sqrtOf}
-use Rattle.float32.proofs.root.Cases.{above-zero, zero-root, minus-zero-root, infinity-root, no-root}
+use Rattle.float32.proofs.Patterns.{no-nan}
+use Rattle.float32.proofs.root.Cases.{above-zero, root-finite, zero-root, minus-zero-root, infinity-root, no-root}
 use Rattle.float32.proofs.root.sqrt.Statement.{statement}
 use Rattle.float32.proofs.root.sqrt.Tie as tie
 
@@ -38,16 +39,18 @@ parts-requires c κs = search needs
 root-bits-requires : tie.Need-root-bits-requires
 root-bits-requires c κs = search needs
 
-value-requires : tie.Need-value-requires
-value-requires c κs = search needs
+float-from-bits-result : tie.Need-float-from-bits-result
+float-from-bits-result c =
+    let b = c .before .before .before .before .bits .result in
+    let small = subst (λ (n : ℕ). n < 0x7f80_0000) (sym (c .root-bits .ensures)) (root-finite b _ _ (c .before .parts .ensures)) in
+    no-nan (c .root-bits .result) (omega (arith, small))
 
 returns-2 : tie.Need-returns-2
 returns-2 c =
-    let parted = c .before .before in
+    let parted = c .before in
     let tested = parted .before in
     let at = tested .before .before in
-    c .value .ensures
-    ∙ ap (ofBits binary32) (c .before .root-bits .ensures)
+    ap (ofBits binary32) (c .root-bits .ensures)
     ∙ above-zero (at .bits .result) _ _ (omega (arith, tested .before .if1 .left)) (tested .if2 .taken) (parted .parts .ensures)
     ∙ ap (sqrtOf binary32) (x-is at)
 
@@ -70,7 +73,7 @@ sqrt-spec =
     returns
     parts-requires
     root-bits-requires
-    value-requires
+    float-from-bits-result
     returns-2
     returns-3
     returns-4
