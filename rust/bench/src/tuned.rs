@@ -28,30 +28,36 @@ mod sse2 {
 
     /// What a walk asks of each record.
     struct Lanes {
-        /// Ones where a record's max stands: there `!max <= !query.min` is asked for `query.min <= max`.
+        /// Ones where a record's max stands: there `!max <= !query.min` is asked for `query.min <= max`; and where its
+        /// first number stands: `!first <= -1` for `0 <= first`.
         turn: __m128i,
-        /// What no lane of a turned record exceeds that meets; the two numbers never do.
+        /// What no lane of a turned record exceeds that meets and has numbers in their range.
         most: __m128i,
     }
 
     impl Lanes {
+        /// With the greatest second number of a record.
         #[target_feature(enable = "sse2")]
-        fn new(walk: &Walk) -> Lanes {
+        fn new(walk: &Walk, second: usize) -> Lanes {
             let [a, b, c] = quantise(walk.query.max, walk.cen, walk.inverse);
             let [d, e, f] = quantise(walk.query.min, walk.cen, walk.inverse).map(|x| !x);
-            let turn = _mm_setr_epi16(0, 0, 0, -1, -1, -1, 0, 0);
-            Lanes { turn, most: _mm_setr_epi16(a, b, c, d, e, f, i16::MAX, i16::MAX) }
+            let second = second.min(i16::MAX as usize) as i16;
+            let turn = _mm_setr_epi16(0, 0, 0, -1, -1, -1, -1, 0);
+            Lanes { turn, most: _mm_setr_epi16(a, b, c, d, e, f, -1, second) }
         }
 
+        /// A bit for each byte of what exceeds: twelve of the box, four of the numbers.
         #[target_feature(enable = "sse2")]
         #[inline]
-        fn meets(&self, record: &Record) -> bool {
+        fn above(&self, record: &Record) -> i32 {
             // SAFETY: sixteen bytes are read of sixteen; this load asks for no alignment.
             let record = unsafe { _mm_loadu_si128(record.as_ptr().cast()) };
-            let above = _mm_cmpgt_epi16(_mm_xor_si128(record, self.turn), self.most);
-            _mm_movemask_epi8(above) == 0
+            _mm_movemask_epi8(_mm_cmpgt_epi16(_mm_xor_si128(record, self.turn), self.most))
         }
     }
+
+    /// The bits of the box.
+    const BOX: i32 = 0x0FFF;
 
     /// The record's two numbers.
     #[inline]
@@ -71,37 +77,48 @@ mod sse2 {
             return refused(2);
         }
         let (nodes, trees, out) = (&nodes[..walk.node_count], &trees[..walk.tree_count], &mut out[..walk.item_count]);
-        let lanes = Lanes::new(walk);
+        let (of_trees, of_nodes) = (Lanes::new(walk, nodes.len()), Lanes::new(walk, LIMIT));
         let mut walked = Walked::default();
         let mut rest = trees;
-        while let Some((number, first, last)) = next_tree(&lanes, rest, nodes.len() as i32) {
+        loop {
+            let number = passed(&of_trees, rest);
+            if number == rest.len() {
+                walked.reads += number;
+                return walked;
+            }
             walked.reads += number + 1;
+            let (first, last) = numbers(&rest[number]);
             rest = &rest[number + 1..];
             if first < 0 || last < first || last > nodes.len() as i32 {
                 return Walked { refusal: 9, ..walked };
             }
-            walked = range(&lanes, &nodes[..last as usize], first as usize, walked, out);
+            walked = range(&of_nodes, &nodes[..last as usize], first as usize, walked, out);
             if walked.refusal != 0 {
                 return walked;
             }
         }
-        walked.reads += rest.len();
-        walked
     }
 
-    /// The first tree that meets or has no range among the nodes, and its range.
+    /// How many trees come before the first that meets or whose range does not lie among the nodes. Two are looked at
+    /// together.
     #[target_feature(enable = "sse2")]
     #[inline]
-    fn next_tree(lanes: &Lanes, trees: &[Record], nodes: i32) -> Option<(usize, i32, i32)> {
-        trees.iter().enumerate().find_map(|(number, tree)| {
-            let (first, last) = numbers(tree);
-            let sound = (first >= 0) & (first <= last) & (last <= nodes);
-            (lanes.meets(tree) | !sound).then_some((number, first, last))
-        })
+    fn passed(lanes: &Lanes, trees: &[Record]) -> usize {
+        let (pairs, _) = trees.as_chunks::<2>();
+        let both = |[a, b]: &[Record; 2]| passes(lanes, a) & passes(lanes, b);
+        let before = 2 * pairs.iter().position(|pair| !both(pair)).unwrap_or(pairs.len());
+        before + trees[before..].iter().position(|tree| !passes(lanes, tree)).unwrap_or(trees.len() - before)
     }
 
-    /// The nodes from `first` to the end of what is given. Where the walk goes on from a node and what it stores follows
-    /// without a branch: those would be guessed wrong often.
+    #[target_feature(enable = "sse2")]
+    #[inline]
+    fn passes(lanes: &Lanes, tree: &Record) -> bool {
+        let (first, last) = numbers(tree);
+        (1..=BOX).contains(&lanes.above(tree)) & (first <= last)
+    }
+
+    /// The nodes from `first` to the end of what is given. Whether a node meets is guessed; all else follows without a
+    /// branch.
     #[target_feature(enable = "sse2")]
     #[inline]
     fn range(lanes: &Lanes, nodes: &[Record], first: usize, mut walked: Walked, out: &mut [u16]) -> Walked {
@@ -116,24 +133,27 @@ mod sse2 {
             if (id | count) < 0 || end > limit {
                 return Walked { refusal: 10, ..walked };
             }
-            let meets = lanes.meets(node);
-            let handed = if meets { count as usize } else { 0 };
-            if handed > FEW || walked.handed + handed > items {
-                let fits = handed.min(items - walked.handed);
+            if lanes.above(node) & BOX != 0 {
+                at += if inner { over as usize } else { 1 };
+                continue;
+            }
+            at += 1;
+            let count = count as usize;
+            if count > FEW || walked.handed + count > items {
+                let fits = count.min(items - walked.handed);
                 (0..fits).for_each(|i| out[walked.handed + i] = (id as usize + i) as u16);
                 walked.handed += fits;
-                if fits < handed {
+                if fits < count {
                     return Walked { refusal: 11, ..walked };
                 }
-            } else {
-                // SAFETY: there are so many places behind what was handed out, and where none is stored, the others.
-                unsafe {
-                    let places = out.as_mut_ptr().add(walked.handed);
-                    store(if handed == 0 { unused.as_mut_ptr() } else { places }, id as u16, handed.max(1));
-                }
-                walked.handed += handed;
+                continue;
             }
-            at += if inner & !meets { over as usize } else { 1 };
+            // SAFETY: so many places are left behind what was handed out; where none is to be stored, the others are.
+            unsafe {
+                let places = out.as_mut_ptr().add(walked.handed);
+                store(if inner { unused.as_mut_ptr() } else { places }, id as u16, count.max(1));
+            }
+            walked.handed += count;
         }
         walked
     }
