@@ -9,10 +9,13 @@ use std::fmt::Write;
 const SIZE: (f64, f64) = (330.0, 330.0);
 const LEFT: f64 = 48.0;
 const TOP: f64 = 58.0;
-const NAMES: f64 = 152.0;
+const NAMES: f64 = 182.0;
 const BOTTOM: f64 = 44.0;
 /// Between names, so that none covers another.
 const LINE: f64 = 14.0;
+
+/// Around words that a line may pass.
+const HALO: &str = "stroke=\"white\" stroke-width=\"3\" paint-order=\"stroke\"";
 
 struct Line {
     name: String,
@@ -147,61 +150,85 @@ fn text(out: &mut String, (x, y): (f64, f64), anchor: &str, style: &str, words: 
     let _ = writeln!(out, "<text x=\"{x:.1}\" y=\"{y:.1}\" text-anchor=\"{anchor}\" {style}>{words}</text>");
 }
 
+/// Where a panel's sizes and ratios stand.
+struct Frame {
+    left: f64,
+    sizes: Axis,
+    ratios: Axis,
+}
+
+impl Frame {
+    fn new(panel: &Panel, left: f64) -> Frame {
+        let points = || panel.lines.iter().flat_map(|l| &l.points);
+        let wanted = panel.aims.iter().map(|aim| aim.ratio).chain([1.0]);
+        let ratios = Axis::over(points().map(|p| p.1).chain(wanted), 1.15);
+        Frame { left, sizes: Axis::over(points().map(|p| p.0), 1.1), ratios }
+    }
+
+    fn x(&self, size: f64) -> f64 {
+        self.left + SIZE.0 * self.sizes.place(size)
+    }
+
+    fn y(&self, ratio: f64) -> f64 {
+        TOP + SIZE.1 * (1.0 - self.ratios.place(ratio))
+    }
+
+    /// A line across at a ratio.
+    fn across(&self, out: &mut String, ratio: f64, style: &str) {
+        let _ = writeln!(out, "<path d=\"M{} {:.1}h{}\" {style}/>", self.left, self.y(ratio), SIZE.0);
+    }
+}
+
 fn drawn(out: &mut String, panel: &Panel, left: f64) {
-    let points = || panel.lines.iter().flat_map(|l| &l.points);
-    let sizes = Axis::over(points().map(|p| p.0), 1.1);
-    let wanted = panel.aims.iter().map(|aim| aim.ratio).chain([1.0]);
-    let ratios = Axis::over(points().map(|p| p.1).chain(wanted), 1.15);
-    let x = |size: f64| left + SIZE.0 * sizes.place(size);
-    let y = |ratio: f64| TOP + SIZE.1 * (1.0 - ratios.place(ratio));
+    let frame = Frame::new(panel, left);
     text(out, (left, 22.0), "start", "font-weight=\"bold\" font-size=\"13\"", panel.title);
-    text(out, (left, 40.0), "start", "fill=\"#555\"", "below 1 the library is faster; both scales by powers");
-    for size in sizes.marks() {
-        let _ = writeln!(out, "<path d=\"M{:.1} {TOP}v{}\" stroke=\"#eee\"/>", x(size), SIZE.1);
-        text(out, (x(size), TOP + SIZE.1 + 16.0), "middle", "", &thousands(size));
-    }
+    text(out, (left, 40.0), "start", "fill=\"#555\"", "below 1 the library is faster; both scales are logarithmic");
     text(out, (left + SIZE.0 / 2.0, TOP + SIZE.1 + 34.0), "middle", "fill=\"#555\"", panel.below);
-    for ratio in ratios.marks() {
-        let _ = writeln!(out, "<path d=\"M{left} {:.1}h{}\" stroke=\"#eee\"/>", y(ratio), SIZE.0);
-        text(out, (left - 6.0, y(ratio) + 4.0), "end", "", &format!("{ratio:.2}"));
-    }
-    let _ = writeln!(out, "<path d=\"M{left} {:.1}h{}\" stroke=\"black\" stroke-width=\"1.5\"/>", y(1.0), SIZE.0);
+    grid(out, &frame);
+    panel.lines.iter().for_each(|l| line_drawn(out, &frame, l));
     for Aim { name, ratio, colour } in &panel.aims {
-        let at = y(*ratio);
-        let _ = writeln!(out, "<path d=\"M{left} {at:.1}h{}\" stroke=\"{colour}\" stroke-dasharray=\"2 3\"/>", SIZE.0);
-        text(out, (left + 4.0, at - 4.0), "start", &format!("fill=\"{colour}\" font-style=\"italic\""), name);
+        frame.across(out, *ratio, &format!("stroke=\"{colour}\" stroke-dasharray=\"2 3\""));
+        let at = (left + 4.0, frame.y(*ratio) - 4.0);
+        text(out, at, "start", &format!("fill=\"{colour}\" font-style=\"italic\" {HALO}"), name);
     }
-    for Line { colour, dashed, points, .. } in &panel.lines {
-        let at: Vec<(f64, f64)> = points.iter().map(|p| (x(p.0), y(p.1))).collect();
-        let path: Vec<String> = at.iter().map(|(x, y)| format!("{x:.1},{y:.1}")).collect();
-        let dashes = if *dashed { " stroke-dasharray=\"6 3\"" } else { "" };
-        let _ = writeln!(
-            out,
-            "<polyline points=\"{}\" fill=\"none\" stroke=\"{colour}\" stroke-width=\"2\"{dashes}/>",
-            path.join(" ")
-        );
-        for (x, y) in at {
-            let _ = writeln!(out, "<circle cx=\"{x:.1}\" cy=\"{y:.1}\" r=\"3\" fill=\"{colour}\"/>");
-        }
+    named(out, &frame, &panel.lines);
+}
+
+fn grid(out: &mut String, frame: &Frame) {
+    for size in frame.sizes.marks() {
+        let x = frame.x(size);
+        let _ = writeln!(out, "<path d=\"M{x:.1} {TOP}v{}\" stroke=\"#eee\"/>", SIZE.1);
+        text(out, (x, TOP + SIZE.1 + 16.0), "middle", "", &thousands(size));
     }
-    named(out, panel, left, |p| (x(p.0), y(p.1)));
+    for ratio in frame.ratios.marks() {
+        frame.across(out, ratio, "stroke=\"#eee\"");
+        text(out, (frame.left - 6.0, frame.y(ratio) + 4.0), "end", "", &format!("{ratio:.2}"));
+    }
+    frame.across(out, 1.0, "stroke=\"black\" stroke-width=\"1.5\"");
+}
+
+fn line_drawn(out: &mut String, frame: &Frame, Line { colour, dashed, points, .. }: &Line) {
+    let at: Vec<(f64, f64)> = points.iter().map(|p| (frame.x(p.0), frame.y(p.1))).collect();
+    let path: Vec<String> = at.iter().map(|(x, y)| format!("{x:.1},{y:.1}")).collect();
+    let dashes = if *dashed { " stroke-dasharray=\"6 3\"" } else { "" };
+    let style = format!("fill=\"none\" stroke=\"{colour}\" stroke-width=\"2\"{dashes}");
+    let _ = writeln!(out, "<polyline points=\"{}\" {style}/>", path.join(" "));
+    for (x, y) in at {
+        let _ = writeln!(out, "<circle cx=\"{x:.1}\" cy=\"{y:.1}\" r=\"3\" fill=\"{colour}\"/>");
+    }
 }
 
 /// The lines' names on the right, each as near to its line's end as the others let it, and a hair from one to the other.
-fn named(out: &mut String, panel: &Panel, left: f64, place: impl Fn(&(f64, f64)) -> (f64, f64)) {
-    let mut ends: Vec<(&Line, (f64, f64))> =
-        panel.lines.iter().filter_map(|l| Some((l, place(l.points.last()?)))).collect();
+fn named(out: &mut String, frame: &Frame, lines: &[Line]) {
+    let end = |l: &Line| l.points.last().map(|p| (frame.x(p.0), frame.y(p.1)));
+    let mut ends: Vec<_> = lines.iter().filter_map(|l| Some((l, end(l)?))).collect();
     ends.sort_by(|a, b| a.1 .1.total_cmp(&b.1 .1));
-    let heights = apart(&ends.iter().map(|(_, end)| end.1).collect::<Vec<_>>(), TOP + 4.0, TOP + SIZE.1 - 2.0);
-    for ((line, (x, y)), at) in ends.iter().zip(heights) {
-        let edge = left + SIZE.0 + 14.0;
-        let colour = line.colour;
-        let _ = writeln!(
-            out,
-            "<path d=\"M{:.1} {y:.1}L{edge} {at:.1}\" stroke=\"{colour}\" stroke-width=\"0.5\" fill=\"none\"/>",
-            x + 4.0
-        );
-        text(out, (edge + 3.0, at + 4.0), "start", &format!("fill=\"{colour}\""), &line.name);
+    let wanted: Vec<f64> = ends.iter().map(|(_, (_, y))| *y).collect();
+    let edge = frame.left + SIZE.0 + 14.0;
+    for ((Line { name, colour, .. }, (x, y)), at) in ends.iter().zip(apart(&wanted, TOP + 4.0, TOP + SIZE.1 - 2.0)) {
+        let hair = format!("stroke=\"{colour}\" stroke-width=\"0.5\"");
+        let _ = writeln!(out, "<path d=\"M{:.1} {y:.1}L{edge} {at:.1}\" {hair}/>", x + 4.0);
+        text(out, (edge + 3.0, at + 4.0), "start", &format!("fill=\"{colour}\""), name);
     }
 }
 

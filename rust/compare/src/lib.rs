@@ -7,6 +7,8 @@
 //! - [`walks`]: walks over what [`records`] makes, compared with [`oracle::walk`], one in plain Rust.
 //! - [`pairs`]: builds and walks over their records, held to what [`promises`] finds by brute force, over the lists and
 //!   queries of [`queries`].
+//! - [`polygons`], [`meshes`]: polygon records and boxes, materials and links, of [`plain`] Rust until the library has
+//!   them.
 //! - [`exhaustive`]: operations of one word over all 2^32.
 //! - [`vectors`]: a sample of the reference's answers as a text file.
 //! - [`lent`]: buffers for operations that write into what they are lent.
@@ -19,8 +21,11 @@ pub mod header;
 pub mod inputs;
 pub mod lent;
 pub mod lists;
+pub mod meshes;
 pub mod operation;
 pub mod pairs;
+pub mod plain;
+pub mod polygons;
 pub mod promises;
 pub mod queries;
 pub mod random;
