@@ -6,13 +6,20 @@ use crate::subjects::{Kind, Side};
 use crate::walks::{A_PASS, BY_FORCE};
 
 pub fn page(series: &[Series], samples: usize, seed: u64) -> String {
+    let (option, counts) = match series.iter().any(|s| counted(series, s.subject.kind)) {
+        true => (
+            " --instructions",
+            "Instructions are those of callgrind, counted for some sizes: unlike times they repeat.",
+        ),
+        false => ("", "Instructions were not counted."),
+    };
     format!(
         "# Speed\n\n\
          The proved library and the reference, on the same inputs (seed {seed}), one thread, timed in turn in one run by\n\
          the time that the thread had a processor: the least of {samples} samples, of {FEWEST} or more where they would take over 10\n\
          seconds, and of one or two where one takes that long. A ratio is the library's time by another's: below 1 the\n\
-         library is faster. Instructions are those of callgrind, counted for some sizes; unlike times they repeat.\n\n\
-         Made by `cargo run --release -p bench -- --write --instructions` in rust/:\n\n{}\n\
+         library is faster. {counts}\n\n\
+         Made by `cargo run --release -p bench -- --write{option}` in rust/:\n\n{}\n\
          ![Ratios over size](bench.svg)\n\n\
          {}\n{}\n## Tried without gain\n\n{}",
         machine::described(),
