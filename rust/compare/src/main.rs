@@ -1,12 +1,12 @@
 //! `compare [OP..] [--seed S] [--cases N] [--stride N] [--threads N] [--write-vectors FILE]`
 //!
 //! OP is `float`, `math`, `tree`, `walk`, `pair`, `exhaustive`, `all` (these six, and what is meant without an OP) or an
-//! operation's name; those of `tree` are `build` and `header`. `geometry` (`polygon`, `materials`, `links`) holds plain
-//! Rust to the reference: the library has none of it yet.
+//! operation's name; those of `tree` are `build` and `header`. Those of `geometry` hold
+//! plain Rust to the reference: the library has none of them yet.
 //! Exit status: 0 all the same, 1 a mismatch, 2 it could not be run.
 
 use compare::exhaustive::{self, Extent};
-use compare::{build, check, header, meshes, operation, pairs, plain, polygons, report, vectors, walks};
+use compare::{build, check, header, meshes, operation, pairs, plain, polygons, report, vectors, vertices, walks};
 use std::process::ExitCode;
 
 const USAGE: &str = "usage: compare [OP..] [--seed S] [--cases N] [--stride N] [--threads N] [--write-vectors FILE]
@@ -18,7 +18,7 @@ const USAGE: &str = "usage: compare [OP..] [--seed S] [--cases N] [--stride N] [
   --write-vectors FILE  writes a sample of the reference's answers, and compares only the OPs that are named";
 
 /// The group, and its operations.
-const GEOMETRY: [&str; 4] = ["geometry", "polygon", "materials", "links"];
+const GEOMETRY: [&str; 7] = ["geometry", "polygon", "materials", "links", "quantum", "stored", "read_back"];
 
 struct Arguments {
     ops: Vec<String>,
@@ -90,6 +90,13 @@ fn run(a: &Arguments) -> Result<Vec<report::Line>, String> {
         let extent = Extent { first, stride: a.stride, threads: a.threads };
         lines.extend(exhaustive::NAMES.iter().filter_map(|name| exhaustive::run(name, extent)));
     }
+    lines.extend(geometry(a));
+    Ok(lines)
+}
+
+/// What is asked of it by name: it does not belong to all.
+fn geometry(a: &Arguments) -> Vec<report::Line> {
+    let mut lines = Vec::new();
     let named = |name: &str| a.ops.iter().any(|op| op == GEOMETRY[0] || op == name);
     if named("polygon") {
         lines.push(polygons::run(a.seed, a.cases, &polygons::PLAIN));
@@ -100,7 +107,10 @@ fn run(a: &Arguments) -> Result<Vec<report::Line>, String> {
     if named("links") {
         lines.push(meshes::links(a.seed, a.cases, plain::links::update));
     }
-    Ok(lines)
+    for op in vertices::operations().iter().filter(|op| named(op.name)) {
+        lines.push(check::run(op, a.seed, a.cases));
+    }
+    lines
 }
 
 fn main() -> ExitCode {

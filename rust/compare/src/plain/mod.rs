@@ -4,3 +4,4 @@
 pub mod links;
 pub mod materials;
 pub mod polygon;
+pub mod vertex;
