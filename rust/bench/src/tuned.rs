@@ -174,7 +174,7 @@ mod sse2 {
 #[cfg(test)]
 mod tests {
     use super::*;
-    use compare::walks;
+    use compare::{pairs, walks};
 
     /// Whole, damaged and scattered records, buffers too short, numbers over their limits.
     #[test]
@@ -184,5 +184,12 @@ mod tests {
             let line = walks::run(seed, 50_000, walk);
             assert_eq!((line.mismatches, line.smallest), (0, None));
         }
+    }
+    /// Over trees that were built, with what is promised of them.
+    #[test]
+    fn the_tuned_walk_keeps_the_promises() {
+        let (Some(walk), None) = (WALK, oracle::missing()) else { return };
+        let line = oracle::on_large_stack(|| pairs::run(1, 2_000, walk));
+        assert_eq!((line.mismatches, line.smallest), (0, None));
     }
 }
