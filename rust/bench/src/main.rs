@@ -1,88 +1,105 @@
-//! `bench [OP..] [--samples N] [--seed S] [--write]`
+//! `bench [OP..] [--samples N] [--seed S] [--instructions] [--write]`, or `bench vector-code ARCHIVE`
 //!
-//! Times the proved library and the reference in one run on the same inputs and prints a table, and one of `queries`;
-//! with `--write` also into docs/BENCH.md, docs/bench.svg and docs/queries.svg. Exit status 2 where it could not be run.
+//! Times the proved library and the reference, and walks, in one run on the same inputs and prints tables; with `--write`
+//! also docs/BENCH.md and docs/bench.svg. `vector-code` looks at a library's object code instead.
+//! Exit status: 1 where vector code is missing, 2 where it could not be run.
 
+mod instructions;
+mod lists;
+mod machine;
 mod measure;
 mod page;
 mod plot;
-mod queries;
 mod subjects;
+mod tuned;
+mod vector;
+mod walks;
 
+use measure::Series;
 use std::path::Path;
 use std::process::ExitCode;
+use subjects::{Side, Subject};
 
-const USAGE: &str = "usage: bench [OP..] [--samples N] [--seed S] [--write]
-  OP            an operation's name, or queries (default: all)
-  --samples N   of each size and side (default 31)
-  --seed S      of the inputs (default 1)
-  --write       writes docs/BENCH.md, docs/bench.svg and docs/queries.svg; of queries alone, only their part";
+const USAGE: &str = "usage: bench [OP..] [--samples N] [--seed S] [--instructions] [--write]
+       bench vector-code ARCHIVE
+  OP              the beginning of an operation's name, as random or queries (default: all)
+  --samples N     of each size and side (default 31)
+  --seed S        of the inputs (default 1)
+  --instructions  counts them too, by valgrind
+  --write         writes docs/BENCH.md and docs/bench.svg; only of all operations
+  vector-code     looks whether the library's hot loops compare several numbers at once";
 
 struct Arguments {
     ops: Vec<String>,
     samples: usize,
     seed: u64,
+    instructions: bool,
     write: bool,
 }
 
 fn arguments(mut words: impl Iterator<Item = String>) -> Result<Arguments, String> {
-    let mut a = Arguments { ops: Vec::new(), samples: 31, seed: 1, write: false };
+    let mut a = Arguments { ops: Vec::new(), samples: 31, seed: 1, instructions: false, write: false };
     while let Some(word) = words.next() {
         let mut number = || words.next().and_then(|v| v.parse::<u64>().ok()).ok_or(format!("{word} needs a number"));
         match word.as_str() {
             "--write" => a.write = true,
+            "--instructions" => a.instructions = true,
             "--samples" => a.samples = number()?.max(1) as usize,
             "--seed" => a.seed = number()?,
             _ if word.starts_with("--") => return Err(format!("{word}: no such option")),
             _ => a.ops.push(word),
         }
     }
+    if a.write && !a.ops.is_empty() {
+        return Err("--write writes the whole page: name no operation".to_string());
+    }
     Ok(a)
 }
 
 fn run(a: &Arguments) -> Result<(), String> {
     let subjects = subjects::all();
-    let asked = |name: &str| a.ops.is_empty() || a.ops.iter().any(|op| op == name);
-    if let Some(op) = a.ops.iter().find(|op| *op != queries::NAME && !subjects.iter().any(|s| s.name == **op)) {
-        return Err(format!("{op}: no such operation\n{USAGE}"));
+    let asked = |s: &&Subject| a.ops.is_empty() || a.ops.iter().any(|op| s.name.starts_with(op));
+    if let Some(op) = a.ops.iter().find(|op| !subjects.iter().any(|s| s.name.starts_with(*op))) {
+        let names: Vec<&str> = subjects.iter().map(|s| s.name).collect();
+        return Err(format!("{op}: no such operation; there are: {}", names.join("; ")));
+    }
+    let counting = a.instructions && instructions::valgrind();
+    if a.instructions && !counting {
+        eprintln!("bench: valgrind is not installed: instructions are left out");
+    }
+    if tuned::WALK.is_none() {
+        eprintln!("bench: the tuned walk is for x86-64: left out");
     }
     let mut series = Vec::new();
-    for subject in subjects.iter().filter(|s| asked(s.name)) {
+    for subject in subjects.iter().filter(asked) {
         eprintln!("{}", subject.name);
-        series.push(measure::series(subject, a.samples, a.seed));
+        series.push(measured(subject, a, counting)?);
     }
-    if !series.is_empty() {
-        print!("{}", page::table(&series));
-    }
-    let mut rates = Vec::new();
-    if asked(queries::NAME) {
-        eprintln!("{}", queries::NAME);
-        rates = queries::measured(a.samples, a.seed);
-        print!("{}", queries::table(&rates));
-    }
+    print!("{}", page::tables(&series));
     if a.write {
-        written(a, &series, &rates)?;
+        written("BENCH.md", page::page(&series, a.samples, a.seed))?;
+        written("bench.svg", plot::svg(&series))?;
     }
     Ok(())
 }
 
-/// What was measured takes the place of what stood in docs.
-fn written(a: &Arguments, series: &[measure::Series], rates: &[queries::Rates]) -> Result<(), String> {
+fn measured(subject: &Subject, a: &Arguments, counting: bool) -> Result<Series, String> {
+    let mut rows = Vec::new();
+    for &size in subject.sizes {
+        let mut row = measure::row(subject, size, a.samples, a.seed);
+        if counting && subject.counted.contains(&size) {
+            let sides: Vec<Side> = row.times.iter().map(|t| t.0).filter(|&side| side != Side::Force).collect();
+            row.instructions = instructions::counted(subject, size, &sides, a.seed)?;
+        }
+        rows.push(row);
+    }
+    Ok(Series { subject: subject.clone(), rows })
+}
+
+fn written(name: &str, text: String) -> Result<(), String> {
     let docs = Path::new(env!("CARGO_MANIFEST_DIR")).join("../../docs");
-    let failed = |name: &str, e| format!("docs/{name}: {e}");
-    let put = |name: &str, text: String| std::fs::write(docs.join(name), text).map_err(|e| failed(name, e));
     std::fs::create_dir_all(&docs).map_err(|e| format!("docs: {e}"))?;
-    let before = std::fs::read_to_string(docs.join("BENCH.md")).unwrap_or_default();
-    let (mut speed, mut query) = page::parts(&before);
-    if !series.is_empty() {
-        speed = page::page(series, a.samples, a.seed);
-        put("bench.svg", plot::svg(&plot::panels(series), &plot::SIDES, plot::time))?;
-    }
-    if !rates.is_empty() {
-        query = page::queries(rates, a.samples, a.seed);
-        put("queries.svg", plot::svg(&queries::panels(rates), &queries::SIDES, plot::count))?;
-    }
-    put("BENCH.md", format!("{}\n\n{query}", speed.trim_end()))
+    std::fs::write(docs.join(name), text).map_err(|e| format!("docs/{name}: {e}"))
 }
 
 fn main() -> ExitCode {
@@ -90,17 +107,22 @@ fn main() -> ExitCode {
         eprintln!("bench: {why}");
         ExitCode::from(2)
     };
+    let words: Vec<String> = std::env::args().skip(1).collect();
+    if words.first().is_some_and(|word| word == vector::WORD) {
+        return vector::looked(&words[1..]);
+    }
     if let Some(why) = oracle::missing() {
         return stop(why);
     }
     if cfg!(debug_assertions) {
         return stop("times mean nothing without optimisation: use cargo run --release");
     }
-    let arguments = match arguments(std::env::args().skip(1)) {
-        Ok(arguments) => arguments,
-        Err(why) => return stop(&format!("{why}\n{USAGE}")),
-    };
-    match oracle::on_large_stack(|| run(&arguments)) {
+    let counted = words.first().is_some_and(|word| word == instructions::WORD);
+    let ran = oracle::on_large_stack(|| match counted {
+        true => instructions::pass(&subjects::all(), &words[1..]),
+        false => arguments(words.into_iter()).map_err(|why| format!("{why}\n{USAGE}")).and_then(|a| run(&a)),
+    });
+    match ran {
         Ok(()) => ExitCode::SUCCESS,
         Err(why) => stop(&why),
     }

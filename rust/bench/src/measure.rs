@@ -1,26 +1,42 @@
 //! Times the sides in turn, so that a slow moment of the machine meets all of them, and takes the least.
 
-use crate::subjects::{Pass, Subject};
-use std::time::{Duration, Instant};
+use crate::subjects::{Pass, Queries, Side, Subject};
+use std::time::Duration;
 
-/// The least times of one size, in nanoseconds for the whole of it.
-#[derive(Clone, Copy)]
-pub struct Point {
+/// One size of a subject. Times are of a whole pass, in nanoseconds.
+pub struct Row {
     pub size: usize,
-    pub ours: f64,
-    pub theirs: f64,
+    /// What a pass does: so many boxes, records or calls.
+    pub units: usize,
+    pub times: Vec<(Side, f64)>,
+    pub instructions: Vec<(Side, u64)>,
+    pub queries: Option<Queries>,
 }
 
-impl Point {
-    pub fn ratio(&self) -> f64 {
-        self.ours / self.theirs
+impl Row {
+    pub fn time(&self, side: Side) -> Option<f64> {
+        self.times.iter().find(|(of, _)| *of == side).map(|(_, time)| *time)
+    }
+
+    /// Nanoseconds of one box, record or call.
+    pub fn each(&self, side: Side) -> Option<f64> {
+        Some(self.time(side)? / self.units.max(1) as f64)
+    }
+
+    /// The library's time by another side's.
+    pub fn ratio(&self, to: Side) -> Option<f64> {
+        Some(self.time(Side::Library)? / self.time(to)?)
+    }
+
+    pub fn instructions(&self, side: Side) -> Option<f64> {
+        let of = |side: &Side| self.instructions.iter().find(|(of, _)| of == side);
+        of(&side).map(|(_, count)| *count as f64 / self.units.max(1) as f64)
     }
 }
 
 pub struct Series {
-    pub name: &'static str,
-    pub unit: &'static str,
-    pub points: Vec<Point>,
+    pub subject: Subject,
+    pub rows: Vec<Row>,
 }
 
 /// A sample lasts at least this long, so that the clock's own steps do not show.
@@ -30,39 +46,96 @@ const LEAST: Duration = Duration::from_millis(1);
 const ENOUGH: Duration = Duration::from_secs(10);
 pub const FEWEST: usize = 3;
 
-pub fn series(subject: &Subject, samples: usize, seed: u64) -> Series {
-    let point = |&size: &usize| {
-        let [ours, theirs] = least((subject.passes)(size, seed), samples);
-        Point { size, ours, theirs }
-    };
-    Series { name: subject.name, unit: subject.unit, points: subject.sizes.iter().map(point).collect() }
+/// After this long it has enough, be it one.
+const LONG: Duration = Duration::from_secs(20);
+
+pub fn row(subject: &Subject, size: usize, samples: usize, seed: u64) -> Row {
+    let mut work = (subject.work)(size, seed);
+    let times = least(&mut work.passes, samples);
+    Row { size, units: work.units, times, instructions: Vec::new(), queries: work.queries }
 }
 
-/// The least time of each pass, in nanoseconds. What else runs on the machine only adds time.
-pub fn least<const SIDES: usize>(mut passes: [Pass; SIDES], samples: usize) -> [f64; SIDES] {
-    let times: [u32; SIDES] = std::array::from_fn(|side| passes_a_sample(&mut passes[side]));
-    let mut least = [f64::INFINITY; SIDES];
-    let (begun, mut taken) = (Instant::now(), 0);
-    while taken < samples.min(FEWEST) || taken < samples && begun.elapsed() < ENOUGH {
-        for (side, pass) in passes.iter_mut().enumerate() {
-            least[side] = least[side].min(sample(pass, times[side]));
+/// The least time of each pass. What else runs on the machine only adds time.
+fn least(passes: &mut [(Side, Pass)], samples: usize) -> Vec<(Side, f64)> {
+    let begun = clock();
+    let first = |(side, pass): &mut (Side, Pass)| {
+        let (times, time) = passes_a_sample(pass);
+        (times, (*side, time))
+    };
+    let (times, mut least): (Vec<u32>, Vec<(Side, f64)>) = passes.iter_mut().map(first).unzip();
+    let mut taken = 1;
+    loop {
+        let spent = clock() - begun;
+        if taken >= samples || spent > ENOUGH && taken >= FEWEST || spent > LONG {
+            return least;
+        }
+        for (at, (_, pass)) in passes.iter_mut().enumerate() {
+            least[at].1 = least[at].1.min(sample(pass, times[at]));
         }
         taken += 1;
     }
-    least
 }
 
-fn passes_a_sample(pass: &mut Pass) -> u32 {
+/// How many passes make a sample, and the first.
+fn passes_a_sample(pass: &mut Pass) -> (u32, f64) {
     let mut passes = 1;
-    while sample(pass, passes) * passes as f64 <= LEAST.as_nanos() as f64 {
+    loop {
+        let time = sample(pass, passes);
+        if time * passes as f64 > LEAST.as_nanos() as f64 {
+            return (passes, time);
+        }
         passes *= 2;
     }
-    passes
 }
 
 /// Nanoseconds of one pass, from several.
 fn sample(pass: &mut Pass, passes: u32) -> f64 {
-    let begun = Instant::now();
+    let begun = clock();
     (0..passes).for_each(|_| pass());
-    begun.elapsed().as_nanos() as f64 / passes as f64
+    (clock() - begun).as_nanos() as f64 / passes as f64
+}
+
+/// The time that this thread had a processor: a shared machine takes it away now and then.
+#[cfg(all(target_os = "linux", target_pointer_width = "64"))]
+fn clock() -> Duration {
+    #[repr(C)]
+    struct Timespec {
+        seconds: i64,
+        nanoseconds: i64,
+    }
+    unsafe extern "C" {
+        fn clock_gettime(clock: i32, time: *mut Timespec) -> i32;
+    }
+    const THREAD_CPUTIME: i32 = 3;
+    let mut time = Timespec { seconds: 0, nanoseconds: 0 };
+    // SAFETY: the system's struct, exclusively borrowed; where the clock is missing it is left as it is.
+    unsafe { clock_gettime(THREAD_CPUTIME, &mut time) };
+    Duration::new(time.seconds as u64, time.nanoseconds as u32)
+}
+
+/// The time that passes.
+#[cfg(not(all(target_os = "linux", target_pointer_width = "64")))]
+fn clock() -> Duration {
+    use std::sync::LazyLock;
+    static BEGUN: LazyLock<std::time::Instant> = LazyLock::new(std::time::Instant::now);
+    BEGUN.elapsed()
+}
+
+#[cfg(test)]
+mod tests {
+    use super::*;
+    use std::hint::black_box;
+
+    #[test]
+    fn each_pass_is_timed_and_the_clock_goes_on() {
+        let busy = |n: u64| -> Pass {
+            Box::new(move || {
+                black_box((0..n).map(black_box).sum::<u64>());
+            })
+        };
+        let mut passes = [(Side::Library, busy(1_000)), (Side::Reference, busy(50_000))];
+        let times = least(&mut passes, 3);
+        assert_eq!(times.iter().map(|(side, _)| *side).collect::<Vec<_>>(), [Side::Library, Side::Reference]);
+        assert!(times[0].1 > 0.0 && times[0].1 * 5.0 < times[1].1, "{times:?}");
+    }
 }

@@ -1,116 +1,168 @@
-//! What was measured as a page of two parts, each with its table and what it was measured with.
+//! What was measured as a page: tables of builds, walks, queries and steps, and what they were measured with.
 
-use crate::measure::{Series, FEWEST};
-use crate::queries::{self, Rates};
-
-const QUERIES: &str = "## Queries";
-
-/// A page's two parts: up to the queries, and these.
-pub fn parts(page: &str) -> (String, String) {
-    let (speed, queries) = page.split_at(page.find(QUERIES).unwrap_or(page.len()));
-    (speed.to_string(), queries.to_string())
-}
+use crate::machine;
+use crate::measure::{Row, Series, FEWEST};
+use crate::subjects::{Kind, Side};
+use crate::walks::{A_PASS, BY_FORCE};
 
 pub fn page(series: &[Series], samples: usize, seed: u64) -> String {
+    let (option, counts) = match series.iter().any(|s| counted(series, s.subject.kind)) {
+        true => (
+            " --instructions",
+            "Instructions are those of callgrind, counted for some sizes: unlike times they repeat.",
+        ),
+        false => ("", "Instructions were not counted."),
+    };
     format!(
         "# Speed\n\n\
-         The proved library and the reference, compiled in release mode and timed in turn in one run, on the same random\n\
-         inputs (seed {seed}), one thread; the least of {samples} samples, or of {FEWEST} and more where they would take over\n\
-         10 seconds. The ratio is the library's time by the reference's: below 1 the library is faster. A step of the\n\
-         library is a call into it; the reference's is compiled into the loop. A build of the library is a call of\n\
-         `bounds::build_bvh`, from floats to records in bytes; the reference's is its `build_bvh`, up to records that\n\
-         are not yet bytes. Of the walk there is no reference: beside it stands the plain Rust one of rust/compare, and\n\
-         what is counted are the records that it reads.\n\n\
-         Made by `cargo run --release -p bench -- --write` in rust/, on: {}.\n\n\
-         ![Time over size](bench.svg)\n\n{}\n{BUILD}",
-        processor(),
-        table(series)
+         The proved library and the reference, on the same inputs (seed {seed}), one thread, timed in turn in one run by\n\
+         the time that the thread had a processor: the least of {samples} samples, of {FEWEST} or more where they would take over 10\n\
+         seconds, and of one or two where one takes that long. A ratio is the library's time by another's: below 1 the\n\
+         library is faster. {counts}\n\n\
+         Made by `cargo run --release -p bench -- --write{option}` in rust/:\n\n{}\n\
+         ![Ratios over size](bench.svg)\n\n\
+         {}\n{}\n## Tried without gain\n\n{}",
+        machine::described(),
+        tables(series),
+        include_str!("../shares.md"),
+        include_str!("../tried.md"),
     )
 }
 
-/// The part of the queries.
-pub fn queries(rates: &[Rates], samples: usize, seed: u64) -> String {
-    format!(
-        "{QUERIES}\n\n\
-         Thousand queries a second over a tree of random boxes (seed {seed}) at threshold 4, up to 10 wide on each axis and\n\
-         spread over 400: 1,024 cubes, so wide that they meet some 1, 10 or 100 boxes; one thread, the least time of {samples}\n\
-         samples, or of {FEWEST} and more where they would take over 10 seconds, the three sides in turn. The library:\n\
-         `bounds::walk` over the records of `bounds::build_bvh`. The plain Rust walk: that of rust/compare over the\n\
-         reference's records; that both answer the same is checked first. Brute force compares every box with the query, as\n\
-         floats and without a branch, for the first 64 of the queries. Met, handed out and read are means of one query. The last two columns are the\n\
-         library's rate by the others': above 1 the library is faster.\n\n\
-         Made by `cargo run --release -p bench -- queries --write` in rust/, on: {}{}.\n\n\
-         ![Queries a second over boxes](queries.svg)\n\n{}\n{STANDING}",
-        processor(),
-        load(),
-        queries::table(rates)
-    )
+/// The tables of what was measured, each under its heading.
+pub fn tables(series: &[Series]) -> String {
+    let parts = [("Builds", BUILDS, builds(series)), ("Walks", WALKS, walks(series))];
+    let more = [("Queries", QUERIES, queries(series)), ("Steps", STEPS, steps(series))];
+    let whole = |(title, text, table): &(&str, &str, String)| match table.is_empty() {
+        true => String::new(),
+        false => format!("## {title}\n\n{text}\n{table}\n"),
+    };
+    parts.iter().chain(&more).map(whole).collect()
 }
 
-const STANDING: &str = "\
-A walk reads every tree record, and hands out all items of a leaf that meets: more than brute force finds, and who wants
-the exact answer compares the boxes of what was handed out. So a small query over many boxes takes as long as its tree
-records, and the lead over brute force grows with the boxes and shrinks with what is met: some 30 times at 32,767 boxes
-and one met, 1.4 times at 1,000 boxes and 70 met. The library's walk and the plain one are about as fast, within some
-tenths: the plain one is ahead where little is handed out, the library where much is. A second run on the shared machine
-gave rates up to a fifth lower, and ratios within a tenth.
+const BUILDS: &str = "\
+Of the library a call of `bounds::build_bvh`, from floats to records in bytes; of the reference its `build_bvh`, up to
+records that are not yet bytes. Random boxes are up to 10 wide and spread over 400; nested ones have one centre, each
+within the next; of the hostile and the deep list the split rule takes off a few boxes at a time, thousands of levels
+deep. Subnormal: every coordinate, and on the deep list those of y and z. Instructions are those of one box.
 ";
 
-/// What else the machine did: a shared one is slower, and the least of the samples hides that only in part.
-fn load() -> String {
-    let average = std::fs::read_to_string("/proc/loadavg").unwrap_or_default();
-    let processors = std::thread::available_parallelism().map_or(1, |n| n.get());
-    let load = average.split(' ').next().filter(|load| !load.is_empty());
-    load.map_or(String::new(), |load| format!(",\nshared with other work: a load of {load} on {processors} processors"))
+const WALKS: &str = "\
+The reference has no walk. Plain: the walk in plain Rust that the library's is compared with (rust/oracle). Tuned: one
+with SSE2 intrinsics over the same bytes (rust/bench/src/tuned.rs), with the same counts, positions and refusals. The
+synthetic tree was not built, and its size counts the records read; the others are queries over so many random boxes,
+threshold 4. Times and instructions are those of one record.
+";
+
+const QUERIES: &str = "\
+The same queries against brute force, which compares every box as floats and without a branch: cubes so wide that they
+meet some 1, 10 or 100 boxes. Means of one query, and thousand queries a second. A walk reads every tree record, and
+hands out all items of a leaf that meets: more than brute force finds, and who wants the exact answer compares the boxes
+of what was handed out. So a small query over many boxes takes as long as its tree records, and the lead over brute
+force grows with the boxes and shrinks with what is met.
+";
+
+const STEPS: &str = "\
+A step of the library is a call into it; the reference's is compiled into the loop. A processor learns the branches of
+1,000 inputs, not those of 100,000. Times and instructions are those of one call.
+";
+
+/// A table's head, with a column for each name.
+fn head(left: &str, columns: &[&str]) -> String {
+    let names: String = columns.iter().map(|name| format!(" {name} |")).collect();
+    format!("| {left} |{names}\n|---|{}\n", "---:|".repeat(columns.len()))
 }
 
-/// From `perf record` over the series named in it.
-const BUILD: &str = "\
-## Where a build's time goes
+fn cell(value: Option<f64>, digits: usize) -> String {
+    value.map_or("–".to_string(), |x| format!("{x:.digits$}"))
+}
 
-Shares of the library's own time, by sampling (`perf`), random boxes at threshold 4 and the hostile list:
+fn row(left: &str, cells: &[String]) -> String {
+    let cells: String = cells.iter().map(|cell| format!(" {cell} |")).collect();
+    format!("| {left} |{cells}\n")
+}
 
-| step | random | hostile |
-|---|---:|---:|
-| box of each node, folded before the split, and average, in one pass | 25 % | 31 % |
-| partition | 20 % | 31 % |
-| counts of centres below the average | 19 % | 35 % |
-| larger group first, sizes, ranges, records, order | 20 % | 3 % |
-| quantising | 11 % | 0 % |
-| entries into words | 5 % | 0 % |
-
-So most of it is three passes over a node's boxes on each level. The reference spends a third of its time in
-allocating and freeing the lists of each node and in counting nodes and items anew at each level (`total_nodes`,
-`total_items`), which on the hostile list, some 9,000 levels deep at 16,384 boxes, is three quarters of it.
-Equal boxes are sorted at each level, the rule's fallback.
-";
-
-pub fn table(series: &[Series]) -> String {
-    let mut out = String::from(
-        "| operation | size | library, µs | reference, µs | library, ns each | reference, ns each | ratio |\n",
-    );
-    out += "|---|---:|---:|---:|---:|---:|---:|\n";
-    for s in series {
-        for p in &s.points {
-            let each = p.size.max(1) as f64;
-            out += &format!(
-                "| {} | {} {} | {:.1} | {:.1} | {:.2} | {:.2} | {:.2} |\n",
-                s.name,
-                p.size,
-                s.unit,
-                p.ours / 1e3,
-                p.theirs / 1e3,
-                p.ours / each,
-                p.theirs / each,
-                p.ratio()
-            );
-        }
+/// The rows of a kind in their order; nothing where there are none.
+fn rows(series: &[Series], kind: Kind, head: String, row: impl Fn(&str, &Row) -> Option<String>) -> String {
+    let of = series.iter().filter(|s| s.subject.kind == kind);
+    let rows: String = of.flat_map(|s| s.rows.iter().filter_map(|r| row(s.subject.name, r))).collect();
+    if rows.is_empty() {
+        rows
+    } else {
+        head + &rows
     }
-    out
 }
 
-fn processor() -> String {
-    let info = std::fs::read_to_string("/proc/cpuinfo").unwrap_or_default();
-    let model = info.lines().find_map(|l| l.strip_prefix("model name")?.split_once(':'));
-    model.map_or("a processor that does not say its name".to_string(), |(_, name)| name.trim().to_string())
+/// Whether any row of a kind was counted: else there is no column of instructions.
+fn counted(series: &[Series], kind: Kind) -> bool {
+    series.iter().any(|s| s.subject.kind == kind && s.rows.iter().any(|r| !r.instructions.is_empty()))
+}
+
+fn with_instructions(names: &[&'static str], sides: &[Side], counted: bool) -> Vec<&'static str> {
+    let column = |side: &Side| match side {
+        Side::Library => "instructions",
+        Side::Reference => "reference's",
+        Side::Plain => "plain's",
+        _ => "tuned's",
+    };
+    names.iter().copied().chain(sides.iter().filter(|_| counted).map(column)).collect()
+}
+
+fn instructions(r: &Row, sides: &[Side], counted: bool) -> Vec<String> {
+    sides.iter().filter(|_| counted).map(|&side| cell(r.instructions(side), 1)).collect()
+}
+
+const BOTH: [Side; 2] = [Side::Library, Side::Reference];
+const THREE: [Side; 3] = [Side::Library, Side::Plain, Side::Tuned];
+
+fn builds(series: &[Series]) -> String {
+    let counted = counted(series, Kind::Build);
+    let names = ["boxes", "library, µs", "reference, µs", "library, ns a box", "ratio"];
+    let head = head("list", &with_instructions(&names, &BOTH, counted));
+    rows(series, Kind::Build, head, |name, r| {
+        let micros = |side| cell(r.time(side).map(|t| t / 1e3), 1);
+        let mut cells = vec![r.size.to_string(), micros(Side::Library), micros(Side::Reference)];
+        cells.extend([cell(r.each(Side::Library), 1), cell(r.ratio(Side::Reference), 2)]);
+        cells.extend(instructions(r, &BOTH, counted));
+        Some(row(name, &cells))
+    })
+}
+
+fn walks(series: &[Series]) -> String {
+    let counted = counted(series, Kind::Walk);
+    let names = ["size", "library, ns", "plain, ns", "tuned, ns", "by plain", "by tuned"];
+    let head = head("set", &with_instructions(&names, &THREE, counted));
+    rows(series, Kind::Walk, head, |name, r| {
+        let mut cells = vec![r.size.to_string()];
+        cells.extend(THREE.map(|side| cell(r.each(side), 2)));
+        cells.extend([Side::Plain, Side::Tuned].map(|side| cell(r.ratio(side), 2)));
+        cells.extend(instructions(r, &THREE, counted));
+        Some(row(name, &cells))
+    })
+}
+
+fn queries(series: &[Series]) -> String {
+    let names = ["boxes", "trees", "met", "handed out", "records read", "library, k/s", "brute force, k/s", "ratio"];
+    rows(series, Kind::Walk, head("set", &names), |name, r| {
+        let q = r.queries?;
+        let rate = |side, queries: usize| Some(1e6 * queries as f64 / r.time(side)?);
+        let (ours, force) = (rate(Side::Library, A_PASS), rate(Side::Force, BY_FORCE));
+        let mut cells = vec![r.size.to_string(), q.trees.to_string()];
+        cells.extend([q.met, q.handed, q.reads].map(|mean| cell(Some(mean), 1)));
+        cells.extend([cell(ours, 1), cell(force, 1), cell(Some(force? / ours?), 3)]);
+        Some(row(name, &cells))
+    })
+}
+
+fn steps(series: &[Series]) -> String {
+    let counted = counted(series, Kind::Step);
+    let names = ["calls", "library, ns", "reference, ns", "ratio"];
+    let head = head("step", &with_instructions(&names, &BOTH, counted));
+    rows(series, Kind::Step, head, |name, r| {
+        let mut cells = vec![r.size.to_string()];
+        cells.extend(BOTH.map(|side| cell(r.each(side), 2)));
+        cells.push(cell(r.ratio(Side::Reference), 2));
+        cells.extend(instructions(r, &BOTH, counted));
+        Some(row(name, &cells))
+    })
 }

@@ -1,137 +1,256 @@
-//! What was measured as a picture: panels with a line for each side, both scales by powers of ten.
+//! What was measured as one picture: the library's time by another's over size, builds on the left, walks on the right.
 
 use crate::measure::Series;
+use crate::subjects::{Kind, Side};
+use crate::walks::{QUERIES, SYNTHETIC};
 use std::fmt::Write;
 
-const COLUMNS: usize = 3;
-const PANEL: (f64, f64) = (300.0, 220.0);
-/// Left, top, right, bottom of the drawing inside a panel.
-const INSET: (f64, f64, f64, f64) = (56.0, 28.0, 16.0, 34.0);
-const TOP: f64 = 40.0;
+/// Of the drawing inside a panel, with room on its right for the lines' names.
+const SIZE: (f64, f64) = (330.0, 330.0);
+const LEFT: f64 = 48.0;
+const TOP: f64 = 58.0;
+const NAMES: f64 = 182.0;
+const BOTTOM: f64 = 44.0;
+/// Between names, so that none covers another.
+const LINE: f64 = 14.0;
 
-/// A name, and the colour of its lines.
-pub type Side = (&'static str, &'static str);
+/// Around words that a line may pass.
+const HALO: &str = "stroke=\"white\" stroke-width=\"3\" paint-order=\"stroke\"";
 
-pub const SIDES: [Side; 2] = [("library", "#0b62a4"), ("reference", "#c2571a")];
-
-/// Values over sizes: at each size one for each side.
-pub struct Panel {
-    pub title: String,
-    pub points: Vec<(f64, Vec<f64>)>,
+struct Line {
+    name: String,
+    colour: &'static str,
+    dashed: bool,
+    /// Size and ratio.
+    points: Vec<(f64, f64)>,
 }
 
-/// A panel for each operation: time over size.
-pub fn panels(series: &[Series]) -> Vec<Panel> {
-    let panel = |s: &Series| Panel {
-        title: format!("{}, {}", s.name, s.unit),
-        points: s.points.iter().map(|p| (p.size.max(1) as f64, vec![p.ours, p.theirs])).collect(),
-    };
-    series.iter().map(panel).collect()
+/// A ratio that is wanted.
+struct Aim {
+    name: &'static str,
+    ratio: f64,
+    colour: &'static str,
 }
 
-/// Powers of ten from `least` to `greatest`.
+struct Panel {
+    title: &'static str,
+    below: &'static str,
+    aims: Vec<Aim>,
+    lines: Vec<Line>,
+}
+
+/// By powers: equal factors are equal distances.
 struct Axis {
-    least: i32,
-    greatest: i32,
+    low: f64,
+    high: f64,
 }
 
 impl Axis {
-    fn over(values: impl Iterator<Item = f64>) -> Axis {
+    /// Over the values, with a little room on both ends.
+    fn over(values: impl Iterator<Item = f64>, room: f64) -> Axis {
         let (mut low, mut high) = (f64::INFINITY, f64::NEG_INFINITY);
         for v in values {
-            (low, high) = (low.min(v.log10()), high.max(v.log10()));
+            (low, high) = (low.min(v), high.max(v));
         }
-        let least = low.floor() as i32;
-        Axis { least, greatest: (high.ceil() as i32).max(least + 1) }
+        Axis { low: low / room, high: high * room }
     }
 
     /// Where a value stands between the ends, from 0 to 1.
     fn place(&self, value: f64) -> f64 {
-        (value.log10() - self.least as f64) / (self.greatest - self.least) as f64
+        (value / self.low).ln() / (self.high / self.low).ln()
+    }
+
+    /// Round numbers on it: steps of 1, 2 and 5, and more where there would be few.
+    fn marks(&self) -> Vec<f64> {
+        let within = |steps: &[f64]| -> Vec<f64> {
+            let powers = self.low.log10().floor() as i32..=self.high.log10().floor() as i32;
+            let all = powers.flat_map(|p| steps.iter().map(move |s| s * 10f64.powi(p)));
+            all.filter(|v| (self.low..=self.high).contains(v)).collect()
+        };
+        let few = within(&[1.0, 2.0, 5.0]);
+        if few.len() > 3 {
+            few
+        } else {
+            within(&[1.0, 1.2, 1.5, 2.0, 2.5, 3.0, 4.0, 5.0, 6.0, 7.0, 8.0])
+        }
     }
 }
 
-/// The picture; `label` names a power of ten of the values.
-pub fn svg(panels: &[Panel], sides: &[Side], label: fn(i32) -> String) -> String {
-    let rows = panels.len().div_ceil(COLUMNS);
-    let (width, height) = (PANEL.0 * COLUMNS as f64, TOP + PANEL.1 * rows as f64);
+const BLUE: &str = "#0b62a4";
+const ORANGE: &str = "#c2571a";
+
+/// So that neighbours differ; the first is the common case.
+const COLOURS: [&str; 8] = [BLUE, "#4aa3df", "#2a8f5b", "#8a6d1f", "#8e44ad", "#d1368f", "#444444", ORANGE];
+
+fn builds(series: &[Series]) -> Panel {
+    let of = series.iter().filter(|s| s.subject.kind == Kind::Build);
+    let lines =
+        of.zip(COLOURS.iter().cycle()).map(|(s, colour)| line(s, s.subject.name.to_string(), Side::Reference, colour));
+    Panel {
+        title: "Build: library's time by the reference's",
+        below: "boxes",
+        aims: vec![Aim { name: "aim 0.2", ratio: 0.2, colour: "#888" }],
+        lines: lines.collect(),
+    }
+}
+
+/// Solid by the plain walk, dashed by the tuned one; the darker, the more is met.
+fn walks(series: &[Series]) -> Panel {
+    let shades = [(Side::Plain, ["#7fb8e0", BLUE, "#06355a"]), (Side::Tuned, ["#eaa77f", ORANGE, "#6e2f0c"])];
+    let mut lines = Vec::new();
+    for (side, colours) in shades {
+        for ((set, meeting), colour) in QUERIES.into_iter().zip(colours) {
+            let name = format!("by {}, {meeting} met", side.name());
+            lines.extend(series.iter().find(|s| s.subject.name == set).map(|s| line(s, name, side, colour)));
+        }
+        let point = series.iter().find(|s| s.subject.name == SYNTHETIC);
+        lines.extend(point.map(|s| synthetic(s, side, colours[1])));
+    }
+    Panel {
+        title: "Walk: library's time by plain and by tuned Rust",
+        below: "boxes",
+        aims: vec![
+            Aim { name: "aim 0.8 by plain", ratio: 0.8, colour: BLUE },
+            Aim { name: "aim 1.3 by tuned", ratio: 1.3, colour: ORANGE },
+        ],
+        lines,
+    }
+}
+
+fn line(series: &Series, name: String, to: Side, colour: &'static str) -> Line {
+    let points = series.rows.iter().filter_map(|r| Some((r.size as f64, r.ratio(to)?))).collect();
+    Line { name, colour, dashed: to == Side::Tuned, points }
+}
+
+/// Its last size alone, which counts records: it stands where its some 20,000 items do.
+fn synthetic(series: &Series, to: Side, colour: &'static str) -> Line {
+    let last = series.rows.last().and_then(|r| r.ratio(to));
+    let points = last.map(|ratio| (20_000.0, ratio)).into_iter().collect();
+    Line { name: format!("by {}, synthetic", to.name()), colour, dashed: to == Side::Tuned, points }
+}
+
+/// Both panels beside each other; one of which nothing was measured is left out.
+pub fn svg(series: &[Series]) -> String {
+    let panels: Vec<Panel> =
+        [builds(series), walks(series)].into_iter().filter(|p| p.lines.iter().any(|l| !l.points.is_empty())).collect();
+    let one = LEFT + SIZE.0 + NAMES;
+    let (width, height) = (one * panels.len() as f64, TOP + SIZE.1 + BOTTOM);
     let mut out = format!(
         "<svg xmlns=\"http://www.w3.org/2000/svg\" width=\"{width}\" height=\"{height}\" viewBox=\"0 0 {width} {height}\" \
          font-family=\"sans-serif\" font-size=\"11\">\n<rect width=\"100%\" height=\"100%\" fill=\"white\"/>\n"
     );
-    for (i, (name, colour)) in sides.iter().enumerate() {
-        let x = 16.0 + 130.0 * i as f64;
-        let _ = writeln!(out, "<path d=\"M{x} 20h24\" stroke=\"{colour}\" stroke-width=\"2\"/>");
-        let _ = writeln!(out, "<text x=\"{}\" y=\"24\">{name}</text>", x + 30.0);
-    }
-    for (i, p) in panels.iter().enumerate() {
-        let (x, y) = (PANEL.0 * (i % COLUMNS) as f64, TOP + PANEL.1 * (i / COLUMNS) as f64);
-        panel(&mut out, p, sides, label, x, y);
+    for (i, panel) in panels.iter().enumerate() {
+        drawn(&mut out, panel, LEFT + one * i as f64);
     }
     out += "</svg>\n";
     out
 }
 
-fn panel(out: &mut String, panel: &Panel, sides: &[Side], label: fn(i32) -> String, x: f64, y: f64) {
-    let (left, top) = (x + INSET.0, y + INSET.1);
-    let (width, height) = (PANEL.0 - INSET.0 - INSET.2, PANEL.1 - INSET.1 - INSET.3);
-    let sizes = Axis::over(panel.points.iter().map(|p| p.0));
-    let values = Axis::over(panel.points.iter().flat_map(|p| p.1.iter().copied()));
-    let _ = writeln!(out, "<text x=\"{left}\" y=\"{}\" font-weight=\"bold\">{}</text>", top - 10.0, panel.title);
-    for power in sizes.least..=sizes.greatest {
-        let at = left + width * sizes.place(10f64.powi(power));
-        let _ = writeln!(out, "<path d=\"M{at:.1} {top}v{height}\" stroke=\"#ddd\"/>");
-        let _ = writeln!(
-            out,
-            "<text x=\"{at:.1}\" y=\"{}\" text-anchor=\"middle\">{}</text>",
-            top + height + 16.0,
-            count(power)
-        );
+fn text(out: &mut String, (x, y): (f64, f64), anchor: &str, style: &str, words: &str) {
+    let _ = writeln!(out, "<text x=\"{x:.1}\" y=\"{y:.1}\" text-anchor=\"{anchor}\" {style}>{words}</text>");
+}
+
+/// Where a panel's sizes and ratios stand.
+struct Frame {
+    left: f64,
+    sizes: Axis,
+    ratios: Axis,
+}
+
+impl Frame {
+    fn new(panel: &Panel, left: f64) -> Frame {
+        let points = || panel.lines.iter().flat_map(|l| &l.points);
+        let wanted = panel.aims.iter().map(|aim| aim.ratio).chain([1.0]);
+        let ratios = Axis::over(points().map(|p| p.1).chain(wanted), 1.15);
+        Frame { left, sizes: Axis::over(points().map(|p| p.0), 1.1), ratios }
     }
-    for power in values.least..=values.greatest {
-        let at = top + height * (1.0 - values.place(10f64.powi(power)));
-        let _ = writeln!(out, "<path d=\"M{left} {at:.1}h{width}\" stroke=\"#ddd\"/>");
-        let _ = writeln!(
-            out,
-            "<text x=\"{}\" y=\"{:.1}\" text-anchor=\"end\">{}</text>",
-            left - 6.0,
-            at + 4.0,
-            label(power)
-        );
+
+    fn x(&self, size: f64) -> f64 {
+        self.left + SIZE.0 * self.sizes.place(size)
     }
-    for (side, (_, colour)) in sides.iter().enumerate() {
-        let place = |(size, of): &(f64, Vec<f64>)| {
-            let (a, b) = (sizes.place(*size), values.place(of[side]));
-            format!("{:.1},{:.1}", left + width * a, top + height * (1.0 - b))
-        };
-        let line: Vec<String> = panel.points.iter().map(place).collect();
-        let _ = writeln!(
-            out,
-            "<polyline points=\"{}\" fill=\"none\" stroke=\"{colour}\" stroke-width=\"2\"/>",
-            line.join(" ")
-        );
-        for at in &line {
-            let (cx, cy) = at.split_once(',').expect("two coordinates");
-            let _ = writeln!(out, "<circle cx=\"{cx}\" cy=\"{cy}\" r=\"2.5\" fill=\"{colour}\"/>");
-        }
+
+    fn y(&self, ratio: f64) -> f64 {
+        TOP + SIZE.1 * (1.0 - self.ratios.place(ratio))
+    }
+
+    /// A line across at a ratio.
+    fn across(&self, out: &mut String, ratio: f64, style: &str) {
+        let _ = writeln!(out, "<path d=\"M{} {:.1}h{}\" {style}/>", self.left, self.y(ratio), SIZE.0);
     }
 }
 
-pub fn count(power: i32) -> String {
-    scaled(power, &["", "k", "M", "G"])
-}
-
-/// Of nanoseconds.
-pub fn time(power: i32) -> String {
-    if power < 0 {
-        return format!("1e{power} ns");
+fn drawn(out: &mut String, panel: &Panel, left: f64) {
+    let frame = Frame::new(panel, left);
+    text(out, (left, 22.0), "start", "font-weight=\"bold\" font-size=\"13\"", panel.title);
+    text(out, (left, 40.0), "start", "fill=\"#555\"", "below 1 the library is faster; both scales are logarithmic");
+    text(out, (left + SIZE.0 / 2.0, TOP + SIZE.1 + 34.0), "middle", "fill=\"#555\"", panel.below);
+    grid(out, &frame);
+    panel.lines.iter().for_each(|l| line_drawn(out, &frame, l));
+    for Aim { name, ratio, colour } in &panel.aims {
+        frame.across(out, *ratio, &format!("stroke=\"{colour}\" stroke-dasharray=\"2 3\""));
+        let at = (left + 4.0, frame.y(*ratio) - 4.0);
+        text(out, at, "start", &format!("fill=\"{colour}\" font-style=\"italic\" {HALO}"), name);
     }
-    scaled(power, &[" ns", " µs", " ms", " s"])
+    named(out, &frame, &panel.lines);
 }
 
-fn scaled(power: i32, units: &[&str]) -> String {
-    let unit = (power / 3).clamp(0, units.len() as i32 - 1);
-    format!("{}{}", 10u64.pow((power - 3 * unit).max(0) as u32), units[unit as usize])
+fn grid(out: &mut String, frame: &Frame) {
+    for size in frame.sizes.marks() {
+        let x = frame.x(size);
+        let _ = writeln!(out, "<path d=\"M{x:.1} {TOP}v{}\" stroke=\"#eee\"/>", SIZE.1);
+        text(out, (x, TOP + SIZE.1 + 16.0), "middle", "", &thousands(size));
+    }
+    for ratio in frame.ratios.marks() {
+        frame.across(out, ratio, "stroke=\"#eee\"");
+        text(out, (frame.left - 6.0, frame.y(ratio) + 4.0), "end", "", &format!("{ratio:.2}"));
+    }
+    frame.across(out, 1.0, "stroke=\"black\" stroke-width=\"1.5\"");
+}
+
+fn line_drawn(out: &mut String, frame: &Frame, Line { colour, dashed, points, .. }: &Line) {
+    let at: Vec<(f64, f64)> = points.iter().map(|p| (frame.x(p.0), frame.y(p.1))).collect();
+    let path: Vec<String> = at.iter().map(|(x, y)| format!("{x:.1},{y:.1}")).collect();
+    let dashes = if *dashed { " stroke-dasharray=\"6 3\"" } else { "" };
+    let style = format!("fill=\"none\" stroke=\"{colour}\" stroke-width=\"2\"{dashes}");
+    let _ = writeln!(out, "<polyline points=\"{}\" {style}/>", path.join(" "));
+    for (x, y) in at {
+        let _ = writeln!(out, "<circle cx=\"{x:.1}\" cy=\"{y:.1}\" r=\"3\" fill=\"{colour}\"/>");
+    }
+}
+
+/// The lines' names on the right, each as near to its line's end as the others let it, and a hair from one to the other.
+fn named(out: &mut String, frame: &Frame, lines: &[Line]) {
+    let end = |l: &Line| l.points.last().map(|p| (frame.x(p.0), frame.y(p.1)));
+    let mut ends: Vec<_> = lines.iter().filter_map(|l| Some((l, end(l)?))).collect();
+    ends.sort_by(|a, b| a.1 .1.total_cmp(&b.1 .1));
+    let wanted: Vec<f64> = ends.iter().map(|(_, (_, y))| *y).collect();
+    let edge = frame.left + SIZE.0 + 14.0;
+    for ((Line { name, colour, .. }, (x, y)), at) in ends.iter().zip(apart(&wanted, TOP + 4.0, TOP + SIZE.1 - 2.0)) {
+        let hair = format!("stroke=\"{colour}\" stroke-width=\"0.5\"");
+        let _ = writeln!(out, "<path d=\"M{:.1} {y:.1}L{edge} {at:.1}\" {hair}/>", x + 4.0);
+        text(out, (edge + 3.0, at + 4.0), "start", &format!("fill=\"{colour}\""), name);
+    }
+}
+
+/// Heights in rising order, moved so that they are a line apart and within both ends where there is room for that.
+fn apart(wanted: &[f64], top: f64, bottom: f64) -> Vec<f64> {
+    let mut heights = wanted.to_vec();
+    for i in 0..heights.len() {
+        let least = if i == 0 { top } else { heights[i - 1] + LINE };
+        heights[i] = heights[i].max(least);
+    }
+    for i in (0..heights.len()).rev() {
+        let most = if i + 1 == heights.len() { bottom } else { heights[i + 1] - LINE };
+        heights[i] = heights[i].min(most);
+    }
+    heights
+}
+
+fn thousands(size: f64) -> String {
+    if size < 1_000.0 {
+        return format!("{size}");
+    }
+    format!("{}k", size / 1_000.0)
 }
 
 #[cfg(test)]
@@ -139,15 +258,18 @@ mod tests {
     use super::*;
 
     #[test]
-    fn ends_of_an_axis_are_powers_of_ten() {
-        let axis = Axis::over([200.0, 30.0].into_iter());
-        assert_eq!((axis.least, axis.greatest), (1, 3));
-        assert_eq!((axis.place(10.0), axis.place(100.0), axis.place(1000.0)), (0.0, 0.5, 1.0));
+    fn an_axis_has_round_marks() {
+        let axis = Axis { low: 800.0, high: 40_000.0 };
+        assert_eq!(axis.marks(), [1_000.0, 2_000.0, 5_000.0, 10_000.0, 20_000.0]);
+        assert!(Axis { low: 0.6, high: 1.6 }.marks().len() > 3);
+        let decade = Axis { low: 1.0, high: 100.0 };
+        assert_eq!((decade.place(1.0), decade.place(10.0), decade.place(100.0)), (0.0, 0.5, 1.0));
     }
 
     #[test]
-    fn powers_have_units() {
-        assert_eq!((time(0), time(4), time(9)), ("1 ns".into(), "10 µs".into(), "1 s".into()));
-        assert_eq!((count(2), count(5)), ("100".into(), "100k".into()));
+    fn names_are_a_line_apart() {
+        let heights = apart(&[10.0, 11.0, 12.0, 90.0, 99.0], 10.0, 100.0);
+        assert!(heights.windows(2).all(|pair| pair[1] - pair[0] >= LINE - 1e-9), "{heights:?}");
+        assert!(heights[0] >= 10.0 && heights[4] <= 100.0);
     }
 }

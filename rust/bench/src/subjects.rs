@@ -1,173 +1,178 @@
-//! What is timed: both sides of an operation over the same inputs.
+//! What is timed: the sides of an operation over the same inputs.
 
+use crate::lists::{self, inputs, spread, Tame};
+use crate::walks;
 use bounds::bvh::{build_bvh, records_len, work_len, BvhItem};
 use bounds::{float, math, Mat4, Vec3};
-use compare::deep;
-use compare::random::Random;
-use compare::records::Records;
-use compare::walk::{Walk, Walked};
-use compare::walks;
 use oracle::{float as source, math as reference, tree, Aabb};
 use std::hint::black_box;
+use std::sync::atomic::{AtomicUsize, Ordering};
+use std::sync::Arc;
 
 /// Goes once over all inputs.
 pub type Pass = Box<dyn FnMut() + Send>;
 
-pub struct Subject {
-    pub name: &'static str,
-    /// What a size counts.
-    pub unit: &'static str,
-    pub sizes: &'static [usize],
-    /// Both sides over inputs of this size and seed: the proved library, then the reference.
-    pub passes: fn(usize, u64) -> [Pass; 2],
+#[derive(Clone, Copy, Debug, PartialEq, Eq)]
+pub enum Side {
+    /// The proved library.
+    Library,
+    Reference,
+    /// The plain Rust walk of rust/compare.
+    Plain,
+    /// The walk tuned by hand.
+    Tuned,
+    /// Every box compared.
+    Force,
 }
 
-const STEPS: &[usize] = &[1_000, 10_000, 100_000, 1_000_000];
-
-/// One call after another: `black_box` keeps the compiler from taking several at once, or none.
-fn each<T: Copy + Send + 'static, R>(inputs: &[T], step: impl Fn(T) -> R + Send + 'static) -> Pass {
-    let inputs = inputs.to_vec();
-    Box::new(move || {
-        for &input in &inputs {
-            black_box(step(black_box(input)));
+impl Side {
+    pub fn name(self) -> &'static str {
+        match self {
+            Side::Library => "library",
+            Side::Reference => "reference",
+            Side::Plain => "plain",
+            Side::Tuned => "tuned",
+            Side::Force => "brute force",
         }
-    })
-}
-
-/// Floats of ordinary size.
-pub struct Tame(pub Random);
-
-impl Tame {
-    fn float(&mut self) -> f32 {
-        (self.0.u32() as f32 / 4294967296.0 - 0.5) * 80000.0
-    }
-    pub fn point(&mut self) -> [f32; 3] {
-        std::array::from_fn(|_| self.float())
-    }
-    fn matrix(&mut self) -> [f32; 16] {
-        std::array::from_fn(|_| self.float())
     }
 }
 
-fn inputs<T>(n: usize, seed: u64, one: impl Fn(&mut Tame) -> T) -> Vec<T> {
-    let mut tame = Tame(Random::new(seed));
-    (0..n).map(|_| one(&mut tame)).collect()
+#[derive(Clone, Copy, Debug, PartialEq, Eq)]
+pub enum Kind {
+    Build,
+    Walk,
+    Step,
 }
 
-fn vec3(p: [f32; 3]) -> Vec3 {
+#[derive(Clone)]
+pub struct Subject {
+    pub kind: Kind,
+    pub name: &'static str,
+    pub sizes: &'static [usize],
+    /// The sizes whose instructions are counted.
+    pub counted: &'static [usize],
+    /// The work of a size, by a seed.
+    pub work: fn(usize, u64) -> Work,
+}
+
+pub struct Work {
+    pub passes: Vec<(Side, Pass)>,
+    /// What a pass does: so many boxes, records or calls.
+    pub units: usize,
+    pub queries: Option<Queries>,
+}
+
+/// Means of one query.
+#[derive(Clone, Copy)]
+pub struct Queries {
+    pub trees: usize,
+    pub met: f64,
+    pub handed: f64,
+    pub reads: f64,
+}
+
+/// Few enough that the processor learns their branches, and too many.
+const STEPS: &[usize] = &[1_000, 100_000];
+
+const LISTS: &[usize] = &[1_000, 10_000, 32_767];
+
+/// At threshold 1 more boxes would make too many nodes.
+const SINGLES: &[usize] = &[1_000, 4_000, 16_384];
+
+pub fn vec3(p: [f32; 3]) -> Vec3 {
     Vec3::new(p[0], p[1], p[2])
 }
 
 /// Both builds over the same boxes: ours into buffers that are lent again and again, theirs without turning its records
 /// into bytes.
-fn builds(boxes: Vec<Aabb>, threshold: u32) -> [Pass; 2] {
+fn builds(boxes: Vec<Aabb>, threshold: u32) -> Work {
     let n = boxes.len();
     let items: Vec<Option<Aabb>> = boxes.iter().copied().map(Some).collect();
     let mut theirs = tree::builder(&items, threshold as usize);
     let items: Vec<BvhItem> = boxes.into_iter().map(|b| BvhItem::new(vec3(b.min), vec3(b.max))).collect();
     let (mut nodes, mut trees) = (vec![0; records_len(n)], vec![0; records_len(n)]);
     let (mut order, mut work) = (vec![0; n], vec![0; work_len(n)]);
-    let mut ours =
-        move || build_bvh(black_box(&items), threshold, &mut nodes, &mut trees, &mut order, &mut work).expect("fits");
-    assert_eq!(ours().nodes_count as usize, theirs(), "the same tree");
-    let ours = move || {
-        black_box(ours());
+    let mut ours = move || {
+        let built = build_bvh(black_box(&items), threshold, &mut nodes, &mut trees, &mut order, &mut work);
+        built.expect("a list within the limits").nodes_count as usize
     };
-    let theirs = move || {
-        black_box(theirs());
-    };
-    [Box::new(ours), Box::new(theirs)]
+    let agreed = Arc::new(AtomicUsize::new(0));
+    let also = agreed.clone();
+    let passes: [(Side, Pass); 2] = [
+        (Side::Library, Box::new(move || agree(&agreed, ours()))),
+        (Side::Reference, Box::new(move || agree(&also, theirs()))),
+    ];
+    Work { passes: passes.into(), units: n, queries: None }
 }
 
-/// Boxes of up to 10 on each axis, spread over 400.
-pub fn spread(n: usize, seed: u64) -> Vec<Aabb> {
-    inputs(n, seed, |t| {
-        let min = t.point().map(|x| x / 200.0);
-        Aabb { min, max: min.map(|low| low + t.float().abs() / 4000.0) }
-    })
+/// All builds of a list have as many nodes.
+fn agree(before: &AtomicUsize, nodes: usize) {
+    let before = before.swap(black_box(nodes), Ordering::Relaxed);
+    assert!(before == 0 || before == nodes, "the same tree: {before} nodes, {nodes}");
 }
 
-/// Boxes of which the split rule takes off a few at a time.
-fn hostile(n: usize) -> Vec<Aabb> {
-    let at = |&(low, high): &(f32, f32)| Aabb { min: [low, 0.0, 0.0], max: [high, 0.0, 0.0] };
-    deep::corners(n, false).iter().map(at).collect()
-}
-
-/// Boxes around one centre, each within the next: every node is sorted, and the list is falling.
-fn nested(n: usize) -> Vec<Aabb> {
-    (1..=n).map(|k| k as f32).map(|half| Aabb { min: [-half; 3], max: [half; 3] }).collect()
-}
-
-/// Queries over one tree of 8,000 leaves, until they have read about so many records: the proved walk, and the plain Rust
-/// one.
-fn queries(reads: usize, seed: u64) -> [Pass; 2] {
-    let mut case = Records::new(seed).whole(8_000);
-    let mut tame = Tame(Random::new(seed));
-    let mut out = vec![0; case.out];
-    let (mut boxes, mut sum) = (Vec::new(), 0);
-    while sum < reads {
-        let min = tame.point().map(|x| x * 0.75);
-        case.query = Aabb { min, max: min.map(|low| low + tame.float().abs() / 5.0) };
-        sum += case.walk().run(&mut out).reads;
-        boxes.push(case.query);
-    }
-    let pass = |walk: fn(&Walk, &mut [u16]) -> Walked| -> Pass {
-        let (case, boxes, mut out) = (case.clone(), boxes.clone(), out.clone());
+/// One call after another: `black_box` keeps the compiler from taking several at once, or none.
+fn calls<T: Copy + Send + 'static, A, B>(
+    inputs: Vec<T>,
+    ours: impl Fn(T) -> A + Send + 'static,
+    theirs: impl Fn(T) -> B + Send + 'static,
+) -> Work {
+    fn each<T: Copy + Send + 'static, R>(inputs: Vec<T>, step: impl Fn(T) -> R + Send + 'static) -> Pass {
         Box::new(move || {
-            for &query in &boxes {
-                black_box(walk(&Walk { query, ..case.walk() }, black_box(&mut out)));
+            for &input in &inputs {
+                black_box(step(black_box(input)));
             }
         })
-    };
-    [pass(walks::proved), pass(|walk, out| walk.run(out))]
+    }
+    let units = inputs.len();
+    let passes = [(Side::Library, each(inputs.clone(), ours)), (Side::Reference, each(inputs, theirs))];
+    Work { passes: passes.into(), units, queries: None }
 }
 
 pub fn all() -> Vec<Subject> {
-    let step = |name, passes| Subject { name, unit: "calls", sizes: STEPS, passes };
-    let build = |name, sizes, passes| Subject { name, unit: "boxes", sizes, passes };
+    builds_of_lists().into_iter().chain(walks::all()).chain(steps()).collect()
+}
+
+fn builds_of_lists() -> Vec<Subject> {
+    let build = |name, sizes, counted, work| Subject { kind: Kind::Build, name, sizes, counted, work };
     vec![
-        build("build, threshold 4", &[1_000, 10_000, 32_767], |n, seed| builds(spread(n, seed), 4)),
-        build("build, threshold 1", &[1_000, 4_000, 16_384], |n, seed| builds(spread(n, seed), 1)),
-        build("build, equal boxes, threshold 4", &[1_000, 10_000, 32_767], |n, _| {
-            builds(vec![Aabb { min: [1.0; 3], max: [2.0; 3] }; n], 4)
+        build("random, threshold 4", LISTS, &[10_000], |n, seed| builds(spread(n, seed), 4)),
+        build("random, threshold 1", SINGLES, &[4_000], |n, seed| builds(spread(n, seed), 1)),
+        build("equal, threshold 4", LISTS, &[10_000], |n, _| builds(lists::equal(n), 4)),
+        build("nested, threshold 4", LISTS, &[10_000], |n, _| builds(lists::nested(n), 4)),
+        build("one NaN, threshold 4", LISTS, &[10_000], |n, seed| builds(lists::one_nan(n, seed), 4)),
+        build("subnormal, threshold 4", LISTS, &[10_000], |n, seed| builds(lists::subnormal(n, seed), 4)),
+        build("hostile, threshold 1", SINGLES, &[1_000], |n, _| builds(lists::hostile(n), 1)),
+        build("deep subnormal, threshold 4", &[4_000, 16_384, 32_767], &[4_000], |n, _| {
+            builds(lists::deep_subnormal(n), 4)
         }),
-        build("build, nested boxes, threshold 4", &[1_000, 10_000, 32_767], |n, _| builds(nested(n), 4)),
-        build("build, hostile list, threshold 1", &[1_000, 4_000, 16_384], |n, _| builds(hostile(n), 1)),
-        Subject { name: "walk", unit: "records read", sizes: &[10_000, 100_000, 1_000_000], passes: queries },
-        step("to_short", |n, seed| {
-            let x = inputs(n, seed, Tame::float);
-            [each(&x, float::to_short), each(&x, source::to_short)]
-        }),
-        step("vertex_value", |n, seed| {
-            let x = inputs(n, seed, Tame::float);
-            [each(&x, float::vertex_value), each(&x, source::vertex_value)]
-        }),
-        step("sqrt", |n, seed| {
-            let x = inputs(n, seed, |t| t.float().abs());
-            [each(&x, float::sqrt), each(&x, f32::sqrt)]
-        }),
+    ]
+}
+
+fn steps() -> Vec<Subject> {
+    let step = |name, work| Subject { kind: Kind::Step, name, sizes: STEPS, counted: &STEPS[..1], work };
+    vec![
+        step("to_short", |n, seed| calls(inputs(n, seed, Tame::float), float::to_short, source::to_short)),
+        step("vertex_value", |n, seed| calls(inputs(n, seed, Tame::float), float::vertex_value, source::vertex_value)),
+        step("sqrt", |n, seed| calls(inputs(n, seed, |t| t.float().abs()), float::sqrt, f32::sqrt)),
         step("cmp_f32", |n, seed| {
             let x = inputs(n, seed, |t| (t.float(), t.float()));
-            [each(&x, |(a, b)| float::cmp_f32(a, b)), each(&x, |(a, b)| source::cmp_f32(a, b))]
+            calls(x, |(a, b)| float::cmp_f32(a, b), |(a, b)| source::cmp_f32(a, b))
         }),
         step("vmin", |n, seed| {
             let x = inputs(n, seed, |t| (t.point(), t.point()));
-            [each(&x, |(a, b)| math::vmin(vec3(a), vec3(b))), each(&x, |(a, b)| reference::vmin(a, b))]
+            calls(x, |(a, b)| math::vmin(vec3(a), vec3(b)), |(a, b)| reference::vmin(a, b))
         }),
-        step("norm", |n, seed| {
-            let x = inputs(n, seed, Tame::point);
-            [each(&x, |v| math::norm(vec3(v))), each(&x, reference::norm)]
-        }),
+        step("abs", |n, seed| calls(inputs(n, seed, Tame::point), |v| vec3(v).abs(), reference::abs)),
+        step("norm", |n, seed| calls(inputs(n, seed, Tame::point), |v| math::norm(vec3(v)), reference::norm)),
         step("transform_point", |n, seed| {
             let x = inputs(n, seed, |t| (t.matrix(), t.point()));
-            [each(&x, |(m, p)| Mat4(m).transform_point(vec3(p))), each(&x, |(m, p)| reference::transform_point(&m, p))]
+            calls(x, |(m, p)| Mat4(m).transform_point(vec3(p)), |(m, p)| reference::transform_point(&m, p))
         }),
         step("transform_box", |n, seed| {
             let x = inputs(n, seed, |t| (t.point(), t.point(), t.matrix()));
-            [
-                each(&x, |(min, max, m)| math::transform_box(vec3(min), vec3(max), &Mat4(m))),
-                each(&x, |(min, max, m)| reference::transform_box(Aabb { min, max }, &m)),
-            ]
+            let theirs = |(min, max, m)| reference::transform_box(Aabb { min, max }, &m);
+            calls(x, |(min, max, m)| math::transform_box(vec3(min), vec3(max), &Mat4(m)), theirs)
         }),
     ]
 }

@@ -7,6 +7,8 @@
 //! - [`walks`]: walks over what [`records`] makes, compared with [`oracle::walk`], one in plain Rust.
 //! - [`pairs`]: builds and walks over their records, held to what [`promises`] finds by brute force, over the lists and
 //!   queries of [`queries`].
+//! - [`polygons`], [`meshes`], [`vertices`]: polygon records and boxes, materials and links, stored vertices; [`plain`]
+//!   Rust stands where the library will.
 //! - [`exhaustive`]: operations of one word over all 2^32.
 //! - [`vectors`]: a sample of the reference's answers as a text file.
 //! - [`lent`]: buffers for operations that write into what they are lent.
@@ -19,14 +21,18 @@ pub mod header;
 pub mod inputs;
 pub mod lent;
 pub mod lists;
+pub mod meshes;
 pub mod operation;
 pub mod pairs;
+pub mod plain;
+pub mod polygons;
 pub mod promises;
 pub mod queries;
 pub mod random;
 pub mod records;
 pub mod report;
 pub mod vectors;
+pub mod vertices;
 pub mod walks;
 
 pub use oracle::walk;

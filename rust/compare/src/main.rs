@@ -1,20 +1,24 @@
 //! `compare [OP..] [--seed S] [--cases N] [--stride N] [--threads N] [--write-vectors FILE]`
 //!
 //! OP is `float`, `math`, `tree`, `walk`, `pair`, `exhaustive`, `all` (these six, and what is meant without an OP) or an
-//! operation's name; those of `tree` are `build` and `header`.
+//! operation's name; those of `tree` are `build` and `header`. Those of `geometry` hold
+//! plain Rust to the reference: the library has none of them yet.
 //! Exit status: 0 all the same, 1 a mismatch, 2 it could not be run.
 
 use compare::exhaustive::{self, Extent};
-use compare::{build, check, header, operation, pairs, report, vectors, walks};
+use compare::{build, check, header, meshes, operation, pairs, plain, polygons, report, vectors, vertices, walks};
 use std::process::ExitCode;
 
 const USAGE: &str = "usage: compare [OP..] [--seed S] [--cases N] [--stride N] [--threads N] [--write-vectors FILE]
-  OP                    float, math, tree, walk, pair, exhaustive, all, or an operation's name
+  OP                    float, math, tree, walk, pair, exhaustive, all, geometry, or an operation's name
   --seed S              of the random inputs (default 1)
   --cases N             of each operation (default 1000000)
   --stride N            exhaustive: only every N-th word (default 1: all of them), from one that the seed gives
   --threads N           exhaustive: default 1
   --write-vectors FILE  writes a sample of the reference's answers, and compares only the OPs that are named";
+
+/// The group, and its operations.
+const GEOMETRY: [&str; 7] = ["geometry", "polygon", "materials", "links", "quantum", "stored", "read_back"];
 
 struct Arguments {
     ops: Vec<String>,
@@ -53,6 +57,7 @@ fn run(a: &Arguments) -> Result<Vec<report::Line>, String> {
     let operations = operation::all();
     let known = |op: &str| {
         ["all", "exhaustive", "tree", "build", "header", "walk", "pair"].contains(&op)
+            || GEOMETRY.contains(&op)
             || operations.iter().any(|o| o.group == op || o.name == op)
     };
     if let Some(op) = a.ops.iter().find(|op| !known(op)) {
@@ -85,7 +90,27 @@ fn run(a: &Arguments) -> Result<Vec<report::Line>, String> {
         let extent = Extent { first, stride: a.stride, threads: a.threads };
         lines.extend(exhaustive::NAMES.iter().filter_map(|name| exhaustive::run(name, extent)));
     }
+    lines.extend(geometry(a));
     Ok(lines)
+}
+
+/// What is asked of it by name: it does not belong to all.
+fn geometry(a: &Arguments) -> Vec<report::Line> {
+    let mut lines = Vec::new();
+    let named = |name: &str| a.ops.iter().any(|op| op == GEOMETRY[0] || op == name);
+    if named("polygon") {
+        lines.push(polygons::run(a.seed, a.cases, &polygons::PLAIN));
+    }
+    if named("materials") {
+        lines.push(meshes::materials(a.seed, a.cases, plain::materials::build));
+    }
+    if named("links") {
+        lines.push(meshes::links(a.seed, a.cases, plain::links::update));
+    }
+    for op in vertices::operations().iter().filter(|op| named(op.name)) {
+        lines.push(check::run(op, a.seed, a.cases));
+    }
+    lines
 }
 
 fn main() -> ExitCode {

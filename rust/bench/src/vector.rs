@@ -1,0 +1,226 @@
+//! Whether the library's two hot loops compare several numbers at once. The source is written so that the compiler does
+//! it, but nothing else would tell when it no longer does, and the loops would be slow again.
+
+use std::process::{Command, ExitCode};
+
+/// The word that asks this program for it.
+pub const WORD: &str = "vector-code";
+
+/// A function's name and its instructions.
+struct Function<'a> {
+    name: &'a str,
+    code: Vec<Instruction<'a>>,
+}
+
+struct Instruction<'a> {
+    name: &'a str,
+    /// The last operand is written.
+    operands: Vec<&'a str>,
+}
+
+/// Of `objdump -d --no-show-raw-insn`.
+fn functions(listing: &str) -> Vec<Function<'_>> {
+    let mut functions: Vec<Function> = Vec::new();
+    for line in listing.lines() {
+        if let Some((_, name)) = line.strip_suffix(">:").and_then(|head| head.split_once(" <")) {
+            functions.push(Function { name, code: Vec::new() });
+        } else if let (Some(function), Some((_, code))) = (functions.last_mut(), line.split_once(":\t")) {
+            function.code.extend(instruction(code));
+        }
+    }
+    functions
+}
+
+fn instruction(code: &str) -> Option<Instruction<'_>> {
+    let code = code.split('#').next()?.trim();
+    let (name, rest) = code.split_once(' ').unwrap_or((code, ""));
+    let mut depth = 0;
+    let outside = |c: char| {
+        depth += (c == '(') as i32 - (c == ')') as i32;
+        c == ',' && depth == 0
+    };
+    Some(Instruction { name, operands: rest.split(outside).map(str::trim).collect() }).filter(|i| !i.name.is_empty())
+}
+
+impl Instruction<'_> {
+    fn writes(&self, register: &str) -> bool {
+        self.operands.last() == Some(&register)
+    }
+
+    /// Four floats from memory into a register.
+    fn loads(&self) -> bool {
+        ["movups", "movaps", "movupd", "movdqu", "movdqa"].contains(&self.name)
+            && self.operands.first().is_some_and(|from| from.ends_with(')') && !from.contains("%rip"))
+    }
+}
+
+/// What the walk and the counts have, or what they lack.
+fn judged(listing: &str) -> Result<String, String> {
+    let functions = functions(listing);
+    let (walk, counts) = (walk(&functions), counts(&functions));
+    let lacking: Vec<String> = [walk.clone().err(), counts.clone().err()].into_iter().flatten().collect();
+    if lacking.is_empty() {
+        return Ok(format!("{}\n{}", walk?, counts?));
+    }
+    Err(lacking.join("\n"))
+}
+
+fn named<'a>(functions: &'a [Function], parts: &[&str]) -> Vec<&'a Function<'a>> {
+    functions.iter().filter(|f| parts.iter().any(|part| f.name.contains(part))).collect()
+}
+
+fn names(functions: &[&Function]) -> String {
+    functions.iter().map(|f| f.name).collect::<Vec<_>>().join(", ")
+}
+
+/// One compare for the eight numbers of a record, where trees are passed over and where nodes are read.
+fn walk(functions: &[Function]) -> Result<String, String> {
+    let of = named(functions, &["walk"]);
+    let found = of.iter().flat_map(|f| &f.code).filter(|i| i.name == "pcmpgtw").count();
+    match found {
+        _ if of.is_empty() => Err("walk: no function of that name in the archive".to_string()),
+        2.. => Ok(format!("walk: {found} pcmpgtw in {}", names(&of))),
+        _ => Err(format!(
+            "walk: {found} pcmpgtw in {}, two are wanted, of the tree loop and of the node loop: a record's numbers are \
+             compared one by one",
+            names(&of)
+        )),
+    }
+}
+
+/// Where counts stand if they are not inlined, and where they are.
+const COUNTS: [&str; 5] = ["count_below", "divide", "put_inner", "grow", "build_bvh"];
+
+/// Four lanes of a centre loaded, compared and counted, with nothing computed on the way.
+fn counts(functions: &[Function]) -> Result<String, String> {
+    let of = named(functions, &COUNTS);
+    if of.is_empty() {
+        return Err(format!("counts: no function named {} in the archive", COUNTS.join(", ")));
+    }
+    let mut nearly = None;
+    for function in &of {
+        for at in (0..function.code.len()).filter(|&at| function.code[at].name == "cmpltps") {
+            match counted(&function.code, at) {
+                Ok(()) => return Ok(format!("counts: movups, cmpltps, psubd in {}", function.name)),
+                Err(why) => nearly = nearly.or(why.map(|why| format!("; nearest in {}: {why}", function.name))),
+            }
+        }
+    }
+    Err(format!(
+        "counts: no loaded centre that is compared (cmpltps) and counted (psubd) in {}: the four lanes are not taken at \
+         once{}",
+        names(&of),
+        nearly.unwrap_or_default()
+    ))
+}
+
+/// How far the load and the count may stand from the compare: an unrolled loop mixes several.
+const NEAR: usize = 16;
+
+/// Whether this compare is one of the counts; else what is wrong with it, if it counts.
+fn counted(code: &[Instruction], at: usize) -> Result<(), Option<String>> {
+    let Some(&register) = code[at].operands.last() else { return Err(None) };
+    let after = &code[at + 1..code.len().min(at + 1 + NEAR)];
+    if !after.iter().any(|i| i.name == "psubd" && i.operands.first() == Some(&register)) {
+        return Err(None);
+    }
+    let before = code[at.saturating_sub(NEAR)..at].iter().rev().find(|i| i.writes(register));
+    match before {
+        Some(i) if i.loads() => Ok(()),
+        Some(i) => Err(Some(format!("what cmpltps compares comes from {} {}", i.name, i.operands.join(",")))),
+        None => Err(Some("what cmpltps compares is not loaded near it".to_string())),
+    }
+}
+
+/// Prints what was found in the archive that is named.
+pub fn looked(words: &[String]) -> ExitCode {
+    let [archive] = words else {
+        eprintln!("bench: {WORD} takes an archive");
+        return ExitCode::from(2);
+    };
+    match disassembled(archive).map(|listing| judged(&listing)) {
+        Ok(Ok(found)) => {
+            println!("{found}");
+            ExitCode::SUCCESS
+        }
+        Ok(Err(lacking)) => {
+            println!("{archive} lacks vector code:\n{lacking}");
+            ExitCode::FAILURE
+        }
+        Err(why) => {
+            eprintln!("bench: {why}");
+            ExitCode::from(2)
+        }
+    }
+}
+
+fn disassembled(archive: &str) -> Result<String, String> {
+    let out = Command::new("objdump").args(["-d", "--no-show-raw-insn", "--", archive]).output();
+    let out = out.map_err(|e| format!("objdump: {e}"))?;
+    if out.status.success() {
+        Ok(String::from_utf8_lossy(&out.stdout).into_owned())
+    } else {
+        Err(format!("objdump: {}", String::from_utf8_lossy(&out.stderr).trim()))
+    }
+}
+
+#[cfg(test)]
+mod tests {
+    use super::*;
+
+    const WALK: &str = "\
+0000000000000000 <bounds_walk>:
+  10:\tpxor   %xmm1,%xmm2
+  14:\tpcmpgtw %xmm0,%xmm2
+  18:\tpcmpgtw %xmm0,%xmm3
+";
+
+    /// The loop unrolled by two.
+    const COUNTS: &str = "\
+0000000000000000 <bounds_build_bvh>:
+     760:\tmov    (%rbx,%rcx,4),%edx
+     763:\tmovups (%r14,%rdx,4),%xmm3
+     768:\tcmpltps %xmm1,%xmm3
+     76c:\tmov    0x4(%rbx,%rcx,4),%edx
+     770:\tmovups (%r14,%rdx,4),%xmm4
+     775:\tcmpltps %xmm1,%xmm4
+     779:\tpsubd  %xmm3,%xmm2
+     77d:\tpsubd  %xmm4,%xmm2
+";
+
+    /// Two lanes, computed from the box each time.
+    const COMPUTED: &str = "\
+0000000000000000 <bounds_build_bvh>:
+     78a:\tmovsd  0x8(%r14,%rsi,1),%xmm3
+     791:\tmovsd  0x14(%r14,%rsi,1),%xmm4
+     798:\taddps  %xmm3,%xmm4
+     79b:\tmulps  %xmm5,%xmm4
+     79e:\tcmpltps %xmm1,%xmm4
+     7a2:\tpsubd  %xmm4,%xmm2
+";
+
+    #[test]
+    fn both_loops_are_found() {
+        let found = judged(&format!("{WALK}\n{COUNTS}")).expect("vector code");
+        assert_eq!(found, "walk: 2 pcmpgtw in bounds_walk\ncounts: movups, cmpltps, psubd in bounds_build_bvh");
+    }
+
+    #[test]
+    fn what_is_lacking_is_named() {
+        let walk = "0000000000000000 <bounds_walk>:\n  10:\tcmp    %ax,%bx\n";
+        let why = judged(&format!("{walk}\n{COMPUTED}")).expect_err("none");
+        assert!(why.contains("walk: 0 pcmpgtw in bounds_walk"), "{why}");
+        assert!(why.contains("counts: no loaded centre") && why.contains("comes from mulps %xmm5,%xmm4"), "{why}");
+        let why = judged(WALK).expect_err("no build");
+        assert!(why.starts_with("counts: no function named"), "{why}");
+        let once = WALK.replace("  18:\tpcmpgtw %xmm0,%xmm3\n", "");
+        assert!(judged(&format!("{once}{COUNTS}")).expect_err("one").contains("walk: 1 pcmpgtw"));
+    }
+
+    #[test]
+    fn a_compare_that_counts_nothing_is_no_count() {
+        let fold = "0000000000000000 <bounds_build_bvh>:\n  10:\tmovups (%rax),%xmm3\n  14:\tcmpltps %xmm1,%xmm3\n";
+        let why = judged(&format!("{WALK}\n{fold}")).expect_err("no counts");
+        assert!(why.contains("counts: no loaded centre") && !why.contains("nearest"), "{why}");
+    }
+}
