@@ -7,6 +7,7 @@ ghost use Prim.Native.Nat.{_+_, _≤_};
 ghost use lib.ListN.{length, take, drop};
 ghost use lib.Seq.{sets};
 ghost use Rattle.base.specs.LittleEndian.{leAt};
+ghost use Rattle.float32.specs.Casts.{low16bits, signed16};
 ghost use Rattle.polygon.specs.Halves.{fourBytes, halvesBytes, halvesAt};
 
 // Each is named by the byte where it begins.
@@ -19,6 +20,20 @@ pub struct Halves {
     pub at10: u16,
     pub at12: u16,
     pub at14: u16,
+}
+
+// The two bytes of an i16 as one number.
+pub fn half_of(v: i16) -> u16
+    ensures { λ r. ⌜ r ≡ low16bits v ⌝ }
+{
+    float32::casts::low_bits(v as i32) as u16
+}
+
+// The i16 of two bytes.
+pub fn short_of(half: u16) -> i16
+    ensures { λ r. ⌜ r ≡ signed16 half ⌝ }
+{
+    float32::casts::wrap_i16(half as i32)
 }
 
 pub fn half_at(bytes: &[u8], at: usize) -> u16

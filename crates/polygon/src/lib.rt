@@ -1,4 +1,5 @@
-// Polygons: five kinds by value, and their records of 16 bytes.
+// Polygons: five kinds by value, their records of 16 bytes, their boxes, and the corners and links of triangles in lists of records.
+pub mod boxes;
 pub mod corners;
 pub mod halves;
 pub mod reading;

@@ -4,19 +4,12 @@ use crate::Read;
 use crate::ReadRefusal;
 use crate::halves::Halves;
 use crate::halves::halves_at;
+use crate::halves::short_of;
 ghost use mathlib.Core.Path.{_≡_};
 ghost use Prim.Native.Nat.{_+_, _%_, _<_, _≤_};
 ghost use lib.ListN.{length};
-ghost use Rattle.float32.specs.Casts.{signed16};
 ghost use Rattle.polygon.specs.Polygons.{joined, kindAt, triangleOf, boxOf, polygonOf, polygonAt};
 ghost use Rattle.polygon.specs.Answers.{readOf};
-
-// The i16 of two bytes.
-fn short_of(half: u16) -> i16
-    ensures { λ r. ⌜ r ≡ signed16 half ⌝ }
-{
-    float32::casts::wrap_i16(half as i32)
-}
 
 fn joined(low: u16, high: u16) -> u32
     ensures { λ r. ⌜ r ≡ joined low high ⌝ }

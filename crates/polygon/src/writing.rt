@@ -2,12 +2,12 @@
 use crate::Polygon;
 use crate::Write;
 use crate::halves::Halves;
+use crate::halves::half_of;
 use crate::halves::put_halves;
 ghost use mathlib.Core.Path.{_≡_};
 ghost use mathlib.Core.List.{_++_};
 ghost use Prim.Native.Nat.{_+_, _/_, _%_, _≤_};
 ghost use lib.ListN.{length, take, drop};
-ghost use Rattle.float32.specs.Casts.{low16bits};
 ghost use Rattle.polygon.specs.Polygons.{wordOr, roundHalves, triangleHalves, boxHalves, halvesOf, polygonBytes};
 ghost use Rattle.polygon.specs.Answers.{Wrote};
 
@@ -16,13 +16,6 @@ fn word_or(x: f32, nan: u32) -> u32
     ensures { λ r. ⌜ r ≡ wordOr x nan ⌝ }
 {
     if x != x { nan } else { float32::words::bits(x) }
-}
-
-// The two bytes of an i16 as one number.
-fn half_of(v: i16) -> u16
-    ensures { λ r. ⌜ r ≡ low16bits v ⌝ }
-{
-    float32::casts::low_bits(v as i32) as u16
 }
 
 // A word's low half: the bytes are cut from what does not fit.

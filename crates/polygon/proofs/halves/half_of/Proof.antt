@@ -1,7 +1,7 @@
--- `writing::half_of` meets its contract: widening v to an i32 changes no number, and its low 16 bits fit a u16.
+-- `halves::half_of` meets its contract: widening v to an i32 changes no number, and its low 16 bits fit a u16.
 use borrow.Author.Needs.{needs}
-use Rattle.polygon.proofs.writing.half_of.Statement.{statement}
-use Rattle.polygon.proofs.writing.half_of.Tie as tie
+use Rattle.polygon.proofs.halves.half_of.Statement.{statement}
+use Rattle.polygon.proofs.halves.half_of.Tie as tie
 use mathlib.Core.Path.{ap, subst, sym, _∙_}
 use Prim.Native.Nat.{ℕ, _<_}
 use lib.IntN.{ℤ}

@@ -1,7 +1,7 @@
--- `reading::short_of` meets its contract: a u16 is below 65,536, so its low 16 bits are itself.
+-- `halves::short_of` meets its contract: a u16 is below 65,536, so its low 16 bits are itself.
 use borrow.Author.Needs.{needs}
-use Rattle.polygon.proofs.reading.short_of.Statement.{statement}
-use Rattle.polygon.proofs.reading.short_of.Tie as tie
+use Rattle.polygon.proofs.halves.short_of.Statement.{statement}
+use Rattle.polygon.proofs.halves.short_of.Tie as tie
 use mathlib.Core.Path.{_≡_, ap, _∙_}
 use Prim.Native.Nat.{_%_, _^_, _<_}
 use mir.Syntax.{w32}
