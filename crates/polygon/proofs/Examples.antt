@@ -1,0 +1,88 @@
+-- Polygons of document 01 and of the source's corners, by computing the definitions. Assumes nothing.
+use mathlib.Core.Path.{_≡_, refl}
+use mathlib.Core.List.{List, [], _∷_, _++_}
+use Prim.Native.Nat.{ℕ}
+use lib.IntN.{ℤ, pos, negsuc}
+use lib.ListN.{replicate}
+use lib.Ieee.{Float, binary32, ofBits, toBits, isNan, neg, lt, add}
+use Rattle.base.specs.LittleEndian.{littleEndian, leAt}
+use Rattle.float32.specs.Extremes.{vminOf, vmaxOf, vminWord, vmaxWord}
+use Rattle.polygon.specs.Halves.{fourBytes, halvesBytes, halvesAt}
+use Rattle.polygon.specs.Polygons.{wordOr, triangleHalves, roundHalves, boxHalves, polygonBytes}
+use Rattle.polygon.specs.Polygons.{triangleOf, sphereOf, capsuleOf, boxOf, cylinderOf, polygonOf, polygonAt}
+use Rattle.polygon.specs.Answers.{readOf, readNumber}
+use Rattle.polygon.specs.Boxes.{vertexWords, threeBox, fourBox, grownBox, pairBox, bboxOf}
+use Rattle.polygon.specs.declared.Polygon.{Polygon}
+use Rattle.polygon.specs.declared.Polygon.the-variants.{Triangle, Sphere, Capsule, Box, Cylinder}
+use Rattle.polygon.specs.declared.boxes.PolygonBox.{PolygonBox}
+
+-- −1, as a link or an index
+abbrev alone : ℤ
+alone = negsuc 0
+
+-- The flag of a vertex number, bit 15, is stored with it.
+pub flag-stored : polygonBytes (Triangle (ofBits binary32 0) 0 0x8000 1 2 (pos 0) (pos 0) (pos 0))
+    ≡ 0 ∷ 0 ∷ 0 ∷ 0 ∷ 0x00 ∷ 0x80 ∷ 1 ∷ 0 ∷ 2 ∷ 0 ∷ 0 ∷ 0 ∷ 0 ∷ 0 ∷ 0 ∷ 0 ∷ []
+unfolding polygonBytes halvesBytes fourBytes littleEndian triangleHalves wordOr isNan ofBits toBits
+flag-stored = refl
+
+-- A capsule's second index stands behind its radius.
+pub capsule-bytes : polygonBytes (Capsule 258 772 (ofBits binary32 0x4000_0000) 0)
+    ≡ 2 ∷ 0 ∷ 0x02 ∷ 0x01 ∷ 0x00 ∷ 0x00 ∷ 0x00 ∷ 0x40 ∷ 0x04 ∷ 0x03 ∷ 0 ∷ 0 ∷ 0 ∷ 0 ∷ 0 ∷ 0 ∷ []
+unfolding polygonBytes halvesBytes fourBytes littleEndian roundHalves wordOr isNan ofBits toBits
+capsule-bytes = refl
+
+-- A NaN keeps the word that stands beside it.
+pub nan-kept : polygonBytes (Sphere 1 (ofBits binary32 0x7f80_0001) 0x7f80_0001)
+    ≡ 1 ∷ 0 ∷ 1 ∷ 0 ∷ 0x01 ∷ 0x00 ∷ 0x80 ∷ 0x7f ∷ 0 ∷ 0 ∷ 0 ∷ 0 ∷ 0 ∷ 0 ∷ 0 ∷ 0 ∷ []
+unfolding polygonBytes halvesBytes fourBytes littleEndian roundHalves wordOr isNan ofBits toBits
+nan-kept = refl
+
+-- FB FF .. FF is a box, of which eight bytes are used.
+pub box-read : polygonAt (0xfb ∷ replicate 15 0xff) 0 ≡ Box alone alone alone alone
+unfolding polygonAt polygonOf halvesAt leAt boxOf
+box-read = refl
+
+pub box-again : polygonBytes (Box alone alone alone alone) ≡ 3 ∷ 0 ∷ 0 ∷ 0 ∷ (replicate 8 0xff ++ replicate 4 0)
+unfolding polygonBytes halvesBytes fourBytes littleEndian boxHalves
+box-again = refl
+
+-- A triangle of FF .. FF would be of kind 7; with the kind cleared its area is FFFFFFF8.
+pub kind-refused : readNumber (readOf (replicate 16 0xff)) ≡ 6
+unfolding readOf
+kind-refused = refl
+
+pub short-refused : readNumber (readOf (replicate 15 0xff)) ≡ 5
+unfolding readOf
+short-refused = refl
+
+-- Sphere 32769 of two vertices is not vertex 1's: its box is about zero.
+pub sphere-not-masked : bboxOf (Sphere 32769 (ofBits binary32 0x3f00_0000) 0) (replicate 6 0x3f80_0000)
+    ≡ record {
+      min = record { x = 0xbf00_0000; y = 0xbf00_0000; z = 0xbf00_0000 };
+      max = record { x = 0x3f00_0000; y = 0x3f00_0000; z = 0x3f00_0000 };
+    }
+unfolding grownBox vertexWords ofBits toBits add neg
+sphere-not-masked = refl
+
+-- A triangle's is.
+pub triangle-masked : bboxOf (Triangle (ofBits binary32 0) 0 0x8001 1 1 alone alone alone) (replicate 6 0x3f80_0000)
+    ≡ record {
+      min = record { x = 0x3f80_0000; y = 0x3f80_0000; z = 0x3f80_0000 };
+      max = record { x = 0x3f80_0000; y = 0x3f80_0000; z = 0x3f80_0000 };
+    }
+unfolding threeBox vertexWords vminWord vmaxWord ofBits lt
+triangle-masked = refl
+
+-- Index −1 of a box is 65535: missing, so zero.
+pub box-missing : bboxOf (Box alone (pos 0) (pos 0) (pos 0)) (replicate 3 0x3f80_0000)
+    ≡ record { min = record { x = 0; y = 0; z = 0 }; max = record { x = 0x3f80_0000; y = 0x3f80_0000; z = 0x3f80_0000 } }
+unfolding fourBox vertexWords vminWord vmaxWord ofBits lt
+box-missing = refl
+
+-- A tie keeps the later zero, and a NaN that is copied its bits.
+pub later-zero : bboxOf (Triangle (ofBits binary32 0) 0 0 1 2 alone alone alone)
+    (0x7f80_0001 ∷ 0 ∷ 0x8000_0000 ∷ 0x7f80_0002 ∷ 0x8000_0000 ∷ 0 ∷ 0x7f80_0003 ∷ 0 ∷ 0x8000_0000 ∷ [])
+    ≡ record { min = record { x = 0x7f80_0003; y = 0; z = 0x8000_0000 }; max = record { x = 0x7f80_0003; y = 0; z = 0x8000_0000 } }
+unfolding threeBox vertexWords vminWord vmaxWord ofBits lt
+later-zero = refl

@@ -1,0 +1,6 @@
+pub mod Answers
+pub mod Boxes
+pub mod Canonical
+pub mod Corners
+pub mod Halves
+pub mod Polygons
