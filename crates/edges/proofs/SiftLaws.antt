@@ -77,5 +77,6 @@ pub occurs-with : (key : ℕ → ℕ) (s : ℕ) (ss : List ℕ) → occurrences 
 occurs-with key s ss = ap length (sift-wider (λ t. eqb t s) (λ t. eqb (key t) (key s)) (λ t e. eq-eqb (key t) (key s) (ap key (eqb-true t s e))) ss)
 
 -- the same sides of each key: each side as often
-pub occurs-same : (key : ℕ → ℕ) (ss ts : List ℕ) → ((k : ℕ) → withKey key k ss ≡ withKey key k ts) → (s : ℕ) → occurrences s ss ≡ occurrences s ts
-occurs-same key ss ts f s = sym (occurs-with key s ss) ∙ ap (occurrences s) (f (key s)) ∙ occurs-with key s ts
+pub occurs-same : (key : ℕ → ℕ) (ss ts : List ℕ) → ((s : ℕ) → withKey key (key s) ss ≡ withKey key (key s) ts)
+    → (s : ℕ) → occurrences s ss ≡ occurrences s ts
+occurs-same key ss ts f s = sym (occurs-with key s ss) ∙ ap (occurrences s) (f s) ∙ occurs-with key s ts

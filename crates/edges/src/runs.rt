@@ -1,4 +1,8 @@
 // The links of sides that stand by their edges: the sides of an edge are a run.
+use crate::sides::NONE;
+use crate::sides::Side;
+use crate::sides::key_at;
+use crate::sides::polygon_of;
 ghost use mathlib.Core.Path.{_≡_};
 ghost use Prim.Native.Nat.{_<_};
 ghost use lib.ListN.{length, drop};
@@ -14,13 +18,11 @@ fn link_of_first(keys: &[u32], sides: &[u32], i: usize) -> u32
 {
     let next = i + 1;
     if next < sides.len() {
-        let s = sides[i] as usize;
-        let t = sides[next] as usize;
-        if keys[t] == keys[s] {
-            return sides[next] / 3;
+        if key_at(keys, Side(sides[next])) == key_at(keys, Side(sides[i])) {
+            return polygon_of(Side(sides[next]));
         }
     }
-    crate::sides::NONE
+    NONE
 }
 
 // Links each side of the list.
@@ -34,9 +36,9 @@ pub fn link_runs(keys: &[u32], sides: &[u32], links: &mut [u32])
     while i < sides.len() {
         let side = sides[i];
         let s = side as usize;
-        let key = keys[s];
+        let key = key_at(keys, Side(side));
         if key + 1 == run {
-            links[s] = first / 3;
+            links[s] = polygon_of(Side(first));
             i += 1;
         } else {
             links[s] = link_of_first(keys, sides, i);

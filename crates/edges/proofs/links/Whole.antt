@@ -34,7 +34,7 @@ module _ (key : ℕ → ℕ) (ss gs : List ℕ) (g : Grouped key ss gs) where
   pub linked-grouped : (before after : List ℕ) → Linked key gs before after → Linked key ss before after
   linked-grouped before after l =
       record {
-        linked = every-of (λ s. getD after s 0 ≡ linkAmong s (withKey key (key s) ss)) ss (λ s h. among-grouped s (omega (arith, as-often s)) ∙ ap (linkAmong s) (g .same (key s)));
+        linked = every-of (λ s. getD after s 0 ≡ linkAmong s (withKey key (key s) ss)) ss (λ s h. among-grouped s (omega (arith, as-often s)) ∙ ap (linkAmong s) (g .same s));
         others = λ s o. l .others s (as-often s ∙ o);
       }
     where

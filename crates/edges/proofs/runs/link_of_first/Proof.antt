@@ -1,84 +1,75 @@
 -- `link_of_first`: the next side's polygon, if there is a next side and it has the same key.
+use native.Mathlib.Omega.{arith}
 use borrow.Author.Needs.{needs}
 use Rattle.edges.proofs.runs.link_of_first.Statement.{statement}
+use Rattle.edges.proofs.runs.link_of_first.Tie as tie
 use Prim.Native.Nat.{_+_}
+use mathlib.Core.Path.{sym, _∙_}
 use Rattle.edges.specs.steps.Grouped.{keyIn}
 use Rattle.edges.proofs.KeyedLaws.{keyed-at}
 use Rattle.edges.proofs.LinkLaws.{alone, with-next, without-next}
-use native.Mathlib.Omega.{arith}
-use Rattle.edges.proofs.runs.link_of_first.Tie as tie
 
 add-next : tie.Need-add-next
 add-next c = search needs
 
-mul-s : tie.Need-mul-s
-mul-s c = search needs
+mul-t8 : tie.Need-mul-t8
+mul-t8 c = search needs
 
-shared-slice-read-s : tie.Need-shared-slice-read-s
-shared-slice-read-s c = search needs
+shared-slice-read-t10 : tie.Need-shared-slice-read-t10
+shared-slice-read-t10 c = search needs
 
-cast-s : tie.Need-cast-s
-cast-s c = omega (arith, c .shared-slice-known .given (c .before .before .args .i))
+key-at-requires : tie.Need-key-at-requires
+key-at-requires c κs = keyed-at _ _ (c .before .before .before .before .args .i + 1) (c .before .before .before .before .pre .0) (c .before .if1 .taken)
 
-mul-t : tie.Need-mul-t
-mul-t c = search needs
+mul-t13 : tie.Need-mul-t13
+mul-t13 c = search needs
 
-shared-slice-read-t : tie.Need-shared-slice-read-t
-shared-slice-read-t c = search needs
+shared-slice-read-t15 : tie.Need-shared-slice-read-t15
+shared-slice-read-t15 c = search needs
 
-cast-t : tie.Need-cast-t
-cast-t c = omega (arith, c .shared-slice-known2 .given (c .before .before .before .args .i + 1))
+key-at-requires-2 : tie.Need-key-at-requires-2
+key-at-requires-2 c κs = keyed-at _ _ (c .before .before .before .before .before .before .args .i) (c .before .before .before .before .before .before .pre .0) (c .before .before .before .before .before .before .pre .1)
 
-mul-if2 : tie.Need-mul-if2
-mul-if2 c = omega (arith, keyed-at _ _ (c .before .before .before .args .i + 1) (c .before .before .before .pre .0) (c .before .before .if1 .taken) .within)
+mul-t18 : tie.Need-mul-t18
+mul-t18 c = search needs
 
-shared-slice-read-if2 : tie.Need-shared-slice-read-if2
-shared-slice-read-if2 c = keyed-at _ _ (c .before .before .before .before .args .i + 1) (c .before .before .before .before .pre .0) (c .before .before .before .if1 .taken) .within
+shared-slice-read-t20 : tie.Need-shared-slice-read-t20
+shared-slice-read-t20 c = search needs
 
-mul-if2-2 : tie.Need-mul-if2-2
-mul-if2-2 c = omega (arith, keyed-at _ _ (c .before .before .before .before .args .i) (c .before .before .before .before .pre .0) (c .before .before .before .before .pre .1) .within)
-
-shared-slice-read-if2-2 : tie.Need-shared-slice-read-if2-2
-shared-slice-read-if2-2 c = keyed-at _ _ (c .before .before .before .before .before .args .i) (c .before .before .before .before .before .pre .0) (c .before .before .before .before .before .pre .1) .within
-
-mul-result : tie.Need-mul-result
-mul-result c = search needs
-
-shared-slice-read-result : tie.Need-shared-slice-read-result
-shared-slice-read-result c = search needs
+polygon-of-requires : tie.Need-polygon-of-requires
+polygon-of-requires c κs = search needs
 
 returns : tie.Need-returns
 returns c =
-    let s = c .before .before .before .before .before .before .before .args in
-    with-next (keyIn (s .keys .now)) (s .sides .now) (s .i) (c .before .before .before .before .before .before .if1 .taken) (c .before .if2 .taken)
+    let s = c .before .before .before .before .before .before .before .before .before .before .args in
+    let same = sym (c .before .before .before .before .before .key-at .ensures .0) ∙ c .before .before .if2 .taken ∙ c .before .before .before .key-at2 .ensures .0 in
+    c .polygon-of .ensures ∙ with-next (keyIn (s .keys .now)) (s .sides .now) (s .i) (c .before .before .before .before .before .before .before .if1 .taken) same
 
 returns-2 : tie.Need-returns-2
 returns-2 c =
-    let s = c .before .before .before .before .before .before .args in
-    without-next (keyIn (s .keys .now)) (s .sides .now) (s .i) (c .before .before .before .before .before .if1 .taken) (c .if2 .left)
+    let s = c .before .before .before .before .before .before .before .before .args in
+    without-next (keyIn (s .keys .now)) (s .sides .now) (s .i) (c .before .before .before .before .before .if1 .taken)
+    (λ e. c .if2 .left (c .before .before .before .key-at .ensures .0 ∙ e ∙ sym (c .before .key-at2 .ensures .0)))
 
 returns-3 : tie.Need-returns-3
 returns-3 c =
-    let s = c .before .args in
-    alone (keyIn (s .keys .now)) (s .sides .now) (s .i) (c .before .pre .1) (omega arith)
+    let s = c .before .before .before .args in
+    alone (keyIn (s .keys .now)) (s .sides .now) (s .i) (c .before .before .before .pre .1) (omega arith)
 
 pub link-of-first-spec : {M : Type 1} → statement M
 link-of-first-spec =
     tie.close
     (tie.spec
     add-next
-    mul-s
-    shared-slice-read-s
-    cast-s
-    mul-t
-    shared-slice-read-t
-    cast-t
-    mul-if2
-    shared-slice-read-if2
-    mul-if2-2
-    shared-slice-read-if2-2
-    mul-result
-    shared-slice-read-result
+    mul-t8
+    shared-slice-read-t10
+    key-at-requires
+    mul-t13
+    shared-slice-read-t15
+    key-at-requires-2
+    mul-t18
+    shared-slice-read-t20
+    polygon-of-requires
     returns
     returns-2
     returns-3)
