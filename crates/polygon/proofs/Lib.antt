@@ -1,0 +1,4 @@
+pub mod CornerLaws
+pub mod KindLaws
+pub mod LinkLaws
+pub mod Sizes

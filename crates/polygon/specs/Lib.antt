@@ -1,0 +1,4 @@
+pub mod Answers
+pub mod Corners
+pub mod Halves
+pub mod Polygons
