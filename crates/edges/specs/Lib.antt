@@ -1,3 +1,4 @@
+pub mod Edges
 pub mod Links
 pub mod Lists
 pub mod Sides

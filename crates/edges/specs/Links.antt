@@ -8,7 +8,8 @@ use lib.ListN.{length, getD}
 use Rattle.base.specs.Lists.{occurrences, upFrom}
 use Rattle.edges.specs.Lists.{withKey}
 use Rattle.base.specs.Every.{Every}
-use Rattle.edges.specs.Sides.{none, keyOf, there, sidesOf}
+use Rattle.polygon.specs.Corners.{none, there}
+use Rattle.edges.specs.Sides.{keyOf, sidesOf}
 
 -- The link of side s, one of the sides that lie on its edge: alone it has none; the first is linked to the second's polygon, each other to the first's.
 abbrev pub linkAmong : ℕ → List ℕ → ℕ

@@ -11,7 +11,8 @@ use lib.Seq.{length-take-le, getD-take, ext-getD}
 use Rattle.base.specs.Lists.{occurrences, Among, upFrom}
 use Rattle.edges.specs.Lists.{withKey, RisingBy}
 use Rattle.base.specs.Every.{Every}
-use Rattle.edges.specs.Sides.{none, keyOf, there, sidesOf, Corners}
+use Rattle.polygon.specs.Corners.{none, there, Corners}
+use Rattle.edges.specs.Sides.{keyOf, sidesOf}
 use Rattle.edges.specs.Links.{linkAmong, sameAs, linkOf, linksOf, Linked}
 use Rattle.edges.specs.steps.Grouped.{keyIn, Keyed, Sides, Grouped}
 use Rattle.base.proofs.EveryLaws.{every-sift}
