@@ -81,8 +81,14 @@ pub fn update_edge_indices(
     links: &mut [u32],
 ) -> Edges
     ensures { λ r. ⌜ Answered n
-        (record { polygons = length (now (polygons .entry)); corners = length (now (corners .entry)); keys = length (now (keys .entry));
-            sides = length (now (sides .entry)); spare = length (now (spare .entry)); links = length (now (links .entry)) })
+        (record {
+          polygons = length (now (polygons .entry));
+          corners = length (now (corners .entry));
+          keys = length (now (keys .entry));
+          sides = length (now (sides .entry));
+          spare = length (now (spare .entry));
+          links = length (now (links .entry));
+        })
         (now (polygons .entry)) (now (polygons .exit)) r ⌝ }
 {
     if n > 32767 {
