@@ -1,0 +1,9 @@
+pub mod DigitLaws
+pub mod EveryOf
+pub mod KeyedLaws
+pub mod LinkLaws
+pub mod RisingLaws
+pub mod SideLaws
+pub mod SiftLaws
+pub mod UpFromLaws
+mod Values

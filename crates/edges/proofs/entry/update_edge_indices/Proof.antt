@@ -1,0 +1,84 @@
+-- `update_edge_indices`: the checks in their order, and then the links.
+use borrow.Author.Needs.{needs}
+use Rattle.edges.proofs.entry.update_edge_indices.Statement.{statement}
+use Rattle.edges.proofs.entry.update_edge_indices.Tie as tie
+use borrow.Author.Tests.{not-true, not-false}
+use mathlib.Core.Path.{sym, _∙_}
+use Rattle.edges.proofs.entry.Answering.{records, parts, too-many, too-small, unknown, served}
+
+returns : tie.Need-returns
+returns c = too-many _ _ _ (c .if1 .taken)
+
+too-short-requires : tie.Need-too-short-requires
+too-short-requires c κs = search needs
+
+returns-2 : tie.Need-returns-2
+returns-2 c = too-small _ _ _ (c .before .before .if1 .left) (sym (c .before .too-short .ensures) ∙ c .if2 .taken)
+
+kinds-known-requires : tie.Need-kinds-known-requires
+kinds-known-requires c κs = records _ _ (sym (c .before .before .too-short .ensures) ∙ c .before .if2 .left)
+
+same-length : tie.Need-same-length
+same-length c = search needs
+
+returns-3 : tie.Need-returns-3
+returns-3 c =
+    let short = sym (c .before .before .before .before .too-short .ensures) ∙ c .before .before .before .if2 .left in
+    unknown _ _ _ (c .before .before .before .before .before .if1 .left) short (sym (c .before .kinds-known .ensures) ∙ not-true _ (c .if3 .taken))
+
+link-polygons-requires : tie.Need-link-polygons-requires
+link-polygons-requires c κs =
+    let short = sym (c .before .before .before .before .before .before .before .before .before .before .too-short .ensures) ∙ c .before .before .before .before .before .before .before .before .before .if2 .left in
+    let w = parts _ _ short in
+    record {
+      few = c .before .before .before .before .before .before .before .before .before .before .before .if1 .left;
+      records = records _ _ short;
+      for-corners = w .0;
+      for-keys = w .1;
+      for-sides = w .2;
+      for-spare = w .3;
+      for-links = w .4;
+    }
+
+same-length-2 : tie.Need-same-length-2
+same-length-2 c = search needs
+
+same-length-3 : tie.Need-same-length-3
+same-length-3 c = search needs
+
+same-length-4 : tie.Need-same-length-4
+same-length-4 c = search needs
+
+same-length-5 : tie.Need-same-length-5
+same-length-5 c = search needs
+
+same-length-6 : tie.Need-same-length-6
+same-length-6 c = search needs
+
+same-length-7 : tie.Need-same-length-7
+same-length-7 c = search needs
+
+returns-4 : tie.Need-returns-4
+returns-4 c =
+    let short = sym (c .before .before .before .before .before .before .before .before .before .before .before .before .before .before .before .before .before .before .before .before .before .before .before .too-short .ensures) ∙ c .before .before .before .before .before .before .before .before .before .before .before .before .before .before .before .before .before .before .before .before .before .before .if2 .left in
+    let known = sym (c .before .before .before .before .before .before .before .before .before .before .before .before .before .before .before .before .before .before .before .before .kinds-known .ensures) ∙ not-false _ (c .before .before .before .before .before .before .before .before .before .before .before .before .before .before .before .before .before .before .before .if3 .left) in
+    served _ _ _ _ (c .before .before .before .before .before .before .before .before .before .before .before .before .before .before .before .before .before .before .before .before .before .before .before .before .if1 .left) short known (c .before .before .before .before .before .before .before .before .before .before .before .before .link-polygons .ensures)
+
+pub update-edge-indices-spec : {M : Type 1} → statement M
+update-edge-indices-spec =
+    tie.close
+    (tie.spec
+    returns
+    too-short-requires
+    returns-2
+    kinds-known-requires
+    same-length
+    returns-3
+    link-polygons-requires
+    same-length-2
+    same-length-3
+    same-length-4
+    same-length-5
+    same-length-6
+    same-length-7
+    returns-4)

@@ -1,0 +1,89 @@
+-- `links_of`: the sides have their keys and are in order, so that they can be linked; a side that is not there has no link.
+use borrow.Author.Needs.{needs}
+use Rattle.edges.proofs.links.links_of.Statement.{statement}
+use mathlib.Core.Path.{_≡_, sym, _∙_}
+use lib.ListN.{length, take}
+use lib.Seq.{length-take-le}
+use Rattle.edges.proofs.links.Whole.{sides-rise, sides-within, sides-keyed, links-are}
+use native.Mathlib.Omega.{arith}
+use Rattle.edges.proofs.links.links_of.Tie as tie
+
+put-keys-requires : tie.Need-put-keys-requires
+put-keys-requires c κs = search needs
+
+put-sides-requires : tie.Need-put-sides-requires
+put-sides-requires c κs = search needs
+
+clear-links-requires : tie.Need-clear-links-requires
+clear-links-requires c κs = search needs
+
+slice-relend-prefix-link-sides : tie.Need-slice-relend-prefix-link-sides
+slice-relend-prefix-link-sides c = search needs
+
+slice-aggregate-link-sides : tie.Need-slice-aggregate-link-sides
+slice-aggregate-link-sides c =
+    let d = c .before .before .before .before .before .before .before .before .put-sides in
+    sym (length-take-le (d .result) (d .last .1 .0) (omega (arith, d .ensures .0, d .kept .1 .0, c .before .before .before .before .before .before .before .before .before .before .before .before .before .before .before .before .before .before .before .pre .1 .for-sides)))
+
+slice-relend-prefix-link-sides-2 : tie.Need-slice-relend-prefix-link-sides-2
+slice-relend-prefix-link-sides-2 c = search needs
+
+slice-aggregate-link-sides-2 : tie.Need-slice-aggregate-link-sides-2
+slice-aggregate-link-sides-2 c =
+    let d = c .before .before .before .before .before .before .before .before .before .put-sides in
+    sym (length-take-le (d .result) (c .before .before .before .before .before .before .before .before .before .before .before .before .before .before .before .before .before .before .before .before .args .spare .now) (omega (arith, d .ensures .0, c .before .before .before .before .before .before .before .before .before .before .before .before .before .before .before .before .before .before .before .before .pre .1 .for-spare)))
+
+link-sides-requires : tie.Need-link-sides-requires
+link-sides-requires c κs =
+    let s = c .before .before .before .before .before .before .before .before .before .before .before .before .before .before .before .before .before .before .before .before .before .args in
+    let p = c .before .before .before .before .before .before .before .before .before .before .before .before .before .before .before .before .before .before .before .before .before .pre in
+    let k = c .before .before .before .before .before .before .before .before .before .before .before .before .before .before .put-keys in
+    let d = c .before .before .before .before .before .before .before .before .before .before .put-sides in
+    let l = c .before .before .before .before .before .before .clear-links in
+    let a : length (take (d .result) (d .last .1 .0)) ≡ d .result = length-take-le (d .result) (d .last .1 .0) (omega (arith, d .ensures .0, d .kept .1 .0, p .1 .for-sides)) in
+    let b : length (take (d .result) (s .spare .now)) ≡ d .result = length-take-le (d .result) (s .spare .now) (omega (arith, d .ensures .0, p .1 .for-spare)) in
+    let keyed = sides-keyed _ (p .0) (k .last .1 .0) (omega (arith, k .kept .1 .0, p .1 .for-keys)) (k .ensures) in (
+      record { few = omega (arith, a, d .ensures .0, p .0 .few); keyed = rw (d .ensures .1) keyed },
+      rw (d .ensures .1) (sides-rise _ (p .0)),
+      rw (d .ensures .1) (sides-within _ (p .0) (length (l .last .0)) (omega (arith, l .kept .0, p .1 .for-links))),
+      b ∙ sym a,
+    )
+
+same-length : tie.Need-same-length
+same-length c = search needs
+
+same-length-2 : tie.Need-same-length-2
+same-length-2 c = search needs
+
+same-length-3 : tie.Need-same-length-3
+same-length-3 c = search needs
+
+same-length-4 : tie.Need-same-length-4
+same-length-4 c = search needs
+
+returns : tie.Need-returns
+returns c =
+    let p = c .before .before .before .before .before .before .before .before .before .before .before .before .before .before .before .before .before .before .before .before .before .before .before .before .before .before .before .before .pre in
+    let k = c .before .before .before .before .before .before .before .before .before .before .before .before .before .before .before .before .before .before .before .before .before .put-keys in
+    let l = c .before .before .before .before .before .before .before .before .before .before .before .before .before .clear-links in
+    let t = c .before .before .before .before .before .before .link-sides in
+    let linked = rw (c .before .before .before .before .before .before .before .before .before .before .before .before .before .before .before .before .before .put-sides .ensures .1) at (t .ensures) in
+    links-are _ (p .0) (k .last .1 .0) (omega (arith, k .kept .1 .0, p .1 .for-keys)) (k .ensures) (l .last .0) (t .last .1 .1 .1 .0) (l .ensures) linked (omega (arith, t .kept .1 .1 .1 .0, l .kept .0, p .1 .for-links))
+
+pub links-of-spec : {M : Type 1} → statement M
+links-of-spec =
+    tie.close
+    (tie.spec
+    put-keys-requires
+    put-sides-requires
+    clear-links-requires
+    slice-relend-prefix-link-sides
+    slice-aggregate-link-sides
+    slice-relend-prefix-link-sides-2
+    slice-aggregate-link-sides-2
+    link-sides-requires
+    same-length
+    same-length-2
+    same-length-3
+    same-length-4
+    returns)

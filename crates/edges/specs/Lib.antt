@@ -1,0 +1,5 @@
+pub mod Edges
+pub mod Links
+pub mod Lists
+pub mod Sides
+pub mod steps

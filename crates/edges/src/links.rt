@@ -1,0 +1,40 @@
+// The links of all sides.
+use crate::grouping::group;
+use crate::runs::link_runs;
+use crate::sides::clear_links;
+use crate::sides::put_keys;
+use crate::sides::put_sides;
+ghost use mathlib.Core.Path.{_≡_};
+ghost use Prim.Native.Nat.{_<_};
+ghost use lib.ListN.{length, take};
+ghost use Rattle.base.specs.Every.{Every};
+ghost use Rattle.edges.specs.Lists.{RisingBy};
+ghost use Rattle.edges.specs.steps.Grouped.{keyIn, Sides};
+ghost use Rattle.edges.specs.Links.{linksOf, Linked, Room};
+ghost use Rattle.polygon.specs.Corners.{Corners};
+
+// Links each of the sides, which are in their order.
+fn link_sides(keys: &[u32], sides: &mut [u32], spare: &mut [u32], links: &mut [u32])
+    requires { ⌜ (Sides (now keys) (now sides)) × (RisingBy (λ s. s) (now sides)) × (Every (λ s. s < length (now links)) (now sides)) × (length (now spare) ≡ length (now sides)) ⌝ }
+    ensures { λ _. ⌜ Linked (keyIn (now (keys .entry))) (now (sides .entry)) (now (links .entry)) (now (links .exit)) ⌝ }
+{
+    group(keys, sides, spare);
+    link_runs(keys, spare, links);
+}
+
+// The links of the sides of triangles, as many as there are corners. `keys`, `sides` and `spare` are to work in.
+pub fn links_of(
+    corners: &[u32],
+    keys: &mut [u32],
+    sides: &mut [u32],
+    spare: &mut [u32],
+    links: &mut [u32],
+)
+    requires { ⌜ (Corners (now corners)) × (Room (now corners) (now keys) (now sides) (now spare) (now links)) ⌝ }
+    ensures { λ _. ⌜ take (length (now (corners .entry))) (now (links .exit)) ≡ linksOf (now (corners .entry)) ⌝ }
+{
+    put_keys(corners, keys);
+    let k = put_sides(corners, sides);
+    clear_links(links, corners.len());
+    link_sides(keys, &mut sides[..k], &mut spare[..k], links);
+}
