@@ -54,15 +54,21 @@ impl Instruction<'_> {
     }
 }
 
-/// What the walk and the counts have, or what they lack.
+/// What the walk and the counts have and what they lack, a line each; `Err` where one lacks something.
 fn judged(listing: &str) -> Result<String, String> {
     let functions = functions(listing);
-    let (walk, counts) = (walk(&functions), counts(&functions));
-    let lacking: Vec<String> = [walk.clone().err(), counts.clone().err()].into_iter().flatten().collect();
-    if lacking.is_empty() {
-        return Ok(format!("{}\n{}", walk?, counts?));
+    let both = [walk(&functions), counts(&functions)];
+    let whole = both.iter().all(Result::is_ok);
+    let line = |found: Result<String, String>| match found {
+        Ok(has) => format!("has     {has}\n"),
+        Err(why) => format!("LACKS   {why}\n"),
+    };
+    let lines: String = both.into_iter().map(line).collect();
+    if whole {
+        Ok(lines)
+    } else {
+        Err(lines)
     }
-    Err(lacking.join("\n"))
 }
 
 fn named<'a>(functions: &'a [Function], parts: &[&str]) -> Vec<&'a Function<'a>> {
@@ -139,12 +145,12 @@ pub fn looked(words: &[String]) -> ExitCode {
         return ExitCode::from(2);
     };
     match disassembled(archive).map(|listing| judged(&listing)) {
-        Ok(Ok(found)) => {
-            println!("{found}");
+        Ok(Ok(lines)) => {
+            print!("{lines}");
             ExitCode::SUCCESS
         }
-        Ok(Err(lacking)) => {
-            println!("{archive} lacks vector code:\n{lacking}");
+        Ok(Err(lines)) => {
+            println!("{lines}The source is written for these compares; without them {archive} is slow.");
             ExitCode::FAILURE
         }
         Err(why) => {
@@ -202,7 +208,9 @@ mod tests {
     #[test]
     fn both_loops_are_found() {
         let found = judged(&format!("{WALK}\n{COUNTS}")).expect("vector code");
-        assert_eq!(found, "walk: 2 pcmpgtw in bounds_walk\ncounts: movups, cmpltps, psubd in bounds_build_bvh");
+        let lines =
+            ["has     walk: 2 pcmpgtw in bounds_walk", "has     counts: movups, cmpltps, psubd in bounds_build_bvh"];
+        assert_eq!(found.lines().collect::<Vec<_>>(), lines);
     }
 
     #[test]
@@ -212,7 +220,7 @@ mod tests {
         assert!(why.contains("walk: 0 pcmpgtw in bounds_walk"), "{why}");
         assert!(why.contains("counts: no loaded centre") && why.contains("comes from mulps %xmm5,%xmm4"), "{why}");
         let why = judged(WALK).expect_err("no build");
-        assert!(why.starts_with("counts: no function named"), "{why}");
+        assert!(why.starts_with("has     walk") && why.contains("LACKS   counts: no function named"), "{why}");
         let once = WALK.replace("  18:\tpcmpgtw %xmm0,%xmm3\n", "");
         assert!(judged(&format!("{once}{COUNTS}")).expect_err("one").contains("walk: 1 pcmpgtw"));
     }
