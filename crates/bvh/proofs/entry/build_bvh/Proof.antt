@@ -290,7 +290,8 @@ module _ {M : Type 1} (𝓤 : URA M) (H : Heap 𝓤) (A : Atoms 𝓤) (W : Given
       (tt, (tt, (us .1 .1 .1 .0, (us .1 .1 .1 .1 .0, (us .1 .1 .1 .1 .1 .0, (l, us .1 .1 .1 .1 .1 .1))))))
       (tt, (tt, (tt, (tt, (tt, (tt, (tt, (tt, (tt, (tt, (tt, tt)))))))))))) $
       says ! (answers (items .now) th (entries .now) (rest .0 .now) (rest .1 .0 .now) (rest .1 .1 .0 .now) (rest .1 .1 .1 .0 .now)
-      (rest .1 .1 .1 .1 .0 .now) r (outputs (nodes .now) (trees .now) (order .now)) (outputs (us .1 .1 .1 .0) (us .1 .1 .1 .1 .0) (us .1 .1 .1 .1 .1 .0)) (subst (λ (ws : List ℕ). Said ν δ ws r us) all e)) $
+      (rest .1 .1 .1 .1 .0 .now) r (outputs (nodes .now) (trees .now) (order .now))
+      (outputs (us .1 .1 .1 .0) (us .1 .1 .1 .1 .0) (us .1 .1 .1 .1 .1 .0)) (subst (λ (ws : List ℕ). Said ν δ ws r us) all e)) $
       move ! (6 ∷ []) $ fsplit ! $ move ! (1 ∷ []) $ fsplit ! $ move ! (1 ∷ []) $ fsplit ! $ move ! (1 ∷ []) $ fsplit ! $ move ! (1 ∷ []) $ fsplit ! $
       move ! (1 ∷ []) $ fsplit ! $ feqI ! ℕ (length l) (length (entries .now)) same $ move ! (14 ∷ 0 ∷ []) $ fjoin ! $ move ! (0 ∷ 2 ∷ []) $ fjoin ! $
       move ! (1 ∷ 0 ∷ []) $ fjoin ! $ move ! (1 ∷ 0 ∷ []) $ fjoin ! $ move ! (1 ∷ 0 ∷ []) $ fjoin ! $ move ! (1 ∷ 0 ∷ []) $ fjoin ! $ move ! (1 ∷ 0 ∷ []) $
@@ -660,8 +661,10 @@ module _ {M : Type 1} (𝓤 : URA M) (H : Heap 𝓤) (A : Atoms 𝓤) (W : Given
   build-walks : Walks 𝓤 H A f.ended stayed (WpFn 𝓤 H (𝓣 .C) (𝓣 .Λ) code.function) (f.clauses 𝓤 H A mem run)
   build-walks =
       walked 𝓤 H A f.ended stayed (f.clauses 𝓤 H A mem run) (WpFn 𝓤 H (𝓣 .C) (𝓣 .Λ) code.function)
-      (λ κs.
-      (slice-vals, (uint-vals w32, (slice-vals, (slice-vals, (slice-vals, (slice-vals, (slice-vals, (slice-vals, (slice-vals, (slice-vals, (slice-vals, tt))))))))))))
+      (λ κs. (
+        slice-vals,
+        (uint-vals w32, (slice-vals, (slice-vals, (slice-vals, (slice-vals, (slice-vals, (slice-vals, (slice-vals, (slice-vals, (slice-vals, tt)))))))))),
+      ))
       (λ κs. (
         shr-slice-tells (named 0) (κs .0) T.the-row,
         (
@@ -698,8 +701,8 @@ module _ {M : Type 1} (𝓤 : URA M) (H : Heap 𝓤) (A : Atoms 𝓤) (W : Given
       via 𝓤 _ (fst∗ 𝓤 _ (emp 𝓤))
       (walk 𝓤 H A W mem run (κs .0) (κs .1) (qs .0) (qs .1) (a .0) (a .1 .0) (a .1 .1 .0) (a .1 .1 .1 .0) (a .1 .1 .1 .1 .0) (a .1 .1 .1 .1 .1 .0)
       (a .1 .1 .1 .1 .1 .1) (are .0 .0 .1) (are .1 .0 .1) (are .1 .1 .0 .0 .1) (are .1 .1 .1 .0 .0 .1) (are .1 .1 .1 .1 .0 .0 .1)
-      (are .1 .1 .1 .1 .1 .0 .0 .1) (last .0 .0 .1, (last .1 .0 .0 .1, (last .1 .1 .0 .0 .1, (last .1 .1 .1 .0 .0 .1, (last .1 .1 .1 .1 .0 .0 .1, tt))))) 𝓣 (fmOf 𝓤 H
-      (W .laws) 𝓣) known-taken known-put known-core))
+      (are .1 .1 .1 .1 .1 .0 .0 .1) (last .0 .0 .1, (last .1 .0 .0 .1, (last .1 .1 .0 .0 .1, (last .1 .1 .1 .0 .0 .1, (last .1 .1 .1 .1 .0 .0 .1, tt)))))
+      𝓣 (fmOf 𝓤 H (W .laws) 𝓣) known-taken known-put known-core))
 
   build-meets : Meets 𝓤 H A f.signature (WpFn 𝓤 H (𝓣 .C) (𝓣 .Λ) code.function) (f.spec 𝓤 H A mem run)
   build-meets = walk-meets 𝓤 H A f.ended stayed W (all-go 𝓤 H A W (f.ended .signature .params) (f.ended .kept)) (f.clauses 𝓤 H A mem run)
