@@ -1,6 +1,9 @@
 mod Answers
 pub mod Examples
+mod FewStores
+mod LaneLaws
 pub mod OutcomeLaws
+mod PassLaws
 mod Running
 mod SameTurn
 mod Shorts

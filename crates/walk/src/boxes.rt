@@ -4,8 +4,8 @@ use math::vec3::Vec3;
 use records::BoundVertex;
 ghost use mathlib.Core.Path.{_≡_};
 ghost use lib.Ieee.{le};
-ghost use lib.Signed.{leZ};
 ghost use Rattle.walk.specs.Boxes.{overlap, meetsBox, meets, queryOf};
+ghost use Rattle.walk.specs.steps.Lanes.{flip, plainOf, Topped};
 
 // A query's box in units of the quantum.
 pub struct Query {
@@ -22,18 +22,40 @@ pub fn quantise_box(b: Aabb, cen: Vec3, inverse: Vec3) -> Query
     }
 }
 
+// A query in the order of a record's eight numbers, its lower corner turned, so that every number of a record is compared in one way.
+// No number of a record is above the last two.
+pub struct Lanes {
+    pub high: BoundVertex,
+    pub low: BoundVertex,
+    pub first: i16,
+    pub second: i16,
+}
+
+// −1 − v, which turns the order round.
+fn turned(v: i16) -> i16
+    ensures { λ r. ⌜ r ≡ flip v ⌝ }
+{
+    !v
+}
+
+pub fn lanes_of(q: Query) -> Lanes
+    ensures { λ r. ⌜ (plainOf r ≡ q) × (Topped r) ⌝ }
+{
+    let max = q.max;
+    let min = q.min;
+    Lanes {
+        high: max,
+        low: BoundVertex(turned(min.0), turned(min.1), turned(min.2)),
+        first: 32767,
+        second: 32767,
+    }
+}
+
 // On one axis, as floats.
 fn overlap_f32(min: f32, max: f32, other_min: f32, other_max: f32) -> bool
     ensures { λ r. ⌜ r ≡ overlap le min max «other_min» «other_max» ⌝ }
 {
     min <= other_max && other_min <= max
-}
-
-// On one axis, as integers.
-fn overlap_i16(min: i16, max: i16, record_min: i16, record_max: i16) -> bool
-    ensures { λ r. ⌜ r ≡ overlap leZ min max «record_min» «record_max» ⌝ }
-{
-    min <= record_max && record_min <= max
 }
 
 // Boxes as floats.
@@ -45,11 +67,12 @@ pub fn meets_box(a: Aabb, b: Aabb) -> bool
             && overlap_f32(a.min.z, a.max.z, b.min.z, b.max.z))
 }
 
-// A record's box and the query, as integers.
-pub fn meets(q: Query, min: BoundVertex, max: BoundVertex) -> bool
-    ensures { λ r. ⌜ r ≡ meets q min max ⌝ }
+// A record's box and the query, as integers: all eight numbers in their order and without a branch, which compiles to one comparison.
+pub fn meets(q: Lanes, min: BoundVertex, max: BoundVertex, first: i16, second: i16) -> bool
+    requires { ⌜ Topped q ⌝ }
+    ensures { λ r. ⌜ r ≡ meets (plainOf q) min max ⌝ }
 {
-    overlap_i16(q.min.0, q.max.0, min.0, max.0)
-        && (overlap_i16(q.min.1, q.max.1, min.1, max.1)
-            && overlap_i16(q.min.2, q.max.2, min.2, max.2))
+    (((min.0 <= q.high.0) & (min.1 <= q.high.1)) & ((min.2 <= q.high.2) & (!max.0 <= q.low.0)))
+        & (((!max.1 <= q.low.1) & (!max.2 <= q.low.2))
+            & ((first <= q.first) & (second <= q.second)))
 }

@@ -1,4 +1,5 @@
 // A whole walk over lent records, by plain slices.
+use crate::boxes::Lanes;
 use crate::boxes::Query;
 use crate::state::Sizes;
 use crate::state::Status;
@@ -6,14 +7,18 @@ use crate::state::WalkState;
 use base::numbers::Position;
 use math::aabb::Aabb;
 use math::vec3::Vec3;
+use records::BvhTree;
+ghost use mathlib.Core.Bool.{true, false};
 ghost use mathlib.Core.Path.{_≡_};
-ghost use Prim.Native.Nat.{_+_, _≤_};
-ghost use lib.ListN.{length};
+ghost use Prim.Native.Nat.{_+_, _*_, _≤_, _<_};
+ghost use lib.ListN.{length, set};
 ghost use lib.Seq.{sets};
 ghost use Rattle.base.specs.Lists.{upFrom};
-ghost use Rattle.walk.specs.Step.{lentOf, started};
-ghost use Rattle.walk.specs.Walks.{walkFrom, statusNumber, numberOf, countsOf, unread, tooMany, tooShort, walkOf, Promise};
+ghost use Rattle.walk.specs.Step.{lentOf, started, more};
+ghost use Rattle.walk.specs.Walks.{left, walkFrom, statusNumber, numberOf, countsOf, unread, tooMany, tooShort, walkOf, Promise};
 ghost use Rattle.walk.specs.steps.Contracts.{Steppable, Ran};
+ghost use Rattle.walk.specs.steps.Lanes.{plainOf, Topped};
+ghost use Rattle.walk.specs.steps.Passing.{passesOver, insideRange, PassedUpTo, Ready, Came};
 
 // Records read, and positions handed out.
 pub struct Counts {
@@ -50,8 +55,28 @@ fn too_short(sizes: Sizes, node_bytes: usize, tree_bytes: usize, out: usize) -> 
     node_bytes < 16 * sizes.nodes || (tree_bytes < 16 * sizes.trees || out < sizes.items)
 }
 
-// The n positions from `first` on, stored from place `from` on.
-fn hand_out(out: &mut [u16], from: usize, first: Position, n: usize)
+// The position i behind `first`, stored i places behind `from`.
+fn put_one(out: &mut [u16], from: usize, first: Position, i: usize)
+    requires { ⌜ (from + i < length (now out)) × (first .0 + i < 65536) ⌝ }
+    ensures { λ _. ⌜ now (out .exit) ≡ set (now (out .entry)) (from + i) (first .0 + i) ⌝ }
+{
+    out[from + i] = (first.0 as usize + i) as u16;
+}
+
+// One to four positions, always in four stores and without a branch: where there are fewer, the last of them is stored again.
+fn hand_few(out: &mut [u16], from: usize, first: Position, n: usize)
+    requires { ⌜ (from + n ≤ length (now out)) × (first .0 + n ≤ 65536) × (1 ≤ n) × (n ≤ 4) ⌝ }
+    ensures { λ _. ⌜ now (out .exit) ≡ sets (now (out .entry)) from (upFrom (first .0) n) ⌝ }
+{
+    let last = n - 1;
+    put_one(out, from, first, 0);
+    put_one(out, from, first, crate::state::lesser(1, last));
+    put_one(out, from, first, crate::state::lesser(2, last));
+    put_one(out, from, first, last);
+}
+
+// Any number of positions, one after another.
+fn hand_many(out: &mut [u16], from: usize, first: Position, n: usize)
     requires { ⌜ (from + n ≤ length (now out)) × (first .0 + n ≤ 65536) ⌝ }
     ensures { λ _. ⌜ now (out .exit) ≡ sets (now (out .entry)) from (upFrom (first .0) n) ⌝ }
 {
@@ -63,7 +88,120 @@ fn hand_out(out: &mut [u16], from: usize, first: Position, n: usize)
     }
 }
 
-// Records are read until none is left. The one place where a walk stores.
+// The n positions from `first` on, stored from place `from` on.
+fn hand_out(out: &mut [u16], from: usize, first: Position, n: usize)
+    requires { ⌜ (from + n ≤ length (now out)) × (first .0 + n ≤ 65536) ⌝ }
+    ensures { λ _. ⌜ now (out .exit) ≡ sets (now (out .entry)) from (upFrom (first .0) n) ⌝ }
+{
+    if n == 0 {
+        return;
+    }
+    if n <= 4 {
+        hand_few(out, from, first, n);
+        return;
+    }
+    hand_many(out, from, first, n);
+}
+
+// Whether a tree misses and is sound, so that nothing below it is read.
+fn passes(query: Lanes, nodes: usize, t: BvhTree) -> bool
+    requires { ⌜ Topped query ⌝ }
+    ensures { λ r. ⌜ r ≡ passesOver (plainOf query) nodes t ⌝ }
+{
+    if crate::boxes::meets(query, t.min, t.max, t.node_index1, t.node_index2) {
+        return false;
+    }
+    !crate::refusals::range_refused(t, nodes)
+}
+
+// The first tree from `from` on that is refused or meets, or `upto`.
+fn pass_trees(query: Lanes, nodes: usize, tree_bytes: &[u8], from: usize, upto: usize) -> usize
+    requires { ⌜ (from ≤ upto) × (upto ≤ 65535) × (16 * upto ≤ length (now «tree_bytes»)) ⌝ }
+    requires { ⌜ Topped query ⌝ }
+    ensures { λ r. ⌜ PassedUpTo (plainOf query) nodes (now («tree_bytes» .entry)) from upto r ⌝ }
+{
+    let mut t = from;
+    while t < upto && passes(query, nodes, records::tree_at(tree_bytes, 16 * t)) {
+        t += 1;
+    }
+    t
+}
+
+// The nodes of the range are read. The one place where a walk stores.
+fn through(
+    s: WalkState,
+    query: Lanes,
+    sizes: Sizes,
+    node_bytes: &[u8],
+    tree_bytes: &[u8],
+    out: &mut [u16],
+) -> WalkState
+    requires { ⌜ Ready (lentOf (plainOf query) sizes (now «node_bytes») (now «tree_bytes»)) (now out) s ⌝ }
+    requires { ⌜ Topped query ⌝ }
+    ensures { λ r. ⌜ (Came (lentOf (plainOf query) sizes (now («node_bytes» .entry)) (now («tree_bytes» .entry)))
+        s (now (out .entry)) (now (out .exit)) r) × (insideRange r ≡ false) ⌝ }
+{
+    let mut s = s;
+    while s.inside() {
+        let step = s.at_node(query, sizes.items, node_bytes);
+        hand_out(out, s.handed, step.first, step.count);
+        s = step.state;
+    }
+    s
+}
+
+// Trees are passed over, and the first that is not is read, with its range.
+fn advance(
+    s: WalkState,
+    upto: usize,
+    query: Lanes,
+    sizes: Sizes,
+    node_bytes: &[u8],
+    tree_bytes: &[u8],
+    out: &mut [u16],
+) -> WalkState
+    requires { ⌜ Ready (lentOf (plainOf query) sizes (now «node_bytes») (now «tree_bytes»)) (now out) s ⌝ }
+    requires { ⌜ (more upto s ≡ true) × (insideRange s ≡ false) × (upto ≤ sizes .trees) ⌝ }
+    requires { ⌜ Topped query ⌝ }
+    ensures { λ r. ⌜ (Came (lentOf (plainOf query) sizes (now («node_bytes» .entry)) (now («tree_bytes» .entry)))
+        s (now (out .entry)) (now (out .exit)) r) × (insideRange r ≡ false)
+        × (left (lentOf (plainOf query) sizes (now («node_bytes» .entry)) (now («tree_bytes» .entry))) r
+        < left (lentOf (plainOf query) sizes (now («node_bytes» .entry)) (now («tree_bytes» .entry))) s) ⌝ }
+{
+    let t = pass_trees(query, sizes.nodes, tree_bytes, s.tree, upto);
+    let p = s.ahead(t);
+    if t < upto {
+        let e = p.at_tree(query, sizes.nodes, tree_bytes);
+        return through(e, query, sizes, node_bytes, tree_bytes, out);
+    }
+    p
+}
+
+// On from s, which stands outside a range, up to the tree `upto`.
+fn read_trees(
+    s: WalkState,
+    upto: usize,
+    query: Lanes,
+    sizes: Sizes,
+    node_bytes: &[u8],
+    tree_bytes: &[u8],
+    out: &mut [u16],
+) -> WalkState
+    requires { ⌜ Ready (lentOf (plainOf query) sizes (now «node_bytes») (now «tree_bytes»)) (now out) s ⌝ }
+    requires { ⌜ (insideRange s ≡ false) × (upto ≤ sizes .trees) ⌝ }
+    requires { ⌜ Topped query ⌝ }
+    ensures { λ r. ⌜ (Came (lentOf (plainOf query) sizes (now («node_bytes» .entry)) (now («tree_bytes» .entry)))
+        s (now (out .entry)) (now (out .exit)) r) × (insideRange r ≡ false) × (more upto r ≡ false) ⌝ }
+{
+    let mut s = s;
+    while s.unfinished(upto) {
+        s = advance(s, upto, query, sizes, node_bytes, tree_bytes, out);
+    }
+    s
+}
+
+// Records are read until none is left. `read_trees` is called at two places, so that it is compiled by itself: in sight of what turned
+// the query, the compiler would turn it back and compare number by number.
 pub fn run(
     query: Query,
     sizes: Sizes,
@@ -76,11 +214,12 @@ pub fn run(
     ensures { λ r. ⌜ Ran (walkFrom (lentOf query sizes (now («node_bytes» .entry)) (now («tree_bytes» .entry))) started)
         (now (out .entry)) (now (out .exit)) r ⌝ }
 {
-    let mut s = WalkState::start();
-    while s.unfinished(sizes.trees) {
-        let step = s.step(query, sizes, node_bytes, tree_bytes);
-        hand_out(out, s.handed, step.first, step.count);
-        s = step.state;
+    let lanes = crate::boxes::lanes_of(query);
+    let start = WalkState::start();
+    let few = crate::state::lesser(sizes.trees, 1024);
+    let s = read_trees(start, few, lanes, sizes, node_bytes, tree_bytes, out);
+    if few < sizes.trees {
+        return read_trees(s, sizes.trees, lanes, sizes, node_bytes, tree_bytes, out);
     }
     s
 }

@@ -1,5 +1,6 @@
 // A walk's state goes in by value and comes back one record further, with its read count and the run of positions that it hands out.
 // A step stores nothing.
+use crate::boxes::Lanes;
 use crate::boxes::Query;
 use crate::core::WalkRefusal;
 use base::numbers::Position;
@@ -11,6 +12,8 @@ ghost use lib.ListN.{length};
 ghost use Rattle.records.specs.Records.{nodeAt, treeAt};
 ghost use Rattle.walk.specs.Step.{lentOf, quiet, refused, atTree, strideOf, leafStatus, handing, started, atNode, more, stepOf};
 ghost use Rattle.walk.specs.steps.Contracts.{Steppable, Stepped};
+ghost use Rattle.walk.specs.steps.Lanes.{plainOf, Topped};
+ghost use Rattle.walk.specs.steps.Passing.{aheadAt, insideRange};
 
 // How many nodes, trees and items there are.
 pub struct Sizes {
@@ -53,7 +56,7 @@ fn quiet(state: WalkState) -> Step
     }
 }
 
-fn lesser(a: usize, b: usize) -> usize
+pub fn lesser(a: usize, b: usize) -> usize
     ensures { λ r. ⌜ r ≡ min a b ⌝ }
 {
     if b < a { b } else { a }
@@ -107,6 +110,33 @@ impl WalkState {
         }
     }
 
+    // Whether a node of the range is left to read.
+    pub fn inside(self) -> bool
+        ensures { λ r. ⌜ r ≡ insideRange self ⌝ }
+    {
+        let status = self.status;
+        match status {
+            Status::Going => self.at < self.last,
+            Status::Stopped(_) => false,
+        }
+    }
+
+    // The trees before `tree` are passed over, each of them read.
+    pub fn ahead(self, tree: usize) -> WalkState
+        requires { ⌜ (self .tree ≤ tree) × (tree ≤ 65535) × (self .reads < 4294967296) ⌝ }
+        ensures { λ r. ⌜ r ≡ aheadAt tree self ⌝ }
+    {
+        let read = self.reads + (tree - self.tree);
+        WalkState {
+            tree,
+            at: self.at,
+            last: self.last,
+            reads: read,
+            handed: self.handed,
+            status: Status::Going,
+        }
+    }
+
     // The walk stops at the record just read, which counts.
     fn refused(self, why: WalkRefusal) -> WalkState
         requires { ⌜ self .reads < 4294967296 ⌝ }
@@ -124,15 +154,16 @@ impl WalkState {
     }
 
     // The next tree record is read.
-    fn at_tree(self, query: Query, nodes: usize, tree_bytes: &[u8]) -> WalkState
+    pub fn at_tree(self, query: Lanes, nodes: usize, tree_bytes: &[u8]) -> WalkState
         requires { ⌜ (16 * self .tree + 16 ≤ length (now «tree_bytes»)) × (self .tree < 65536) × (self .reads < 4294967296) ⌝ }
-        ensures { λ r. ⌜ r ≡ atTree query nodes (treeAt (now («tree_bytes» .entry)) (16 * self .tree)) self ⌝ }
+        requires { ⌜ Topped query ⌝ }
+        ensures { λ r. ⌜ r ≡ atTree (plainOf query) nodes (treeAt (now («tree_bytes» .entry)) (16 * self .tree)) self ⌝ }
     {
         let t = records::tree_at(tree_bytes, 16 * self.tree);
         if crate::refusals::range_refused(t, nodes) {
             return self.refused(WalkRefusal::TreeRange);
         }
-        if crate::boxes::meets(query, t.min, t.max) {
+        if crate::boxes::meets(query, t.min, t.max, t.node_index1, t.node_index2) {
             let first = crate::refusals::number(t.node_index1);
             let last = crate::refusals::number(t.node_index2);
             WalkState {
@@ -180,16 +211,17 @@ impl WalkState {
     }
 
     // The next node record of the range is read.
-    fn at_node(self, query: Query, items: usize, node_bytes: &[u8]) -> Step
+    pub fn at_node(self, query: Lanes, items: usize, node_bytes: &[u8]) -> Step
         requires { ⌜ (16 * self .at + 16 ≤ length (now «node_bytes»)) × (self .at < 65535) × (self .reads < 4294967296) ⌝ }
         requires { ⌜ (self .handed ≤ items) × (items ≤ 65535) ⌝ }
-        ensures { λ r. ⌜ Stepped (atNode query items (nodeAt (now («node_bytes» .entry)) (16 * self .at)) self) r ⌝ }
+        requires { ⌜ Topped query ⌝ }
+        ensures { λ r. ⌜ Stepped (atNode (plainOf query) items (nodeAt (now («node_bytes» .entry)) (16 * self .at)) self) r ⌝ }
     {
         let n = crate::reader::node_numbered(node_bytes, self.at);
         if crate::refusals::node_refused(n, self.at, self.last, items) {
             return quiet(self.refused(WalkRefusal::NodeRecord));
         }
-        if crate::boxes::meets(query, n.min, n.max) {
+        if crate::boxes::meets(query, n.min, n.max, n.item_id, n.item_count) {
             return self.hand_over(n, items);
         }
         quiet(WalkState {
@@ -208,10 +240,11 @@ impl WalkState {
         requires { ⌜ more (sizes .trees) self ≡ true ⌝ }
         ensures { λ r. ⌜ Stepped (stepOf (lentOf query sizes (now («node_bytes» .entry)) (now («tree_bytes» .entry))) self) r ⌝ }
     {
+        let lanes = crate::boxes::lanes_of(query);
         if self.at < self.last {
-            self.at_node(query, sizes.items, node_bytes)
+            self.at_node(lanes, sizes.items, node_bytes)
         } else {
-            quiet(self.at_tree(query, sizes.nodes, tree_bytes))
+            quiet(self.at_tree(lanes, sizes.nodes, tree_bytes))
         }
     }
 }

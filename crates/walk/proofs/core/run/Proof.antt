@@ -1,79 +1,84 @@
--- `core::run` meets its contract. The loop's invariant: the whole walk is what has been handed out so far, followed by the walk from the present state.
--- The measure is how many records can be left.
+-- `core::run` meets its contract: the first trees, and the others if there are more; two ways put together.
+use borrow.Author.Needs.{needs}
 use Rattle.walk.proofs.core.run.Statement.{statement}
 use Rattle.walk.proofs.core.run.Tie as tie
-use mathlib.Core.Path.{_≡_, sym, subst, _∙_}
-use mathlib.Core.Bool.{true}
-use Rattle.walk.specs.Step.{lentOf, more}
-use Rattle.walk.specs.Walks.{left}
+use native.Mathlib.Omega.{arith}
+use Prim.Native.Nat.{ℕ}
+use mathlib.Core.Bool.{false}
+use mathlib.Core.Path.{_≡_, refl, sym, ap, subst, _∙_}
+use Rattle.walk.specs.Step.{Lent, lentOf, more, started}
+use Rattle.walk.specs.steps.Lanes.{plainOf}
+use Rattle.walk.specs.steps.Passing.{insideRange, Ready}
+use Rattle.walk.specs.declared.state.WalkState.{WalkState}
 use Rattle.walk.proofs.Running as running
 
-abbrev Inv-loop : tie.InvT-loop
-Inv-loop query sizes node-bytes tree-bytes out₀ s₀ out s = running.Running (lentOf query sizes node-bytes tree-bytes) out₀ out s
+lanes-of-requires : tie.Need-lanes-of-requires
+lanes-of-requires c κs = search needs
 
-abbrev μ-loop : tie.MeasureT-loop
-μ-loop query sizes node-bytes tree-bytes out₀ s₀ out s = left (lentOf query sizes node-bytes tree-bytes) s
+start-requires : tie.Need-start-requires
+start-requires c κs = search needs
 
-start-requires : tie.Need-start-requires Inv-loop μ-loop
-start-requires c κs = tt
+lesser-requires : tie.Need-lesser-requires
+lesser-requires c κs = search needs
 
-loop-holds : tie.Need-loop-holds Inv-loop μ-loop
-loop-holds c =
-    let start = c .before .before .before .before in
-    let a = start .args in
-    let l = lentOf (a .query) (a .sizes) (a .node-bytes .now) (a .tree-bytes .now) in
-    subst (running.Running l (a .out .now) (a .out .now)) (sym (c .start .ensures)) (running.begun l (a .out .now) (start .pre .0) (start .pre .1))
+-- from behind the first trees: what they were asked with
+abbrev begun : tie.After-read-trees → tie.After-start
+begun c = c .before .before .before
 
-unfinished-requires : tie.Need-unfinished-requires Inv-loop μ-loop
-unfinished-requires c κs = tt
+abbrev turned : tie.After-read-trees → tie.After-lanes-of
+turned c = begun c .before
 
--- a record is left where the loop goes on
-abbrev entered : tie.Then1 Inv-loop μ-loop → tie.Start Inv-loop μ-loop
-entered c = c .before .before .before .before .before .before .before
+abbrev entered : tie.After-read-trees → tie.Start
+entered c = turned c .before .before .before .before
 
-more-left : (c : tie.Then1 Inv-loop μ-loop) → more (entered c .args .sizes .trees) (c .before .before .loop .s) ≡ true
-more-left c = sym (c .before .unfinished .ensures) ∙ c .if1 .taken
+read-trees-requires : tie.Need-read-trees-requires
+read-trees-requires c κs =
+    let few = c .before in
+    let begin = few .before in
+    let lanes = begin .before in
+    let s = lanes .before .before .before .before in
+    let a = s .args in
+    let l = lentOf (plainOf (lanes .lanes-of .result)) (a .sizes) (a .node-bytes .now) (a .tree-bytes .now) in
+    let ready = running.begun l (a .out .now) (s .pre .0) (s .pre .1) in
+    let b = subst (λ (u : WalkState). Ready l (a .out .now) u × (insideRange u ≡ false)) (sym (begin .start .ensures)) (ready, refl) in
+    (b .0, ((b .1, omega (arith, few .lesser .ensures)), lanes .lanes-of .ensures .1))
 
-step-requires : tie.Need-step-requires Inv-loop μ-loop
-step-requires c κs = (c .before .before .loop .inv .fits, more-left c)
+read-trees-requires-2 : tie.Need-read-trees-requires-2
+read-trees-requires-2 c κs =
+    let went = c .before .before .before .before .before in
+    (went .read-trees .ensures .0 .ready, ((went .read-trees .ensures .1, omega arith), turned went .lanes-of .ensures .1))
 
-hand-out-requires : tie.Need-hand-out-requires Inv-loop μ-loop
-hand-out-requires c κs =
-    let stepped = c .before in
-    let test = stepped .before in
-    (running.room _ _ _ _ (test .before .before .loop .inv) (more-left test) _ (stepped .step .ensures), stepped .step .ensures .short-run)
+same-length : tie.Need-same-length
+same-length c = search needs
 
-loop-less : tie.Need-loop-less Inv-loop μ-loop
-loop-less c =
-    let stepped = c .before .before .before .before .before in
-    let test = stepped .before in
-    running.falls _ _ _ _ (test .before .before .loop .inv) (more-left test) _ (stepped .step .ensures)
+returns : tie.Need-returns
+returns c =
+    let last = c .before .before in
+    let went = last .before .before .before .before .before .before in
+    let came = running.onto _ _ _ _ _ _ _ (went .read-trees .ensures .0) (last .read-trees2 .ensures .0) in
+    running.done _ _ _ _ _ _ _ _ _ (turned went .lanes-of .ensures .0) (begun went .start .ensures) came (last .read-trees2 .ensures .2)
 
-loop-again : tie.Need-loop-again Inv-loop μ-loop
-loop-again c =
-    let stored = c .before .before .before in
-    let stepped = stored .before .before in
-    let test = stepped .before in
-    running.again _ _ _ _ (test .before .before .loop .inv) (more-left test) _ (stepped .step .ensures) _ (stored .hand-out .ensures)
+same-length-2 : tie.Need-same-length-2
+same-length-2 c = search needs
 
-same-length : tie.Need-same-length Inv-loop μ-loop
-same-length c = running.same-length _ _ _ _ (c .before .before .loop .inv)
-
-returns : tie.Need-returns Inv-loop μ-loop
-returns c = running.finished _ _ _ _ (c .before .before .loop .inv) (sym (c .before .unfinished .ensures) ∙ c .if1 .left)
+returns-2 : tie.Need-returns-2
+returns-2 c =
+    let went = c .before .before .before .before in
+    let trees = entered went .args .sizes .trees in
+    let all : went .before .before .lesser .result ≡ trees = omega (arith, went .before .before .lesser .ensures) in
+    let none = subst (λ (n : ℕ). more n (went .read-trees .result) ≡ false) all (went .read-trees .ensures .2) in
+    running.done _ _ _ _ _ _ _ _ _ (turned went .lanes-of .ensures .0) (begun went .start .ensures) (went .read-trees .ensures .0) none
 
 pub run-spec : {M : Type 1} → statement M
 run-spec =
     tie.close
     (tie.spec
-    Inv-loop
-    μ-loop
+    lanes-of-requires
     start-requires
-    loop-holds
-    unfinished-requires
-    step-requires
-    hand-out-requires
-    loop-less
-    loop-again
+    lesser-requires
+    read-trees-requires
+    read-trees-requires-2
     same-length
-    returns)
+    returns
+    same-length-2
+    returns-2)
