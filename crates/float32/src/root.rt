@@ -17,24 +17,24 @@ fn isqrt(n: u64, guess: u64) -> u64
     root
 }
 
-// 1 or √2, in units of 2^-31.
+// 1 or √2, in units of 2^-30.
 fn factor(odd: u32) -> u64
-    ensures { λ r. ⌜ (2147483648 ≤ r) × (r ≤ 3037000500) ⌝ }
+    ensures { λ r. ⌜ (1073741824 ≤ r) × (r ≤ 1518500250) ⌝ }
 {
-    if odd == 0 { 2147483648 } else { 3037000500 }
+    if odd == 0 { 1073741824 } else { 1518500250 }
 }
 
 // √(significand * 2^(23 + odd)) within 0.007 %, so that one step of `isqrt` is nearly always enough. For significand / 2^23 = 2 - y it is the cubic
-// nearest to √(2 - y), in units of 2^-31.
+// nearest to √(2 - y), in units of 2^-30.
 fn guess(significand: u32, odd: u32) -> u64
     requires { ⌜ (0x0080_0000 ≤ significand) × (significand < 0x0100_0000) ⌝ }
     ensures { λ r. ⌜ (0x0080_0000 ≤ r) × (r < 0x0200_0000) ⌝ }
 {
     let y = (0x0100_0000 - significand) as u64;
-    let bend = 71131262 + y * 53552716 / 0x0080_0000;
-    let slope = 764894619 + y * bend / 0x0080_0000;
-    let root = 3037211312 - y * slope / 0x0080_0000;
-    root * factor(odd) / 0x0080_0000_0000
+    let bend = 35565631 + y * 26776358 / 0x0080_0000;
+    let slope = 382447310 + y * bend / 0x0080_0000;
+    let root = 1518605656 - y * slope / 0x0080_0000;
+    root * factor(odd) / 0x0020_0000_0000
 }
 
 // The number significand * 2^exponent / 2^275, with a significand of 24 digits.
