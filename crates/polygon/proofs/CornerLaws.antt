@@ -120,13 +120,15 @@ pub length-link-bytes : (links : List ℕ) (p : ℕ) → length (linkBytes links
 unfolding linkBytes
 length-link-bytes links p = joined (joined (number-bytes 2 _) (number-bytes 2 _)) (number-bytes 2 _) .size
 
+first-of : (l : List ℕ) (k : ℕ) → getD l k 0 ≡ getD (drop k l) 0 0
+first-of l k = ap (λ (j : ℕ). getD l j 0) (sym (add-zero k)) ∙ sym (getD-drop k l 0 0)
+
 -- The record of polygon p is of what stands from its first byte on.
 pub record-alone : (links bytes other : List ℕ) (p : ℕ) → drop (16 * p) bytes ≡ drop (16 * p) other
     → linkedRecord links bytes p ≡ linkedRecord links other p
 unfolding linkedRecord
 record-alone links bytes other p e =
-    let first : (l : List ℕ) → getD l (16 * p) 0 ≡ getD (drop (16 * p) l) 0 0 = λ l. ap (λ (k : ℕ). getD l k 0) (sym (add-zero (16 * p))) ∙ sym (getD-drop (16 * p) l 0 0) in
-    let kind : getD bytes (16 * p) 0 ≡ getD other (16 * p) 0 = first bytes ∙ ap (λ (l : List ℕ). getD l 0 0) e ∙ sym (first other) in
+    let kind : getD bytes (16 * p) 0 ≡ getD other (16 * p) 0 = first-of bytes (16 * p) ∙ ap (λ (l : List ℕ). getD l 0 0) e ∙ sym (first-of other (16 * p)) in
     rw (e, kind)
 
 -- a triangle's record: its first ten bytes, and the links

@@ -83,7 +83,8 @@ corners-hold n bytes h =
           let next = next-slot s in
           let own = corners-three bytes (s / 3) in
           let test = subst (λ (x : ℕ). not (eqb x none) ≡ true) (at s below) t in
-          let nextAt = ap (λ (i : ℕ). getD (cornersOf n bytes) i 0) (next .2) ∙ corner-stands n bytes (s / 3) (next .0) (omega (arith, long, below)) (next .1) in (
+          let polygon : s / 3 < n = omega (arith, long, below) in
+          let nextAt = ap (λ (i : ℕ). getD (cornersOf n bytes) i 0) (next .2) ∙ corner-stands n bytes (s / 3) (next .0) polygon (next .1) in (
             subst (λ (x : ℕ). x < 32768) (sym (at s below)) (own .small (s % 3) (s % 3) (omega arith) (omega arith) test),
             subst (λ (x : ℕ). x < 32768) (sym nextAt) (own .small (s % 3) (next .0) (omega arith) (next .1) test),
           );

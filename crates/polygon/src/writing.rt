@@ -18,7 +18,7 @@ fn word_or(x: f32, nan: u32) -> u32
     if x != x { nan } else { float32::words::bits(x) }
 }
 
-// A word's low half: the bytes are cut from what does not fit.
+// A word's halves.
 fn low_of(word: u32) -> u16
     ensures { λ r. ⌜ r ≡ word % 65536 ⌝ }
 {

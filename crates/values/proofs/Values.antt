@@ -1,10 +1,17 @@
 -- Document 01, "Values to check": those marked to be proved, each by computing the definition that a contract cites. Assumes nothing.
 use mathlib.Core.Path.{_≡_, refl}
 use mathlib.Core.Bool.{false}
+use mathlib.Core.List.{List, [], _∷_}
+use Prim.Native.Nat.{ℕ}
 use lib.IntN.{pos, negsuc}
 use lib.Ieee.{nan, inf, neg, lt, isNan, toSigned, binary32, ofBits, toBits}
+use Rattle.base.specs.LittleEndian.{littleEndian}
 use Rattle.float32.specs.Casts.{shortOf, clampOf, truncatedOf, vertexOf}
 use Rattle.float32.specs.SquareRoot.{sqrtOf}
+use Rattle.polygon.specs.Halves.{fourBytes, halvesBytes}
+use Rattle.polygon.specs.Polygons.{wordOr, triangleHalves, polygonBytes}
+use Rattle.polygon.specs.declared.Polygon.{Polygon}
+use Rattle.polygon.specs.declared.Polygon.the-variants.{Triangle}
 
 -- to_short of 40000 is -25536
 pub short-40000 : shortOf (ofBits binary32 0x471c_4000) ≡ negsuc 25535
@@ -35,3 +42,21 @@ vertex-minus-0-9 = refl
 pub sqrt-2 : toBits binary32 (sqrtOf binary32 (ofBits binary32 0x4000_0000)) ≡ 0x3fb5_04f3
 unfolding sqrtOf ofBits toBits
 sqrt-2 = refl
+
+-- the record of a triangle with vertices 1 2 3 and links −1, by its area; the word beside the area is for a NaN alone
+abbrev triangle : ℕ → ℕ → List ℕ
+triangle area beside = polygonBytes (Triangle (ofBits binary32 area) beside 1 2 3 (negsuc 0) (negsuc 0) (negsuc 0))
+
+abbrev triangleBytes : List ℕ
+triangleBytes =
+    0x00 ∷ 0x00 ∷ 0x80 ∷ 0x3f ∷ 0x01 ∷ 0x00 ∷ 0x02 ∷ 0x00 ∷ 0x03 ∷ 0x00 ∷ 0xff ∷ 0xff ∷ 0xff ∷ 0xff ∷ 0xff ∷ 0xff ∷ []
+
+-- area 1
+pub triangle-1 : (beside : ℕ) → triangle 0x3f80_0000 beside ≡ triangleBytes
+unfolding polygonBytes halvesBytes fourBytes littleEndian triangleHalves wordOr isNan ofBits toBits
+triangle-1 beside = refl
+
+-- area bits 3F800005 give the same
+pub triangle-3f800005 : (beside : ℕ) → triangle 0x3f80_0005 beside ≡ triangleBytes
+unfolding polygonBytes halvesBytes fourBytes littleEndian triangleHalves wordOr isNan ofBits toBits
+triangle-3f800005 beside = refl

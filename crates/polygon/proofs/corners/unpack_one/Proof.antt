@@ -39,10 +39,13 @@ same-length c = search needs
 returns : tie.Need-returns
 unfolding cornersAt
 returns c =
-    let triangle = c .before .before .before .before .before .before .before in
-    let s = triangle .before .before .before .before in
-    let kind = sym (triangle .before .kind-at .ensures) ∙ triangle .if1 .taken in
-    c .before .before .set-three .ensures ∙ simp (eq-eqb _ 0 kind, c .before .before .before .before .before .before .corner .ensures, c .before .before .before .before .before .corner2 .ensures, c .before .before .before .before .corner3 .ensures)
+    let set = c .before .before in
+    let third = set .before .before in
+    let second = third .before in
+    let first = second .before in
+    let test = first .before in
+    let kind = sym (test .before .kind-at .ensures) ∙ test .if1 .taken in
+    set .set-three .ensures ∙ simp (eq-eqb _ 0 kind, first .corner .ensures, second .corner2 .ensures, third .corner3 .ensures)
 
 same-length-2 : tie.Need-same-length-2
 same-length-2 c = search needs
