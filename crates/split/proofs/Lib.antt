@@ -3,5 +3,5 @@ mod Counting
 pub mod DivideLaws
 mod LaneLaws
 mod Parting
-mod Rotated
 mod Steps
+mod Uniting

@@ -7,7 +7,7 @@ use mathlib.Core.Path.{_≡_, refl, sym, ap, _∙_, fun-ext}
 use mathlib.Core.Bool.{Bool, true, false, not}
 use mathlib.Core.List.{List, [], _∷_, _++_, append-assoc, append-nil}
 use lib.ListN.{length, getD, set, take, drop, length-set, drop-of-length-le}
-use lib.Seq.{take-suc-set, take-set-le, drop-set-lt, length-take-le, paste}
+use lib.Seq.{take-suc-set, take-set-le, drop-set-lt, length-take-le}
 use lib.Ieee.{Float, lt}
 use Rattle.base.specs.Lists.{oneIf, sift}
 use Rattle.base.proofs.StoreLaws.{rest-one}
@@ -100,16 +100,14 @@ module _ (test : ℕ → Bool) (a₀ t₀ : List ℕ) where
             ∙ q .back);
       }
 
-  pub parted : (a t : List ℕ) (k i : ℕ) → Parting test a₀ t₀ a t k i → length a₀ ≤ i → length a₀ ≤ length t₀
-      → Parted test a₀ (paste a k t (length a₀ - k)) k
-  parted a t k i q h room =
+  pub parted : (a t : List ℕ) (k i : ℕ) → Parting test a₀ t₀ a t k i → length a₀ ≤ i → Parted test a₀ a t k
+  parted a t k i q h =
       let n : i ≡ length a₀ = omega arith in
       let none : drop i a₀ ≡ [] = drop-of-length-le a₀ h in
-      let over : drop (k + (length a₀ - k)) a ≡ [] = drop-of-length-le a {i = k + (length a₀ - k)} (omega arith) in
       let front : take k a ≡ sift test a₀ = sym (append-nil (take k a)) ∙ ap (λ (l : List ℕ). take k a ++ sift test l) (sym none) ∙ q .front in
       let back : take (length a₀ - k) t ≡ sift (λ p. not (test p)) a₀ =
       ap (λ (m : ℕ). take (m - k) t) (sym n)
       ∙ sym (append-nil (take (i - k) t))
       ∙ ap (λ (l : List ℕ). take (i - k) t ++ sift (λ p. not (test p)) l) (sym none)
       ∙ q .back in
-      record { list = rw (over, append-nil, front, back); count = sym (length-take-le k a (omega arith)) ∙ ap length front }
+      record { passed = front; others = back; count = sym (length-take-le k a (omega arith)) ∙ ap length front }

@@ -1,88 +1,117 @@
--- The steps of `divide` lead to the rule: the partition, the sort where a group is empty, and the leading group first.
-use Prim.Native.Nat.{ℕ, _+_, _-_, _/_, _≤_}
+-- The steps of `divide_by` lead to the rule: the partition, the groups united, and the sort where a group is empty.
+use Prim.Native.Nat.{ℕ, _+_, _-_, _/_, _≤_, _<_}
 use native.Mathlib.Omega.{arith}
-use mathlib.Core.Path.{_≡_, refl, sym, ap, ap₂, _∙_}
-use mathlib.Core.Bool.{Bool, true, false, not, cond}
-use mathlib.Core.List.{List, _++_}
-use lib.ListN.{length, take, drop, length-append, take-append-drop}
-use lib.Seq.{length-take-le, take-append-seam, drop-append-seam}
-use Rattle.base.specs.Lists.{sift, Within}
+use mathlib.Core.Path.{_≡_, refl, sym, ap, subst, _∙_}
+use mathlib.Core.Bool.{Bool, true, false, cond, _||_}
+use mathlib.Core.List.{List, [], _∷_, _++_, append-nil}
+use lib.Dec.{eqb}
+use lib.ListN.{length, take, drop, length-append}
+use borrow.Author.Tests.{lt-ltb, le-ltb, eqb-true, eqb-false, ne-eqb}
+use Rattle.base.specs.Lists.{Within}
 use Rattle.base.proofs.ListLaws.{length-both}
-use Rattle.base.proofs.SortLaws.{sort-length}
-use Rattle.base.proofs.WithinLaws.{within-sift, within-append}
+use Rattle.base.proofs.Truth.{neither, either-second, cond-both, cond-through}
+use Rattle.base.proofs.WithinLaws.{within-append}
 use Rattle.math.specs.declared.vec3.Vec3.{Vec3}
 use Rattle.math.specs.declared.axis.Axis.{Axis}
 use Rattle.entries.specs.declared.boxes.BoxWords.{BoxWords}
-use Rattle.split.specs.declared.groups.Counts.{Counts}
 use Rattle.entries.specs.Average.{averageOf}
+use Rattle.sorting.specs.Sorted.{sortBoxes}
+use Rattle.split.specs.declared.groups.Counts.{Counts}
 use Rattle.split.specs.Rule.{above, axisOf, chosen, one, two, stuck, groupOne, groupTwo, twoLeads, firstOf, secondOf, Divided}
-use Rattle.sorting.specs.Sorted.{atMost, sortBoxes}
-use Rattle.split.specs.steps.Groups.{countsOf, axisBy, Parted, Settled, LeaderFirst}
+use Rattle.split.specs.steps.Groups.{countsOf, axisBy, Parted, LeaderFirst, Settled}
 use Rattle.split.proofs.DivideLaws.{divide-total, divide-some-first, divide-some-second}
 
--- where the groups meet in a list that holds one after the other
-pub record Met (g₁ g₂ v : List ℕ) (h : ℕ) : Type 0 where
-  pub list : v ≡ g₁ ++ g₂
-  pub place : h ≡ length g₁
+module _ (at : ℕ → BoxWords) where
+  -- ---- two groups united
 
-met-either : (b : Bool) (g₁ g₂ s : List ℕ) (n : ℕ) → length s ≡ n
-    → Met (cond b (take (n / 2) s) g₁) (cond b (drop (n / 2) s) g₂) (cond b s (g₁ ++ g₂)) (cond b (n / 2) (length g₁))
-met-either true g₁ g₂ s n e =
-    record { list = sym (take-append-drop (n / 2) s); place = sym (length-take-le (n / 2) s (omega arith)) }
-met-either false g₁ g₂ s n e = record { list = refl; place = refl }
+  pub united-within : (n : ℕ) (g₁ g₂ w : List ℕ) (r : ℕ) → LeaderFirst at g₁ g₂ w r → Within n g₁ → Within n g₂ → Within n w
+  united-within n g₁ g₂ w r l a b =
+      rw (l .list) (cond-both (Within n) (twoLeads at g₁ g₂) (g₂ ++ g₁) (g₁ ++ g₂) (within-append n g₂ g₁ b a) (within-append n g₁ g₂ a b))
 
--- the two parts of such a list
-met-first : {g₁ g₂ v : List ℕ} {h : ℕ} → Met g₁ g₂ v h → take h v ≡ g₁
-met-first {g₁} {g₂} m = rw (m .list, m .place) (take-append-seam g₁ g₂)
+  united-length : (g₁ g₂ w : List ℕ) (r : ℕ) → LeaderFirst at g₁ g₂ w r → length w ≡ length g₁ + length g₂
+  united-length g₁ g₂ w r l =
+      rw (l .list)
+      (cond-both (λ (v : List ℕ). length v ≡ length g₁ + length g₂) (twoLeads at g₁ g₂) (g₂ ++ g₁) (g₁ ++ g₂)
+      (omega (arith, length-append g₂ g₁)) (length-append g₁ g₂))
 
-met-second : {g₁ g₂ v : List ℕ} {h : ℕ} → Met g₁ g₂ v h → drop h v ≡ g₂
-met-second {g₁} {g₂} m = rw (m .list, m .place) (drop-append-seam g₁ g₂)
+  -- where one is empty the other has all, and their order says nothing
+  all-in-one : (g₁ g₂ w : List ℕ) (n r : ℕ) → length g₁ + length g₂ ≡ n → 2 ≤ n → LeaderFirst at g₁ g₂ w r
+      → (eqb (length g₁) 0 || eqb (length g₁) n) ≡ true → (w ≡ g₁ ++ g₂) × (r ≡ n)
+  unfolding twoLeads
+  all-in-one [] g₂ w n r e h l s =
+      let b = lt-ltb 0 (length g₂) (omega arith) in
+      (l .list ∙ rw (b, append-nil), l .count ∙ rw b (omega arith))
+  all-in-one (x ∷ g₁) [] w n r e h l s =
+      let b = le-ltb (length (x ∷ g₁)) 0 (omega arith) in
+      (l .list ∙ rw b, l .count ∙ rw b (omega arith))
+  all-in-one (x ∷ g₁) (y ∷ g₂) w n r e h l s =
+      let some = ne-eqb (length (x ∷ g₁)) 0 (λ q. omega arith) in
+      let all : length (x ∷ g₁) ≡ n = eqb-true _ _ (either-second _ _ s some) in
+      absurd (omega arith)
 
--- either of them first
-turned : (b : Bool) (g₁ g₂ v : List ℕ) (h : ℕ) → Met g₁ g₂ v h
-    → Met (cond b g₂ g₁) (cond b g₁ g₂) (cond b (drop h v ++ take h v) v) (cond b (length v - h) h)
-turned true g₁ g₂ v h m =
-    record {
-      list = rw (met-second m, met-first m);
-      place = omega (arith, ap length (m .list), length-append g₁ g₂, m .place);
-    }
-turned false g₁ g₂ v h m = m
+  some-in-each : (g₁ g₂ w : List ℕ) (n r : ℕ) → length g₁ + length g₂ ≡ n → LeaderFirst at g₁ g₂ w r
+      → (eqb (length g₁) 0 || eqb (length g₁) n) ≡ false → r < n
+  some-in-each g₁ g₂ w n r e l s =
+      let t = neither _ _ s in
+      let some : length g₁ ≡ 0 → ⊥ = eqb-false _ _ (t .0) in
+      let not-all : length g₁ ≡ n → ⊥ = eqb-false _ _ (t .1) in
+      rw (l .count) (cond-both (λ (k : ℕ). k < n) (twoLeads at g₁ g₂) (length g₂) (length g₁) (omega arith) (omega arith))
 
-pub met-inside : {g₁ g₂ v : List ℕ} {h : ℕ} → Met g₁ g₂ v h → h ≤ length v
-met-inside {g₁} {g₂} m = omega (arith, ap length (m .list), length-append g₁ g₂, m .place)
+  -- by the test of the rule
+  by-test : (b : Bool) (s₁ s₂ g₁ g₂ w : List ℕ) (r : ℕ) → (b ≡ true → LeaderFirst at s₁ s₂ w r) → (b ≡ false → LeaderFirst at g₁ g₂ w r)
+      → LeaderFirst at (cond b s₁ g₁) (cond b s₂ g₂) w r
+  by-test true s₁ s₂ g₁ g₂ w r f g = f refl
+  by-test false s₁ s₂ g₁ g₂ w r f g = g refl
 
-pub parted-within : (test : ℕ → Bool) (n : ℕ) (ps u : List ℕ) (k : ℕ) → Parted test ps u k → Within n ps → Within n u
-parted-within test n ps u k p w =
-    rw (p .list)
-    (within-append n (sift test ps) (sift (λ q. not (test q)) ps) (within-sift n test ps w) (within-sift n (λ q. not (test q)) ps w))
+  both : (b : Bool) (g₁ g₂ : List ℕ) → cond b (g₂ ++ g₁) (g₁ ++ g₂) ≡ cond b g₂ g₁ ++ cond b g₁ g₂
+  both true g₁ g₂ = refl
+  both false g₁ g₂ = refl
 
-module _ (at : ℕ → BoxWords) (ps : List ℕ) where
-  pub chosen-by : (avg : Vec3) (c : Counts) (a : Axis) → avg ≡ averageOf at ps → c ≡ countsOf at avg ps → a ≡ axisBy (c .all) c
-      → above at avg a ≡ chosen at ps
-  unfolding chosen axisOf
-  chosen-by avg c a e f g = rw (g, f, e)
+  -- ---- the groups of the rule
 
-  pub parted-met : (u v : List ℕ) (k h : ℕ) → Parted (chosen at ps) ps u k → Settled at k u v h → Met (groupOne at ps) (groupTwo at ps) v h
-  unfolding groupOne groupTwo
-  parted-met u v k h p s =
-      let both : List ℕ = one at ps ++ two at ps in
-      let l : length u ≡ length ps = ap length (p .list) ∙ length-append (one at ps) (two at ps) ∙ length-both (chosen at ps) ps in
-      let n : length (sortBoxes at both) ≡ length ps = sort-length (atMost at) both ∙ ap length (sym (p .list)) ∙ l in
-      let m = met-either (stuck at ps) (one at ps) (two at ps) (sortBoxes at both) (length ps) n in
-      rw (s .list, s .begin, l, p .count, p .list) m
+  module _ (ps : List ℕ) where
+    pub chosen-by : (avg : Vec3) (c : Counts) (a : Axis) → avg ≡ averageOf at ps → c ≡ countsOf at avg ps → a ≡ axisBy (c .all) c
+        → above at avg a ≡ chosen at ps
+    unfolding chosen axisOf
+    chosen-by avg c a e f g = rw (g, f, e)
 
-  pub met-divided : (v w : List ℕ) (h r : ℕ) → 2 ≤ length ps → Met (groupOne at ps) (groupTwo at ps) v h → LeaderFirst at h v w r
-      → Divided at ps w r
-  unfolding firstOf secondOf
-  met-divided v w h r two-or-more m f =
-      let g₁ : List ℕ = groupOne at ps in
-      let g₂ : List ℕ = groupTwo at ps in
-      let b : twoLeads at (take h v) (drop h v) ≡ twoLeads at g₁ g₂ = ap₂ (twoLeads at) (met-first m) (met-second m) in
-      let o = turned (twoLeads at g₁ g₂) g₁ g₂ v h m in
-      let count : r ≡ length (firstOf at ps) = f .count ∙ ap (λ (t : Bool). cond t (length v - h) h) b ∙ o .place in
-      record {
-        list = f .list ∙ ap (λ (t : Bool). cond t (drop h v ++ take h v) v) b ∙ o .list;
-        count = count;
-        some = omega (arith, count, divide-some-first at ps two-or-more);
-        rest = omega (arith, count, divide-total at ps, divide-some-second at ps two-or-more);
-      }
+    pub parted-united : (u v w : List ℕ) (k r : ℕ) → length u ≡ length ps → Parted (chosen at ps) ps u v k
+        → LeaderFirst at (take k u) (take (length u - k) v) w r → LeaderFirst at (one at ps) (two at ps) w r
+    parted-united u v w k r e p l =
+        subst (λ (g : List ℕ). LeaderFirst at (one at ps) g w r) (ap (λ (n : ℕ). take (n - k) v) e ∙ p .others)
+        (subst (λ (g : List ℕ). LeaderFirst at g (take (length u - k) v) w r) (p .passed) l)
+
+    leads-divided : (w : List ℕ) (r : ℕ) → 2 ≤ length ps → LeaderFirst at (groupOne at ps) (groupTwo at ps) w r → Divided at ps w r
+    unfolding firstOf secondOf
+    leads-divided w r h l =
+        let g₁ : List ℕ = groupOne at ps in
+        let g₂ : List ℕ = groupTwo at ps in
+        let b : Bool = twoLeads at g₁ g₂ in
+        let count : r ≡ length (firstOf at ps) = l .count ∙ sym (cond-through length b g₂ g₁) in
+        record {
+          list = l .list ∙ both b g₁ g₂;
+          count = count;
+          some = omega (arith, count, divide-some-first at ps h);
+          rest = omega (arith, count, divide-total at ps, divide-some-second at ps h);
+        }
+
+    pub settled-divided : (w x : List ℕ) (r s : ℕ) → 2 ≤ length ps → LeaderFirst at (one at ps) (two at ps) w r → Settled at r w x s → Divided at ps x s
+    unfolding groupOne groupTwo
+    settled-divided w x r s h l t =
+        let n : ℕ = length ps in
+        let g₁ : List ℕ = one at ps in
+        let g₂ : List ℕ = two at ps in
+        let total : length g₁ + length g₂ ≡ n = length-both (chosen at ps) ps in
+        let long : length w ≡ n = united-length g₁ g₂ w r l ∙ total in
+        let sorted : List ℕ = sortBoxes at (g₁ ++ g₂) in
+        let cut : stuck at ps ≡ true → LeaderFirst at (take (n / 2) sorted) (drop (n / 2) sorted) x s =
+        λ e.
+        let a = all-in-one g₁ g₂ w n r total h l e in
+        subst (λ (v : List ℕ). LeaderFirst at (take (n / 2) (sortBoxes at v)) (drop (n / 2) (sortBoxes at v)) x s) (a .0)
+        (subst (λ (m : ℕ). LeaderFirst at (take (m / 2) (sortBoxes at w)) (drop (m / 2) (sortBoxes at w)) x s) long
+        (t .halved (omega (arith, a .1, long)))) in
+        let stands : stuck at ps ≡ false → LeaderFirst at g₁ g₂ x s =
+        λ e.
+        let q = t .stands (omega (arith, some-in-each g₁ g₂ w n r total l e, long)) in
+        rw (q .0, q .1) l in
+        leads-divided x s h (by-test (stuck at ps) (take (n / 2) sorted) (drop (n / 2) sorted) g₁ g₂ x s cut stands)

@@ -20,17 +20,19 @@ fn middle(n: usize) -> usize
     n / 2
 }
 
-// Sorts the places where a group is empty, to be cut in the middle; where the second group begins.
-fn settle(places: &mut [u32], temp: &mut [u32], entries: &[u32], k: usize) -> usize
+// Sorts the places where the first group has all of them, and cuts them in the middle; how many the first group has then.
+fn settle(places: &mut [u32], temp: &mut [u32], entries: &[u32], first: usize) -> usize
     requires { ⌜ (length (now places) ≤ length (now temp)) × (Within (length (now entries)) (now places)) ⌝ }
-    ensures { λ r. ⌜ Settled (boxAt (now (entries .entry))) k (now (places .entry)) (now (places .exit)) r ⌝ }
+    ensures { λ r. ⌜ Settled (boxAt (now (entries .entry))) first (now (places .entry)) (now (places .exit)) r ⌝ }
 {
     let n = places.len();
-    if k == 0 || k == n {
-        sorting::merging::sort(places, temp, entries);
-        return middle(n);
+    if first < n {
+        return first;
     }
-    k
+    sorting::merging::sort(places, temp, entries);
+    let h = middle(n);
+    crate::groups::paste(temp, 0, &places[h..n], n - h);
+    crate::groups::unite(places, temp, h)
 }
 
 // The box around the places, folded before they are moved, since with a NaN the order decides; and how many the first group has.
@@ -55,8 +57,8 @@ fn divide_by(
     let counts = crate::groups::count_below(entries, centres, places, avg);
     let axis = crate::groups::choose_axis(counts);
     let k = crate::groups::partition(places, temp, entries, centres, avg, axis);
-    let h = settle(places, temp, entries, k);
-    crate::groups::leader_first(places, temp, h)
+    let first = crate::groups::unite(places, temp, k);
+    settle(places, temp, entries, first)
 }
 
 // The first group, then the second, in place of the places, with `temp` to work in; their box, and how many the first has.

@@ -1,11 +1,11 @@
-// The two groups of a node's items: the counts that choose the axis, the partition, and the leading group first.
+// The two groups of a node's items: the counts that choose the axis, the partition, and both united, the leading group first.
 use base::numbers::Place;
 use math::axis::Axis;
 use math::vec3::Vec3;
 ghost use mathlib.Core.Path.{_≡_};
-ghost use mathlib.Core.List.{_++_};
-ghost use Prim.Native.Nat.{ℕ, _+_, _*_, _≤_, _<_};
-ghost use lib.ListN.{length, take, drop};
+ghost use mathlib.Core.List.{List};
+ghost use Prim.Native.Nat.{ℕ, _+_, _-_, _*_, _≤_, _<_};
+ghost use lib.ListN.{length, take};
 ghost use lib.Seq.{paste};
 ghost use lib.Ieee.{lt};
 ghost use Rattle.entries.specs.declared.boxes.BoxWords.{BoxWords};
@@ -114,8 +114,8 @@ pub fn paste(dst: &mut [u32], at: usize, src: &[u32], n: usize)
     }
 }
 
-// The places whose centre is above the average on the axis, then the others, in their order; how many are above.
-// Each place is stored at both ends, so that no branch waits for the comparison.
+// The places whose centre is above the average on the axis, to the front of `places`, the others to the front of `temp`, in their order;
+// how many are above. Each place is stored in both, so that no branch waits for the comparison.
 pub fn partition(
     places: &mut [u32],
     temp: &mut [u32],
@@ -125,7 +125,7 @@ pub fn partition(
     axis: Axis,
 ) -> usize
     requires { ⌜ (length (now places) ≤ length (now temp)) × (Within (length (now entries)) (now places)) × (Kept (now entries) (now centres)) ⌝ }
-    ensures { λ r. ⌜ Parted (above (boxAt (now (entries .entry))) avg axis) (now (places .entry)) (now (places .exit)) r ⌝ }
+    ensures { λ r. ⌜ Parted (above (boxAt (now (entries .entry))) avg axis) (now (places .entry)) (now (places .exit)) (now (temp .exit)) r ⌝ }
 {
     let n = places.len();
     let step = step_of(axis);
@@ -139,39 +139,29 @@ pub fn partition(
         k += one_if_above(entries, centres, Place(p), step, cut);
         i += 1;
     }
-    paste(places, k, temp, n - k);
     k
 }
 
-// The places from h on before the others.
-fn rotate(places: &mut [u32], temp: &mut [u32], h: usize)
-    requires { ⌜ (length (now places) ≤ length (now temp)) × (h ≤ length (now places)) ⌝ }
-    ensures { λ _. ⌜ now (places .exit) ≡ drop h (now (places .entry)) ++ take h (now (places .entry)) ⌝ }
+// Whether a group two of m places leads a group one of k: by their sizes, whatever their boxes.
+fn two_leads(k: usize, m: usize) -> bool
+    ensures { λ r. ⌜ ((at : ℕ → BoxWords) (one two : List ℕ) → k ≡ length one → m ≡ length two → r ≡ twoLeads at one two) ⌝ }
+{
+    k < m
+}
+
+// Of group one, the first k of `places`, and group two, as many of `temp` as are left, the group that leads first; how many it has.
+pub fn unite(places: &mut [u32], temp: &mut [u32], k: usize) -> usize
+    requires { ⌜ (length (now places) ≤ length (now temp)) × (k ≤ length (now places)) ⌝ }
+    ensures { λ r. ⌜ ((at : ℕ → BoxWords) → LeaderFirst at (take k (now (places .entry)))
+        (take (length (now (places .entry)) - k) (now (temp .entry))) (now (places .exit)) r) ⌝ }
 {
     let n = places.len();
-    paste(temp, 0, places, n);
-    let m = n - h;
-    paste(places, m, temp, h);
-    paste(places, 0, &temp[h..n], m);
-}
-
-// Whether group two, the places from h on, leads group one, the first h: by their sizes, whatever their boxes.
-fn two_leads(places: &[u32], h: usize) -> bool
-    requires { ⌜ h ≤ length (now places) ⌝ }
-    ensures { λ r. ⌜ ((at : ℕ → BoxWords) → r ≡ twoLeads at (take h (now (places .entry))) (drop h (now (places .entry)))) ⌝ }
-{
-    h < places.len() - h
-}
-
-// Of the first h places and the others, the group that leads first; how many it has.
-pub fn leader_first(places: &mut [u32], temp: &mut [u32], h: usize) -> usize
-    requires { ⌜ (length (now places) ≤ length (now temp)) × (h ≤ length (now places)) ⌝ }
-    ensures { λ r. ⌜ ((at : ℕ → BoxWords) → LeaderFirst at h (now (places .entry)) (now (places .exit)) r) ⌝ }
-{
-    let m = places.len() - h;
-    if two_leads(places, h) {
-        rotate(places, temp, h);
+    let m = n - k;
+    if two_leads(k, m) {
+        paste(temp, m, places, k);
+        paste(places, 0, temp, n);
         return m;
     }
-    h
+    paste(places, k, temp, m);
+    k
 }

@@ -1,9 +1,8 @@
 -- The steps of a split, as the contracts say them: counts, the parted list, the leading group first. Definitions only.
-use Prim.Native.Nat.{ℕ, _+_, _-_, _*_, _/_}
-use mathlib.Core.Bool.{Bool, not, cond, _||_}
+use Prim.Native.Nat.{ℕ, _+_, _-_, _*_, _/_, _≤_, _<_}
+use mathlib.Core.Bool.{Bool, not, cond}
 use mathlib.Core.List.{List, _++_}
 use mathlib.Core.Path.{_≡_}
-use lib.Dec.{eqb}
 use lib.ListN.{length, take, drop, getD}
 use lib.Ieee.{Float, binary32, ofBits, lt}
 use Rattle.base.specs.Lists.{oneIf, sift}
@@ -43,21 +42,18 @@ centreAt ws step p = (ofBits binary32 (getD ws (7 * p + 1 + step) 0) ⊕ ofBits 
 unfoldable pub passes : List ℕ → ℕ → Float → ℕ → Bool
 passes ws step cut p = lt cut (centreAt ws step p)
 
--- Rule T5: what passes the test, then the rest, order kept, and how many pass.
-pub record Parted (test : ℕ → Bool) (ps w : List ℕ) (r : ℕ) : Type 0 where
-  pub list : w ≡ sift test ps ++ sift (λ p. not (test p)) ps
+-- Rule T5: what passes the test at the front of u, the rest at the front of v, order kept, and how many pass.
+pub record Parted (test : ℕ → Bool) (ps u v : List ℕ) (r : ℕ) : Type 0 where
+  pub passed : take r u ≡ sift test ps
+  pub others : take (length ps - r) v ≡ sift (λ p. not (test p)) ps
   pub count : r ≡ length (sift test ps)
 
--- Rule T6: where none or all of n items are in group one.
-abbrev pub oneSided : ℕ → ℕ → Bool
-oneSided k n = eqb k 0 || eqb k n
+-- Rule T7: of the groups one and two, the group that leads first, and how many it has.
+pub record LeaderFirst (at : ℕ → BoxWords) (one two w : List ℕ) (r : ℕ) : Type 0 where
+  pub list : w ≡ cond (twoLeads at one two) (two ++ one) (one ++ two)
+  pub count : r ≡ cond (twoLeads at one two) (length two) (length one)
 
--- Rule T6: sorted where a group is empty, and where the second group begins then.
+-- Rule T6: of places whose first group has k, as they are, or sorted and cut in the middle where it has all of them.
 pub record Settled (at : ℕ → BoxWords) (k : ℕ) (ps w : List ℕ) (r : ℕ) : Type 0 where
-  pub list : w ≡ cond (oneSided k (length ps)) (sortBoxes at ps) ps
-  pub begin : r ≡ cond (oneSided k (length ps)) (length ps / 2) k
-
--- Rule T7: of the first h places and the others, the group that leads first, and how many it has.
-pub record LeaderFirst (at : ℕ → BoxWords) (h : ℕ) (ps w : List ℕ) (r : ℕ) : Type 0 where
-  pub list : w ≡ cond (twoLeads at (take h ps) (drop h ps)) (drop h ps ++ take h ps) ps
-  pub count : r ≡ cond (twoLeads at (take h ps) (drop h ps)) (length ps - h) h
+  pub stands : k < length ps → (w ≡ ps) × (r ≡ k)
+  pub halved : length ps ≤ k → LeaderFirst at (take (length ps / 2) (sortBoxes at ps)) (drop (length ps / 2) (sortBoxes at ps)) w r

@@ -4,7 +4,6 @@ use borrow.Author.Needs.{needs}
 use Rattle.split.proofs.groups.partition.Statement.{statement}
 use Rattle.split.proofs.groups.partition.Tie as tie
 use Prim.Native.Nat.{_-_}
-use mathlib.Core.Path.{_∙_}
 use lib.ListN.{getD}
 use Rattle.base.proofs.WithinLaws.{within-at}
 use Rattle.base.proofs.ListLaws.{one-or-none}
@@ -82,29 +81,22 @@ loop-again c =
     let above = c .one-if-above in
     turn _ (g .args .places .now) (g .args .temp .now) (l .places) (l .temp) (l .k) (l .i) (above .result) (l .inv) (omega arith) (g .pre .0) (above .ensures)
 
-sub-paste : tie.Need-sub-paste Inv-loop μ-loop
-sub-paste c = omega arith
-
-paste-requires : tie.Need-paste-requires Inv-loop μ-loop
-paste-requires c κs = omega arith
-
 same-length : tie.Need-same-length Inv-loop μ-loop
-same-length c = c .before .before .paste .kept .0 ∙ c .before .before .before .before .before .before .loop .inv .len-places
+same-length c = c .before .loop .inv .len-places
 
 same-length-2 : tie.Need-same-length-2 Inv-loop μ-loop
-same-length-2 c = c .before .before .before .before .before .before .loop .inv .len-temp
+same-length-2 c = c .before .loop .inv .len-temp
 
 returns : tie.Need-returns Inv-loop μ-loop
 returns c =
-    let after = c .before .before .before .before .before .before in
+    let after = c .before in
     let l = after .loop in
     let cut = after .before .coordinate in
     let step = after .before .before .step-of in
     let g = after .before .before .before .before .before .before .before in
     let ps = g .args .places .now in
     let e = passes-above (g .args .entries .now) (g .args .avg) (g .args .axis) (step .result) (cut .result) (step .ensures) (cut .ensures) in
-    rw (← e, c .before .before .paste .ensures)
-    (parted _ ps (g .args .temp .now) (l .places) (l .temp) (l .k) (l .i) (l .inv) (omega arith) (g .pre .0))
+    rw (← e) (parted _ ps (g .args .temp .now) (l .places) (l .temp) (l .k) (l .i) (l .inv) (omega arith))
 
 pub partition-spec : {M : Type 1} → statement M
 partition-spec =
@@ -127,8 +119,6 @@ partition-spec =
     add-i
     loop-less
     loop-again
-    sub-paste
-    paste-requires
     same-length
     same-length-2
     returns)
