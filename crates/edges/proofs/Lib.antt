@@ -2,6 +2,7 @@ pub mod DigitLaws
 pub mod EveryOf
 pub mod KeyedLaws
 pub mod LinkLaws
+pub mod Meaning
 pub mod RisingLaws
 pub mod SideLaws
 pub mod SiftLaws

@@ -12,7 +12,8 @@ use borrow.Author.Tests.{eqb-false, eq-eqb, ne-eqb}
 use Rattle.edges.specs.Lists.{withKey, RisingBy}
 use Rattle.base.specs.Every.{Every}
 use Rattle.polygon.specs.Corners.{none}
-use Rattle.edges.specs.Links.{linkAmong, linkOfFirst}
+use Rattle.edges.specs.Links.{linkAmong}
+use Rattle.edges.specs.steps.Linked.{linkOfFirst}
 use Rattle.edges.specs.steps.Grouped.{codeOf}
 use Rattle.edges.proofs.EveryOf.{every-map, every-both}
 use Rattle.edges.proofs.SiftLaws.{sift-none}
@@ -26,7 +27,8 @@ module _ (key : ℕ → ℕ) where
   pub keys-rise : (s t : ℕ) → t < 131072 → codeOf key s < codeOf key t → key s ≤ key t
   keys-rise s t b h = omega arith
 
-  pub link-first : (s : ℕ) (ts : List ℕ) → Every (λ t. t < 131072) ts → RisingBy (codeOf key) (s ∷ ts) → linkAmong s (s ∷ withKey key (key s) ts) ≡ linkOfFirst key (s ∷ ts)
+  pub link-first : (s : ℕ) (ts : List ℕ) → Every (λ t. t < 131072) ts → RisingBy (codeOf key) (s ∷ ts)
+      → linkAmong s (s ∷ withKey key (key s) ts) ≡ linkOfFirst key (s ∷ ts)
   link-first s [] w r = refl
   link-first s (t ∷ ts) w r = go (eqb (key t) (key s)) refl
     where
@@ -37,7 +39,8 @@ module _ (key : ℕ → ℕ) where
           let st : key s < key t = omega (arith, keys-rise s t (w .0) (r .0 .0), ne) in
           let behind = every-both (λ u. u < 131072) (λ u. codeOf key t < codeOf key u) ts (w .1) (r .1 .0) in
           let later : Every (λ u. eqb (key u) (key s) ≡ false) ts =
-          every-map (λ u. (u < 131072) × (codeOf key t < codeOf key u)) _ (λ u h. ne-eqb (key u) (key s) (λ q. omega (arith, keys-rise t u (h .0) (h .1)))) ts behind in
+          every-map (λ u. (u < 131072) × (codeOf key t < codeOf key u)) _ (λ u h. ne-eqb (key u) (key s) (λ q. omega (arith, keys-rise t u (h .0) (h .1))))
+          ts behind in
           rw e (ap (λ (l : List ℕ). linkAmong s (s ∷ l)) (sift-none (λ u. eqb (key u) (key s)) ts later))
 
 -- ---- the first one's link, as the code finds it

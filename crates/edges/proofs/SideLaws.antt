@@ -58,7 +58,8 @@ key-below cs c s h t = pair-below (getD cs s 0) (getD cs (nextOf s) 0) (c .small
 
 -- ---- one more is stored
 
-pub stored-one : (f : ℕ → ℕ) (l : List ℕ) (s v : ℕ) → s < length l → v ≡ f s → ((t : ℕ) → t < s → getD l t 0 ≡ f t) → (t : ℕ) → t < s + 1 → getD (set l s v) t 0 ≡ f t
+pub stored-one : (f : ℕ → ℕ) (l : List ℕ) (s v : ℕ) → s < length l → v ≡ f s → ((t : ℕ) → t < s → getD l t 0 ≡ f t) → (t : ℕ) → t < s + 1
+    → getD (set l s v) t 0 ≡ f t
 stored-one f l s v h e g t k = go (eqb t s) refl
   where
     go : (b : Bool) → eqb t s ≡ b → getD (set l s v) t 0 ≡ f t

@@ -17,7 +17,8 @@ module _ (test : ℕ → Bool) where
   sift-append [] ts = refl
   sift-append (s ∷ ss) ts = go (test s) (sift-append ss ts)
     where
-      go : (b : Bool) → sift test (ss ++ ts) ≡ sift test ss ++ sift test ts → cond b (s ∷ sift test (ss ++ ts)) (sift test (ss ++ ts)) ≡ cond b (s ∷ sift test ss) (sift test ss) ++ sift test ts
+      go : (b : Bool) → sift test (ss ++ ts) ≡ sift test ss ++ sift test ts
+          → cond b (s ∷ sift test (ss ++ ts)) (sift test (ss ++ ts)) ≡ cond b (s ∷ sift test ss) (sift test ss) ++ sift test ts
       go true h = ap (λ (l : List ℕ). s ∷ l) h
       go false h = h
 
@@ -48,7 +49,8 @@ module _ (test : ℕ → Bool) where
 
 pub some-of : (key : ℕ → ℕ) (ss : List ℕ) (i k : ℕ) → length (withKey key k (take i ss)) ≤ length (withKey key k ss)
 some-of key ss i k =
-    let f : withKey key k ss ≡ withKey key k (take i ss) ++ withKey key k (drop i ss) = ap (withKey key k) (sym (take-append-drop i ss)) ∙ sift-append (λ s. eqb (key s) k) (take i ss) (drop i ss) in
+    let f : withKey key k ss ≡ withKey key k (take i ss) ++ withKey key k (drop i ss) = ap (withKey key k) (sym (take-append-drop i ss))
+    ∙ sift-append (λ s. eqb (key s) k) (take i ss) (drop i ss) in
     omega (arith, ap length f, length-append (withKey key k (take i ss)) (withKey key k (drop i ss)))
 
 module _ (key : ℕ → ℕ) (ss : List ℕ) (i : ℕ) (h : i < length ss) where
@@ -59,15 +61,18 @@ module _ (key : ℕ → ℕ) (ss : List ℕ) (i : ℕ) (h : i < length ss) where
   one-with k e = one-more k ∙ ap (λ (l : List ℕ). withKey key k (take i ss) ++ l) (sift-front (λ s. eqb (key s) k) (getD ss i 0) [] (eq-eqb _ _ e))
 
   pub one-without : (k : ℕ) → (key (getD ss i 0) ≡ k → ⊥) → withKey key k (take (suc i) ss) ≡ withKey key k (take i ss)
-  one-without k e = one-more k ∙ ap (λ (l : List ℕ). withKey key k (take i ss) ++ l) (sift-past (λ s. eqb (key s) k) (getD ss i 0) [] (ne-eqb _ _ e)) ∙ simp mathlib.Core.List.append-nil
+  one-without k e = one-more k ∙ ap (λ (l : List ℕ). withKey key k (take i ss) ++ l) (sift-past (λ s. eqb (key s) k) (getD ss i 0) [] (ne-eqb _ _ e))
+      ∙ simp mathlib.Core.List.append-nil
 
   -- there is one more to come
   pub one-to-come : length (withKey key (key (getD ss i 0)) (take i ss)) < length (withKey key (key (getD ss i 0)) ss)
   one-to-come =
       let k : ℕ = key (getD ss i 0) in
-      let e : withKey key k (take i ss ++ getD ss i 0 ∷ drop (suc i) ss) ≡ withKey key k (take i ss) ++ withKey key k (getD ss i 0 ∷ drop (suc i) ss) = sift-append (λ s. eqb (key s) k) (take i ss) (getD ss i 0 ∷ drop (suc i) ss) in
+      let e : withKey key k (take i ss ++ getD ss i 0 ∷ drop (suc i) ss) ≡ withKey key k (take i ss) ++ withKey key k (getD ss i 0 ∷ drop (suc i) ss) =
+      sift-append (λ s. eqb (key s) k) (take i ss) (getD ss i 0 ∷ drop (suc i) ss) in
       let f : withKey key k ss ≡ withKey key k (take i ss) ++ withKey key k (getD ss i 0 ∷ drop (suc i) ss) = ap (withKey key k) (split-at ss i 0 h) ∙ e in
-      let g : withKey key k (getD ss i 0 ∷ drop (suc i) ss) ≡ getD ss i 0 ∷ withKey key k (drop (suc i) ss) = sift-front (λ s. eqb (key s) k) (getD ss i 0) (drop (suc i) ss) (eq-eqb k k refl) in
+      let g : withKey key k (getD ss i 0 ∷ drop (suc i) ss) ≡ getD ss i 0 ∷ withKey key k (drop (suc i) ss) =
+      sift-front (λ s. eqb (key s) k) (getD ss i 0) (drop (suc i) ss) (eq-eqb k k refl) in
       omega (arith, ap length f, length-append (withKey key k (take i ss)) (withKey key k (getD ss i 0 ∷ drop (suc i) ss)), ap length g)
 
 -- ---- how often a side stands in a list

@@ -19,7 +19,11 @@ map-counting f at (suc n) (suc i) h = map-counting f (at + 1) n i (omega arith) 
 
 pub every-counting : (at n : ℕ) → Every (λ s. s < at + n) (upFrom at n)
 every-counting at zero = tt
-every-counting at (suc n) = (omega arith, every-map (λ s. s < at + 1 + n) (λ s. s < at + suc n) (λ s h. omega arith) (upFrom (at + 1) n) (every-counting (at + 1) n))
+every-counting at (suc n) = (
+  omega arith,
+  every-map (λ s. s < at + 1 + n) (λ s. s < at + suc n) (λ s h. omega arith) (upFrom (at + 1) n)
+      (every-counting (at + 1) n),
+)
 
 -- one more at the end
 pub counting-more : (test : ℕ → Bool) (at n : ℕ) → sift test (upFrom at (suc n)) ≡ sift test (upFrom at n) ++ sift test ((at + n) ∷ [])
@@ -27,7 +31,8 @@ counting-more test at zero = ap (λ (k : ℕ). sift test (k ∷ [])) (omega arit
 counting-more test at (suc n) = go (test at) (counting-more test (at + 1) n ∙ ap (λ (k : ℕ). sift test (upFrom (at + 1) n) ++ sift test (k ∷ [])) (omega arith))
   where
     go : (b : Bool) → sift test (upFrom (at + 1) (suc n)) ≡ sift test (upFrom (at + 1) n) ++ sift test ((at + suc n) ∷ [])
-        → cond b (at ∷ sift test (upFrom (at + 1) (suc n))) (sift test (upFrom (at + 1) (suc n))) ≡ cond b (at ∷ sift test (upFrom (at + 1) n)) (sift test (upFrom (at + 1) n)) ++ sift test ((at + suc n) ∷ [])
+        → cond b (at ∷ sift test (upFrom (at + 1) (suc n))) (sift test (upFrom (at + 1) (suc n))) ≡ cond b (at ∷ sift test (upFrom (at + 1) n))
+        (sift test (upFrom (at + 1) n)) ++ sift test ((at + suc n) ∷ [])
     go true h = ap (λ (l : List ℕ). at ∷ l) h
     go false h = h
 

@@ -8,7 +8,7 @@ use lib.ListN.{length, getD}
 use Rattle.base.specs.Lists.{sift, upFrom}
 use Rattle.polygon.specs.Corners.{nextOf, there}
 
--- two corners as one number, the same from either end
+-- Rule E1: two corners as one number, the same from either end
 unfoldable pub pairOf : ℕ → ℕ → ℕ
 pairOf a b = cond (ltb a b) (a * 32768 + b) (b * 32768 + a)
 
@@ -16,6 +16,6 @@ pairOf a b = cond (ltb a b) (a * 32768 + b) (b * 32768 + a)
 unfoldable pub keyOf : List ℕ → ℕ → ℕ
 keyOf cs s = pairOf (getD cs s 0) (getD cs (nextOf s) 0)
 
--- the sides that are there, in their order
+-- Rule E1: the sides that are there, in their order
 abbrev pub sidesOf : List ℕ → List ℕ
 sidesOf cs = sift (there cs) (upFrom 0 (length cs))

@@ -1,3 +1,4 @@
 pub mod Digits
 pub mod Grouped
+pub mod Linked
 pub mod Work

@@ -10,12 +10,14 @@ ghost use lib.ListN.{length, take};
 ghost use Rattle.base.specs.Every.{Every};
 ghost use Rattle.edges.specs.Lists.{RisingBy};
 ghost use Rattle.edges.specs.steps.Grouped.{keyIn, Sides};
-ghost use Rattle.edges.specs.Links.{linksOf, Linked, Room};
+ghost use Rattle.edges.specs.Links.{linksOf, Room};
+ghost use Rattle.edges.specs.steps.Linked.{Linked};
 ghost use Rattle.polygon.specs.Corners.{Corners};
 
 // Links each of the sides, which are in their order.
 fn link_sides(keys: &[u32], sides: &mut [u32], spare: &mut [u32], links: &mut [u32])
-    requires { ⌜ (Sides (now keys) (now sides)) × (RisingBy (λ s. s) (now sides)) × (Every (λ s. s < length (now links)) (now sides)) × (length (now spare) ≡ length (now sides)) ⌝ }
+    requires { ⌜ (Sides (now keys) (now sides)) × (RisingBy (λ s. s) (now sides)) × (Every (λ s. s < length (now links)) (now sides))
+        × (length (now spare) ≡ length (now sides)) ⌝ }
     ensures { λ _. ⌜ Linked (keyIn (now (keys .entry))) (now (sides .entry)) (now (links .entry)) (now (links .exit)) ⌝ }
 {
     group(keys, sides, spare);

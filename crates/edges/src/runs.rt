@@ -9,7 +9,7 @@ ghost use lib.ListN.{length, drop};
 ghost use Rattle.base.specs.Every.{Every};
 ghost use Rattle.edges.specs.Lists.{RisingBy};
 ghost use Rattle.edges.specs.steps.Grouped.{keyIn, codeOf, Sides};
-ghost use Rattle.edges.specs.Links.{linkOfFirst, Linked};
+ghost use Rattle.edges.specs.steps.Linked.{linkOfFirst, Linked};
 
 // The link of the side at i, the first of its run.
 fn link_of_first(keys: &[u32], sides: &[u32], i: usize) -> u32

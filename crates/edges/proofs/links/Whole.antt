@@ -13,7 +13,8 @@ use Rattle.edges.specs.Lists.{withKey, RisingBy}
 use Rattle.base.specs.Every.{Every}
 use Rattle.polygon.specs.Corners.{none, there, Corners}
 use Rattle.edges.specs.Sides.{keyOf, sidesOf}
-use Rattle.edges.specs.Links.{linkAmong, sameAs, linkOf, linksOf, Linked}
+use Rattle.edges.specs.Links.{linkAmong, sameAs, linkOf, linksOf}
+use Rattle.edges.specs.steps.Linked.{Linked}
 use Rattle.edges.specs.steps.Grouped.{keyIn, Keyed, Sides, Grouped}
 use Rattle.base.proofs.EveryLaws.{every-sift}
 use Rattle.edges.proofs.EveryOf.{every-map, every-both, every-passes, every-of, every-among}
@@ -35,7 +36,8 @@ module _ (key : ℕ → ℕ) (ss gs : List ℕ) (g : Grouped key ss gs) where
   pub linked-grouped : (before after : List ℕ) → Linked key gs before after → Linked key ss before after
   linked-grouped before after l =
       record {
-        linked = every-of (λ s. getD after s 0 ≡ linkAmong s (withKey key (key s) ss)) ss (λ s h. among-grouped s (omega (arith, as-often s)) ∙ ap (linkAmong s) (g .same s));
+        linked = every-of (λ s. getD after s 0 ≡ linkAmong s (withKey key (key s) ss)) ss
+            (λ s h. among-grouped s (omega (arith, as-often s)) ∙ ap (linkAmong s) (g .same s));
         others = λ s o. l .others s (as-often s ∙ o);
       }
     where
@@ -79,17 +81,20 @@ module _ (cs : List ℕ) (c : Corners cs) where
         where
           go : (b : Bool) → there cs s ≡ b → getD after s 0 ≡ cond b (linkAmong s (sameAs cs s)) none
           go true e =
-              every-among (λ t. getD after t 0 ≡ linkAmong t (withKey (keyIn keys) (keyIn keys t) (sidesOf cs))) s (sidesOf cs) (g .linked) (among-counting (there cs) s 0 (length cs) (omega arith) (omega arith) e)
+              every-among (λ t. getD after t 0 ≡ linkAmong t (withKey (keyIn keys) (keyIn keys t) (sidesOf cs))) s (sidesOf cs) (g .linked)
+              (among-counting (there cs) s 0 (length cs) (omega arith) (omega arith) e)
               ∙ ap (linkAmong s) (alike (keyIn keys s) (sidesOf cs) in-corners ∙ ap (λ (k : ℕ). withKey (keyOf cs) k (sidesOf cs)) (ks s h))
           go false e = g .others s (absent (occurrences s (sidesOf cs)) refl) ∙ no s h
             where
               absent : (n : ℕ) → occurrences s (sidesOf cs) ≡ n → n ≡ 0
               absent zero q = refl
-              absent (suc n) q = absurd (true≢false (sym (every-among (λ t. there cs t ≡ true) s (sidesOf cs) (every-passes (there cs) (upFrom 0 (length cs))) (omega (arith, q))) ∙ e))
+              absent (suc n) q = absurd (true≢false
+                  (sym (every-among (λ t. there cs t ≡ true) s (sidesOf cs) (every-passes (there cs) (upFrom 0 (length cs))) (omega (arith, q))) ∙ e))
 
       pub links-are : length cs ≤ length after → take (length cs) after ≡ linksOf cs
       links-are m =
           let n : length (take (length cs) after) ≡ length cs = length-take-le (length cs) after m in
           ext-getD 0 (take (length cs) after) (linksOf cs)
           (n ∙ sym (length-map (upFrom 0 (length cs)) (linkOf cs) ∙ length-up 0 (length cs)))
-          (λ s h. getD-take (length cs) after s 0 (omega (arith, n)) ∙ link-is s (omega (arith, n)) ∙ ap (linkOf cs) (sym (zero-add s)) ∙ sym (map-counting (linkOf cs) 0 (length cs) s (omega (arith, n))))
+          (λ s h. getD-take (length cs) after s 0 (omega (arith, n)) ∙ link-is s (omega (arith, n)) ∙ ap (linkOf cs) (sym (zero-add s))
+          ∙ sym (map-counting (linkOf cs) 0 (length cs) s (omega (arith, n))))

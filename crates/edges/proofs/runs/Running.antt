@@ -12,7 +12,8 @@ use borrow.Author.Tests.{eq-eqb, ne-eqb}
 use Rattle.base.specs.Lists.{occurrences, Among}
 use Rattle.edges.specs.Lists.{withKey, RisingBy}
 use Rattle.base.specs.Every.{Every}
-use Rattle.edges.specs.Links.{linkAmong, linkOfFirst, Linked}
+use Rattle.edges.specs.Links.{linkAmong}
+use Rattle.edges.specs.steps.Linked.{linkOfFirst, Linked}
 use Rattle.edges.specs.steps.Grouped.{codeOf}
 use Rattle.base.proofs.EveryLaws.{every-append, every-drop, every-sift, every-at}
 use Rattle.edges.proofs.EveryOf.{every-map, every-both, every-all, every-of}
@@ -32,7 +33,8 @@ pub record Running (key : ℕ → ℕ) (ss before links : List ℕ) (first run i
   pub above : Every (λ s. run ≤ key s + 1) (drop i ss)
   pub leads : (k : ℕ) → k + 1 ≡ run → withKey key k (take i ss) ≡ first ∷ drop 1 (withKey key k (take i ss))
 
-pub start : (key : ℕ → ℕ) (ss links : List ℕ) → Every (λ s. s < 131072) ss → RisingBy (codeOf key) ss → Every (λ s. s < length links) ss → Running key ss links links 0 0 0
+pub start : (key : ℕ → ℕ) (ss links : List ℕ) → Every (λ s. s < 131072) ss → RisingBy (codeOf key) ss → Every (λ s. s < length links) ss
+    → Running key ss links links 0 0 0
 start key ss links n r w =
     record {
       numbers = n;
@@ -94,13 +96,17 @@ module _ (key : ℕ → ℕ) (ss before links : List ℕ) (first run i : ℕ) (g
   room = omega (arith, every-at (λ s. s < length before) ss i (g .within) h, g .len)
 
   -- a link is stored
-  stored : (link : ℕ) → link ≡ linkAmong here (withKey key edge ss) → Every (λ s. getD (set links here link) s 0 ≡ linkAmong s (withKey key (key s) ss)) (take (suc i) ss)
+  stored : (link : ℕ) → link ≡ linkAmong here (withKey key edge ss)
+      → Every (λ s. getD (set links here link) s 0 ≡ linkAmong s (withKey key (key s) ss)) (take (suc i) ss)
   stored link e =
-      let old = every-map (λ t. (codeOf key t < codeOf key here) × (getD links t 0 ≡ linkAmong t (withKey key (key t) ss))) (λ t. getD (set links here link) t 0 ≡ linkAmong t (withKey key (key t) ss)) kept done
+      let old = every-map (λ t. (codeOf key t < codeOf key here) × (getD links t 0 ≡ linkAmong t (withKey key (key t) ss)))
+      (λ t. getD (set links here link) t 0 ≡ linkAmong t (withKey key (key t) ss)) kept done
       (every-both (λ t. codeOf key t < codeOf key here) (λ t. getD links t 0 ≡ linkAmong t (withKey key (key t) ss)) done earlier (g .linked)) in
-      rw (take-suc ss i 0 h) (every-append (λ t. getD (set links here link) t 0 ≡ linkAmong t (withKey key (key t) ss)) done (here ∷ []) old (getD-set-same links here link 0 room ∙ e, tt))
+      rw (take-suc ss i 0 h) (every-append (λ t. getD (set links here link) t 0 ≡ linkAmong t (withKey key (key t) ss)) done (here ∷ []) old
+      (getD-set-same links here link 0 room ∙ e, tt))
     where
-      kept : (t : ℕ) → (codeOf key t < codeOf key here) × (getD links t 0 ≡ linkAmong t (withKey key (key t) ss)) → getD (set links here link) t 0 ≡ linkAmong t (withKey key (key t) ss)
+      kept : (t : ℕ) → (codeOf key t < codeOf key here) × (getD links t 0 ≡ linkAmong t (withKey key (key t) ss))
+          → getD (set links here link) t 0 ≡ linkAmong t (withKey key (key t) ss)
       kept t w = getD-set-other links here t link 0 (λ q. omega (arith, ap (codeOf key) q, w .0)) ∙ w .1
 
   unlinked : (link s : ℕ) → occurrences s ss ≡ 0 → getD (set links here link) s 0 ≡ getD before s 0
@@ -113,11 +119,13 @@ module _ (key : ℕ → ℕ) (ss before links : List ℕ) (first run i : ℕ) (g
 
     not-first : here ≡ first → ⊥
     not-first q =
-        let w : Every (λ t. codeOf key t < codeOf key here) (first ∷ drop 1 (withKey key edge done)) = rw led at (every-sift (λ t. codeOf key t < codeOf key here) (λ t. eqb (key t) edge) done earlier) in
+        let w : Every (λ t. codeOf key t < codeOf key here) (first ∷ drop 1 (withKey key edge done)) =
+        rw led at (every-sift (λ t. codeOf key t < codeOf key here) (λ t. eqb (key t) edge) done earlier) in
         omega (arith, w .0, ap (codeOf key) q)
 
     link-is : first / 3 ≡ linkAmong here (withKey key edge ss)
-    link-is = sym (ap (linkAmong here) (all-with edge ∙ ap₂ (λ (a b : List ℕ). a ++ b) led here-with) ∙ link-behind here first (drop 1 (withKey key edge done)) (withKey key edge later) not-first)
+    link-is = sym (ap (linkAmong here) (all-with edge ∙ ap₂ (λ (a b : List ℕ). a ++ b) led here-with)
+        ∙ link-behind here first (drop 1 (withKey key edge done)) (withKey key edge later) not-first)
 
     pub goes-on : Running key ss before (set links here (first / 3)) first run (i + 1)
     goes-on =
@@ -132,7 +140,8 @@ module _ (key : ℕ → ℕ) (ss before links : List ℕ) (first run i : ℕ) (g
           others = unlinked (first / 3);
           below = rw (take-suc ss i 0 h) (every-append (λ t. key t < run) done (here ∷ []) (g .below) (omega arith, tt));
           above = above-here .1;
-          leads = λ k q. headed (withKey key k (take (suc i) ss)) first (drop 1 (withKey key k done) ++ (here ∷ [])) (more-with k (omega arith) ∙ ap (λ (l : List ℕ). l ++ (here ∷ [])) (g .leads k q));
+          leads = λ k q. headed (withKey key k (take (suc i) ss)) first (drop 1 (withKey key k done) ++ (here ∷ []))
+              (more-with k (omega arith) ∙ ap (λ (l : List ℕ). l ++ (here ∷ [])) (g .leads k q));
         })
 
   -- the side begins a run
@@ -140,12 +149,14 @@ module _ (key : ℕ → ℕ) (ss before links : List ℕ) (first run i : ℕ) (g
     none-before : withKey key edge done ≡ []
     none-before =
         let b : run ≤ edge + 1 = above-here .0 in
-        sift-none (λ t. eqb (key t) edge) done (every-map (λ t. key t < run) (λ t. eqb (key t) edge ≡ false) (λ t k. ne-eqb (key t) edge (λ q. omega (arith, e))) done (g .below))
+        sift-none (λ t. eqb (key t) edge) done
+        (every-map (λ t. key t < run) (λ t. eqb (key t) edge ≡ false) (λ t k. ne-eqb (key t) edge (λ q. omega (arith, e))) done (g .below))
 
     first-link : linkOfFirst key (drop i ss) ≡ linkAmong here (withKey key edge ss)
     first-link =
         let w : Every (λ t. t < 131072) later = every-drop (λ t. t < 131072) (suc i) ss (g .numbers) in
-        sym (ap (linkAmong here) (all-with edge ∙ ap₂ (λ (a b : List ℕ). a ++ b) none-before here-with) ∙ link-first key here later w from-here ∙ ap (linkOfFirst key) (sym (drop-cons ss i 0 h)))
+        sym (ap (linkAmong here) (all-with edge ∙ ap₂ (λ (a b : List ℕ). a ++ b) none-before here-with) ∙ link-first key here later w from-here
+        ∙ ap (linkOfFirst key) (sym (drop-cons ss i 0 h)))
 
     pub begins : Running key ss before (set links here (linkOfFirst key (drop i ss))) here (edge + 1) (i + 1)
     begins =
@@ -159,10 +170,13 @@ module _ (key : ℕ → ℕ) (ss before links : List ℕ) (first run i : ℕ) (g
           len = length-set links here (linkOfFirst key (drop i ss)) ∙ g .len;
           linked = stored (linkOfFirst key (drop i ss)) first-link;
           others = unlinked (linkOfFirst key (drop i ss));
-          below = rw (take-suc ss i 0 h) (every-append (λ t. key t < edge + 1) done (here ∷ []) (every-map (λ t. key t < run) (λ t. key t < edge + 1) (λ t k. omega arith) done (g .below)) (omega arith, tt));
-          above = every-map (λ t. (t < 131072) × (codeOf key here < codeOf key t)) (λ t. edge + 1 ≤ key t + 1) (λ t k. omega (arith, keys-rise key here t (k .0) (k .1))) later
+          below = rw (take-suc ss i 0 h) (every-append (λ t. key t < edge + 1) done (here ∷ [])
+              (every-map (λ t. key t < run) (λ t. key t < edge + 1) (λ t k. omega arith) done (g .below)) (omega arith, tt));
+          above = every-map (λ t. (t < 131072) × (codeOf key here < codeOf key t)) (λ t. edge + 1 ≤ key t + 1)
+              (λ t k. omega (arith, keys-rise key here t (k .0) (k .1))) later
               (every-both (λ t. t < 131072) (λ t. codeOf key here < codeOf key t) later (every-drop (λ t. t < 131072) (suc i) ss (g .numbers)) (from-here .0));
-          leads = λ k q. headed (withKey key k (take (suc i) ss)) here [] (more-with k (omega arith) ∙ ap (λ (l : List ℕ). l ++ (here ∷ [])) (ap (λ (m : ℕ). withKey key m done) (omega arith) ∙ none-before));
+          leads = λ k q. headed (withKey key k (take (suc i) ss)) here []
+              (more-with k (omega arith) ∙ ap (λ (l : List ℕ). l ++ (here ∷ [])) (ap (λ (m : ℕ). withKey key m done) (omega arith) ∙ none-before));
         })
 
 pub ended : (key : ℕ → ℕ) (ss before links : List ℕ) (first run i : ℕ) → Running key ss before links first run i → length ss ≤ i → Linked key ss before links

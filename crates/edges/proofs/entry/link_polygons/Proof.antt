@@ -23,10 +23,12 @@ slice-aggregate-links-of c = sym (length-unpacked _ _ _ _ (c .before .before .be
 
 links-of-requires : tie.Need-links-of-requires
 links-of-requires c κs =
-    let p = c .before .before .before .before .before .before .before .before .before .before .before .before .before .before .before .before .pre in
-    let e = c .before .before .before .before .before .before .before .unpack-corners .ensures in
-    let s = c .before .before .before .before .before .before .before .before .before .before .before .before .before .before .before .before .args in
-    let l = length-unpacked (s .n) (s .polygons .now) (s .corners .now) (c .before .before .before .before .before .before .before .unpack-corners .last .1 .1 .0) e in (
+    let at-unpack-corners = c .before .before .before .before .before .before .before in
+    let at-start = at-unpack-corners .before .before .before .before .before .before .before .before .before in
+    let p = at-start .pre in
+    let e = at-unpack-corners .unpack-corners .ensures in
+    let s = at-start .args in
+    let l = length-unpacked (s .n) (s .polygons .now) (s .corners .now) (at-unpack-corners .unpack-corners .last .1 .1 .0) e in (
       fit _ _ _ _ e (p .few),
       record {
         for-keys = omega (arith, l, p .for-keys);
@@ -41,14 +43,20 @@ slice-reshare-prefix-put-links c = search needs
 
 slice-aggregate-put-links : tie.Need-slice-aggregate-put-links
 slice-aggregate-put-links c =
-    let t = c .before .before .before .before .before .before .before .before .before .before .links-of in
-    sym (length-take-le _ (t .last .1 .1 .1 .1 .0) (omega (arith, t .kept .1 .1 .1 .1 .0, c .before .before .before .before .before .before .before .before .before .before .before .before .before .before .before .before .before .before .before .before .before .before .before .before .before .before .before .pre .for-links)))
+    let at-links-of = c .before .before .before .before .before .before .before .before .before .before in
+    let at-unpack = at-links-of .before .before .before .before .before .before .before .before in
+    let at-start = at-unpack .before .before .before .before .before .before .before .before .before in
+    let t = at-links-of .links-of in
+    sym (length-take-le _ (t .last .1 .1 .1 .1 .0) (omega (arith, t .kept .1 .1 .1 .1 .0, at-start .pre .for-links)))
 
 put-links-requires : tie.Need-put-links-requires
 put-links-requires c κs =
-    let t = c .before .before .before .before .before .before .before .before .before .before .links-of in
-    let l = length-take-le (3 * c .before .before .before .before .before .before .before .before .before .before .before .before .before .before .before .before .before .before .before .before .before .before .before .before .before .before .before .args .n) (t .last .1 .1 .1 .1 .0) (omega (arith, t .kept .1 .1 .1 .1 .0, c .before .before .before .before .before .before .before .before .before .before .before .before .before .before .before .before .before .before .before .before .before .before .before .before .before .before .before .pre .for-links)) in
-    (c .before .before .before .before .before .before .before .before .before .before .before .before .before .before .before .before .before .before .before .before .before .before .before .before .before .before .before .pre .records, omega (arith, l))
+    let at-links-of = c .before .before .before .before .before .before .before .before .before .before in
+    let at-unpack = at-links-of .before .before .before .before .before .before .before .before in
+    let at-start = at-unpack .before .before .before .before .before .before .before .before .before in
+    let t = at-links-of .links-of in
+    let l = length-take-le (3 * at-start .args .n) (t .last .1 .1 .1 .1 .0) (omega (arith, t .kept .1 .1 .1 .1 .0, at-start .pre .for-links)) in
+    (at-start .pre .records, omega (arith, l))
 
 same-length : tie.Need-same-length
 same-length c = search needs
@@ -69,7 +77,10 @@ same-length-6 : tie.Need-same-length-6
 same-length-6 c = search needs
 
 returns : tie.Need-returns
-returns c = stored _ _ _ _ (c .before .before .before .before .before .before .before .before .before .before .before .before .before .before .before .before .before .before .before .before .before .unpack-corners .ensures) _ _ (c .before .before .before .before .before .before .before .before .before .before .before .before .before .links-of .ensures) (c .before .before .put-links .ensures)
+returns c =
+    let at-links-of = c .before .before .before .before .before .before .before .before .before .before .before .before .before in
+    let at-unpack-corners = at-links-of .before .before .before .before .before .before .before .before in
+    stored _ _ _ _ (at-unpack-corners .unpack-corners .ensures) _ _ (at-links-of .links-of .ensures) (c .before .before .put-links .ensures)
 
 pub link-polygons-spec : {M : Type 1} → statement M
 link-polygons-spec =

@@ -17,10 +17,15 @@ returns-2 : tie.Need-returns-2
 returns-2 c = rw (le-ltb _ _ (c .before .before .if1 .left), lt-ltb _ _ (c .if2 .taken))
 
 returns-3 : tie.Need-returns-3
-returns-3 c = rw (le-ltb _ _ (c .before .before .before .before .if1 .left), le-ltb _ _ (c .before .before .if2 .left), lt-ltb _ _ (c .if3 .taken))
+returns-3 c =
+    let at-if1 = c .before .before .before .before in
+    rw (le-ltb _ _ (at-if1 .if1 .left), le-ltb _ _ (c .before .before .if2 .left), lt-ltb _ _ (c .if3 .taken))
 
 returns-4 : tie.Need-returns-4
-returns-4 c = rw (le-ltb _ _ (c .before .before .before .before .before .before .if1 .left), le-ltb _ _ (c .before .before .before .before .if2 .left), le-ltb _ _ (c .before .before .if3 .left), lt-ltb _ _ (c .if4 .taken))
+returns-4 c =
+    let at-if2 = c .before .before .before .before in
+    let at-if1 = at-if2 .before .before in
+    rw (le-ltb _ _ (at-if1 .if1 .left), le-ltb _ _ (at-if2 .if2 .left), le-ltb _ _ (c .before .before .if3 .left), lt-ltb _ _ (c .if4 .taken))
 
 returns-5 : tie.Need-returns-5
 returns-5 c =
@@ -35,12 +40,13 @@ returns-5 c =
 
 returns-6 : tie.Need-returns-6
 returns-6 c =
-    let c₃ = c .before .before .before .before .before in
+    let at-if4 = c .before .before .before in
+    let c₃ = at-if4 .before .before in
     rw (
       le-ltb _ _ (c₃ .before .before .before .before .if1 .left),
       le-ltb _ _ (c₃ .before .before .if2 .left),
       le-ltb _ _ (c₃ .if3 .left),
-      le-ltb _ _ (c .before .before .before .if4 .left),
+      le-ltb _ _ (at-if4 .if4 .left),
       le-ltb _ _ (c .before .if5 .left),
     )
 

@@ -23,15 +23,21 @@ same-length c = search needs
 
 returns-3 : tie.Need-returns-3
 returns-3 c =
-    let short = sym (c .before .before .before .before .too-short .ensures) ∙ c .before .before .before .if2 .left in
-    unknown _ _ _ (c .before .before .before .before .before .if1 .left) short (sym (c .before .kinds-known .ensures) ∙ not-true _ (c .if3 .taken))
+    let at-if2 = c .before .before .before in
+    let at-too-short = at-if2 .before in
+    let at-if1 = at-too-short .before in
+    let short = sym (at-too-short .too-short .ensures) ∙ at-if2 .if2 .left in
+    unknown _ _ _ (at-if1 .if1 .left) short (sym (c .before .kinds-known .ensures) ∙ not-true _ (c .if3 .taken))
 
 link-polygons-requires : tie.Need-link-polygons-requires
 link-polygons-requires c κs =
-    let short = sym (c .before .before .before .before .before .before .before .before .before .before .too-short .ensures) ∙ c .before .before .before .before .before .before .before .before .before .if2 .left in
+    let at-if2 = c .before .before .before .before .before .before .before .before .before in
+    let at-too-short = at-if2 .before in
+    let at-if1 = at-too-short .before in
+    let short = sym (at-too-short .too-short .ensures) ∙ at-if2 .if2 .left in
     let w = parts _ _ short in
     record {
-      few = c .before .before .before .before .before .before .before .before .before .before .before .if1 .left;
+      few = at-if1 .if1 .left;
       records = records _ _ short;
       for-corners = w .0;
       for-keys = w .1;
@@ -60,9 +66,15 @@ same-length-7 c = search needs
 
 returns-4 : tie.Need-returns-4
 returns-4 c =
-    let short = sym (c .before .before .before .before .before .before .before .before .before .before .before .before .before .before .before .before .before .before .before .before .before .before .before .too-short .ensures) ∙ c .before .before .before .before .before .before .before .before .before .before .before .before .before .before .before .before .before .before .before .before .before .before .if2 .left in
-    let known = sym (c .before .before .before .before .before .before .before .before .before .before .before .before .before .before .before .before .before .before .before .before .kinds-known .ensures) ∙ not-false _ (c .before .before .before .before .before .before .before .before .before .before .before .before .before .before .before .before .before .before .before .if3 .left) in
-    served _ _ _ _ (c .before .before .before .before .before .before .before .before .before .before .before .before .before .before .before .before .before .before .before .before .before .before .before .before .if1 .left) short known (c .before .before .before .before .before .before .before .before .before .before .before .before .link-polygons .ensures)
+    let at-link-polygons = c .before .before .before .before .before .before .before .before .before .before .before .before in
+    let at-if3 = at-link-polygons .before .before .before .before .before .before .before in
+    let at-kinds-known = at-if3 .before in
+    let at-if2 = at-kinds-known .before .before in
+    let at-too-short = at-if2 .before in
+    let at-if1 = at-too-short .before in
+    let short = sym (at-too-short .too-short .ensures) ∙ at-if2 .if2 .left in
+    let known = sym (at-kinds-known .kinds-known .ensures) ∙ not-false _ (at-if3 .if3 .left) in
+    served _ _ _ _ (at-if1 .if1 .left) short known (at-link-polygons .link-polygons .ensures)
 
 pub update-edge-indices-spec : {M : Type 1} → statement M
 update-edge-indices-spec =

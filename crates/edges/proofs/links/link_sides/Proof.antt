@@ -12,9 +12,15 @@ group-requires c κs = search needs
 
 link-runs-requires : tie.Need-link-runs-requires
 link-runs-requires c κs =
-    let p = c .before .before .before .before .before .before .before .before .before .before .before .before .before .pre in
-    let g = c .before .before .before .before .before .before .group in
-    (sides-grouped _ _ _ (g .ensures) (g .kept .1 .1 .0 ∙ p .3) (p .0), g .ensures .rising, every-grouped _ _ _ (g .ensures) (λ s. s < length (c .before .before .before .before .before .before .before .before .before .before .before .before .before .args .links .now)) (p .2))
+    let at-group = c .before .before .before .before .before .before in
+    let at-start = at-group .before .before .before .before .before .before .before in
+    let p = at-start .pre in
+    let g = at-group .group in (
+      sides-grouped _ _ _ (g .ensures) (g .kept .1 .1 .0 ∙ p .3) (p .0),
+      g .ensures .rising,
+      every-grouped _ _ _ (g .ensures)
+          (λ s. s < length (at-start .args .links .now)) (p .2),
+    )
 
 same-length : tie.Need-same-length
 same-length c = search needs
@@ -26,7 +32,9 @@ same-length-3 : tie.Need-same-length-3
 same-length-3 c = search needs
 
 returns : tie.Need-returns
-returns c = linked-grouped _ _ _ (c .before .before .before .before .before .before .before .before .before .group .ensures) _ _ (c .before .before .link-runs .ensures)
+returns c =
+    let at-group = c .before .before .before .before .before .before .before .before .before in
+    linked-grouped _ _ _ (at-group .group .ensures) _ _ (c .before .before .link-runs .ensures)
 
 pub link-sides-spec : {M : Type 1} → statement M
 link-sides-spec =

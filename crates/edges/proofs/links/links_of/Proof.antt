@@ -22,26 +22,36 @@ slice-relend-prefix-link-sides c = search needs
 
 slice-aggregate-link-sides : tie.Need-slice-aggregate-link-sides
 slice-aggregate-link-sides c =
-    let d = c .before .before .before .before .before .before .before .before .put-sides in
-    sym (length-take-le (d .result) (d .last .1 .0) (omega (arith, d .ensures .0, d .kept .1 .0, c .before .before .before .before .before .before .before .before .before .before .before .before .before .before .before .before .before .before .before .pre .1 .for-sides)))
+    let at-put-sides = c .before .before .before .before .before .before .before .before in
+    let at-start = at-put-sides .before .before .before .before .before .before .before .before .before .before .before in
+    let d = at-put-sides .put-sides in
+    sym (length-take-le (d .result) (d .last .1 .0) (omega (arith, d .ensures .0, d .kept .1 .0, at-start .pre .1 .for-sides)))
 
 slice-relend-prefix-link-sides-2 : tie.Need-slice-relend-prefix-link-sides-2
 slice-relend-prefix-link-sides-2 c = search needs
 
 slice-aggregate-link-sides-2 : tie.Need-slice-aggregate-link-sides-2
 slice-aggregate-link-sides-2 c =
-    let d = c .before .before .before .before .before .before .before .before .before .put-sides in
-    sym (length-take-le (d .result) (c .before .before .before .before .before .before .before .before .before .before .before .before .before .before .before .before .before .before .before .before .args .spare .now) (omega (arith, d .ensures .0, c .before .before .before .before .before .before .before .before .before .before .before .before .before .before .before .before .before .before .before .before .pre .1 .for-spare)))
+    let at-put-sides = c .before .before .before .before .before .before .before .before .before in
+    let at-start = at-put-sides .before .before .before .before .before .before .before .before .before .before .before in
+    let d = at-put-sides .put-sides in
+    sym (length-take-le (d .result) (at-start .args .spare .now) (omega (arith, d .ensures .0, at-start .pre .1 .for-spare)))
 
 link-sides-requires : tie.Need-link-sides-requires
 link-sides-requires c κs =
-    let s = c .before .before .before .before .before .before .before .before .before .before .before .before .before .before .before .before .before .before .before .before .before .args in
-    let p = c .before .before .before .before .before .before .before .before .before .before .before .before .before .before .before .before .before .before .before .before .before .pre in
-    let k = c .before .before .before .before .before .before .before .before .before .before .before .before .before .before .put-keys in
-    let d = c .before .before .before .before .before .before .before .before .before .before .put-sides in
-    let l = c .before .before .before .before .before .before .clear-links in
-    let a : length (take (d .result) (d .last .1 .0)) ≡ d .result = length-take-le (d .result) (d .last .1 .0) (omega (arith, d .ensures .0, d .kept .1 .0, p .1 .for-sides)) in
-    let b : length (take (d .result) (s .spare .now)) ≡ d .result = length-take-le (d .result) (s .spare .now) (omega (arith, d .ensures .0, p .1 .for-spare)) in
+    let at-clear-links = c .before .before .before .before .before .before in
+    let at-put-sides = at-clear-links .before .before .before .before in
+    let at-put-keys = at-put-sides .before .before .before .before in
+    let at-start = at-put-keys .before .before .before .before .before .before .before in
+    let s = at-start .args in
+    let p = at-start .pre in
+    let k = at-put-keys .put-keys in
+    let d = at-put-sides .put-sides in
+    let l = at-clear-links .clear-links in
+    let a : length (take (d .result) (d .last .1 .0)) ≡ d .result =
+    length-take-le (d .result) (d .last .1 .0) (omega (arith, d .ensures .0, d .kept .1 .0, p .1 .for-sides)) in
+    let b : length (take (d .result) (s .spare .now)) ≡ d .result =
+    length-take-le (d .result) (s .spare .now) (omega (arith, d .ensures .0, p .1 .for-spare)) in
     let keyed = sides-keyed _ (p .0) (k .last .1 .0) (omega (arith, k .kept .1 .0, p .1 .for-keys)) (k .ensures) in (
       record { few = omega (arith, a, d .ensures .0, p .0 .few); keyed = rw (d .ensures .1) keyed },
       rw (d .ensures .1) (sides-rise _ (p .0)),
@@ -63,12 +73,18 @@ same-length-4 c = search needs
 
 returns : tie.Need-returns
 returns c =
-    let p = c .before .before .before .before .before .before .before .before .before .before .before .before .before .before .before .before .before .before .before .before .before .before .before .before .before .before .before .before .pre in
-    let k = c .before .before .before .before .before .before .before .before .before .before .before .before .before .before .before .before .before .before .before .before .before .put-keys in
-    let l = c .before .before .before .before .before .before .before .before .before .before .before .before .before .clear-links in
-    let t = c .before .before .before .before .before .before .link-sides in
-    let linked = rw (c .before .before .before .before .before .before .before .before .before .before .before .before .before .before .before .before .before .put-sides .ensures .1) at (t .ensures) in
-    links-are _ (p .0) (k .last .1 .0) (omega (arith, k .kept .1 .0, p .1 .for-keys)) (k .ensures) (l .last .0) (t .last .1 .1 .1 .0) (l .ensures) linked (omega (arith, t .kept .1 .1 .1 .0, l .kept .0, p .1 .for-links))
+    let at-link-sides = c .before .before .before .before .before .before in
+    let at-clear-links = at-link-sides .before .before .before .before .before .before .before in
+    let at-put-sides = at-clear-links .before .before .before .before in
+    let at-put-keys = at-put-sides .before .before .before .before in
+    let at-start = at-put-keys .before .before .before .before .before .before .before in
+    let p = at-start .pre in
+    let k = at-put-keys .put-keys in
+    let l = at-clear-links .clear-links in
+    let t = at-link-sides .link-sides in
+    let linked = rw (at-put-sides .put-sides .ensures .1) at (t .ensures) in
+    links-are _ (p .0) (k .last .1 .0) (omega (arith, k .kept .1 .0, p .1 .for-keys)) (k .ensures) (l .last .0) (t .last .1 .1 .1 .0) (l .ensures) linked
+    (omega (arith, t .kept .1 .1 .1 .0, l .kept .0, p .1 .for-links))
 
 pub links-of-spec : {M : Type 1} → statement M
 links-of-spec =

@@ -15,7 +15,8 @@ Inv-loop keys sides links₀ first₀ run₀ i₀ links first run i = (Running (
 abbrev μ-loop : tie.MeasureT-loop
 μ-loop keys sides links₀ first₀ run₀ i₀ links first run i = length sides - i
 
-free : (c : tie.In-loop Inv-loop μ-loop) → getD (c .before .before .before .before .before .args .sides .now) (c .before .loop .i) 0 < length (c .before .loop .links)
+free : (c : tie.In-loop Inv-loop μ-loop)
+    → getD (c .before .before .before .before .before .args .sides .now) (c .before .loop .i) 0 < length (c .before .loop .links)
 free c = room _ _ _ _ _ _ _ (c .before .loop .inv .0) (c .loop-test .taken)
 
 loop-holds : tie.Need-loop-holds Inv-loop μ-loop
@@ -55,12 +56,17 @@ loop-less c = omega arith
 
 loop-again : tie.Need-loop-again Inv-loop μ-loop
 loop-again c =
-    let l = c .before .before .before .before .before .loop in
+    let at-test = c .before .before .before .before in
+    let at-loop = at-test .before in
+    let l = at-loop .loop in
     let run = ap (λ k. k + 1) (sym (c .before .before .key-at .ensures .0)) ∙ c .before .if1 .taken in
-    (rw (c .polygon-of .ensures) (goes-on _ _ _ _ _ _ _ (l .inv .0) (c .before .before .before .before .loop-test .taken) run), l .inv .1)
+    (rw (c .polygon-of .ensures) (goes-on _ _ _ _ _ _ _ (l .inv .0) (at-test .loop-test .taken) run), l .inv .1)
 
 link-of-first-requires : tie.Need-link-of-first-requires Inv-loop μ-loop
-link-of-first-requires c κs = (c .before .before .before .before .loop .inv .1, c .before .before .before .loop-test .taken)
+link-of-first-requires c κs =
+    let at-test = c .before .before .before in
+    let at-loop = at-test .before in
+    (at-loop .loop .inv .1, at-test .loop-test .taken)
 
 mul-links-2 : tie.Need-mul-links-2 Inv-loop μ-loop
 mul-links-2 c = omega (arith, free (c .before .before .before .before))
@@ -79,9 +85,11 @@ loop-less-2 c = omega arith
 
 loop-again-2 : tie.Need-loop-again-2 Inv-loop μ-loop
 loop-again-2 c =
-    let l = c .before .before .before .before .before .loop in
+    let at-test = c .before .before .before .before in
+    let at-loop = at-test .before in
+    let l = at-loop .loop in
     let key = c .before .before .key-at .ensures .0 in
-    let begun = begins _ _ _ _ _ _ _ (l .inv .0) (c .before .before .before .before .loop-test .taken) (λ e. c .before .if1 .left (ap (λ k. k + 1) key ∙ e)) in
+    let begun = begins _ _ _ _ _ _ _ (l .inv .0) (at-test .loop-test .taken) (λ e. c .before .if1 .left (ap (λ k. k + 1) key ∙ e)) in
     (rw (c .link-of-first .ensures, key) begun, l .inv .1)
 
 same-length : tie.Need-same-length Inv-loop μ-loop
