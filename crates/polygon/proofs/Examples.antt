@@ -1,20 +1,17 @@
 -- Polygons of document 01 and of the source's corners, by computing the definitions. Assumes nothing.
 use mathlib.Core.Path.{_≡_, refl}
-use mathlib.Core.List.{List, [], _∷_, _++_}
-use Prim.Native.Nat.{ℕ}
+use mathlib.Core.List.{[], _∷_, _++_}
 use lib.IntN.{ℤ, pos, negsuc}
 use lib.ListN.{replicate}
-use lib.Ieee.{Float, binary32, ofBits, toBits, isNan, neg, lt, add}
+use lib.Ieee.{binary32, ofBits, toBits, isNan, neg, lt, add}
 use Rattle.base.specs.LittleEndian.{littleEndian, leAt}
-use Rattle.float32.specs.Extremes.{vminOf, vmaxOf, vminWord, vmaxWord}
+use Rattle.float32.specs.Extremes.{vminWord, vmaxWord}
 use Rattle.polygon.specs.Halves.{fourBytes, halvesBytes, halvesAt}
 use Rattle.polygon.specs.Polygons.{wordOr, triangleHalves, roundHalves, boxHalves, polygonBytes}
-use Rattle.polygon.specs.Polygons.{triangleOf, sphereOf, capsuleOf, boxOf, cylinderOf, polygonOf, polygonAt}
+use Rattle.polygon.specs.Polygons.{boxOf, polygonOf, polygonAt}
 use Rattle.polygon.specs.Answers.{readOf, readNumber}
-use Rattle.polygon.specs.Boxes.{vertexWords, threeBox, fourBox, grownBox, pairBox, bboxOf}
-use Rattle.polygon.specs.declared.Polygon.{Polygon}
-use Rattle.polygon.specs.declared.Polygon.the-variants.{Triangle, Sphere, Capsule, Box, Cylinder}
-use Rattle.polygon.specs.declared.boxes.PolygonBox.{PolygonBox}
+use Rattle.polygon.specs.Boxes.{vertexWords, threeBox, fourBox, grownBox, bboxOf}
+use Rattle.polygon.specs.declared.Polygon.the-variants.{Triangle, Sphere, Capsule, Box}
 
 -- −1, as a link or an index
 abbrev alone : ℤ

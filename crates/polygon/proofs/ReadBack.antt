@@ -1,30 +1,36 @@
 -- Reading what was written gives the canonical polygon, and writing what was read the record with its unused bytes cleared. Assumes nothing.
 use mathlib.Core.Bool.{Bool, true, false, not, cond}
-use mathlib.Core.List.{List, [], _++_}
+use mathlib.Core.List.{List, [], _∷_, _++_}
 use mathlib.Core.Path.{_≡_, refl, sym, ap, ap₂, subst, _∙_}
 use Prim.Native.Nat.{ℕ, zero, suc, _+_, _-_, _*_, _/_, _%_, _^_, _≤_, _<_}
 use native.Mathlib.Nat.{add-zero}
 use native.Mathlib.Omega.{arith}
 use lib.Dec.{T, ltb, le→leb}
 use lib.IntN.{ℤ, pos, negsuc}
-use lib.ListN.{length}
-use lib.Ieee.{Float, binary32, isNan, ofBits, toBits, fits}
+use lib.ListN.{length, getD, take, drop, length-append}
+use lib.Seq.{drop-drop, take-add}
+use lib.Ieee.{Float, binary32, isNan, ofBits, toBits}
 use lib.Ieee.Bits.{toBits-lt, toBits-ofBits}
 use mir.Syntax.{w16}
 use mir.Val.{SFits}
-use borrow.Author.Tests.{ne-eqb}
-use Rattle.float32.specs.Casts.{low16bits, signed16, low16}
+use borrow.Author.Tests.{le-ltb}
+use Rattle.float32.specs.Casts.{low16bits, signed16}
 use Rattle.float32.proofs.Low16.{low-lt, low16-self}
 use Rattle.base.specs.LittleEndian.{littleEndian, leAt}
 use Rattle.base.proofs.LittleEndian.{le-after, le-back}
+use Rattle.base.proofs.StoreLaws.{rest-one}
 use Rattle.polygon.specs.Halves.{fourBytes, halvesBytes, halvesAt}
 use Rattle.polygon.specs.Polygons.{wordOr, triangleHalves, roundHalves, boxHalves, halvesOf, polygonBytes, joined}
-use Rattle.polygon.specs.Polygons.{triangleOf, sphereOf, capsuleOf, boxOf, cylinderOf, polygonOf, polygonAt}
-use Rattle.polygon.specs.Canonical.{canonical, Half, Word, PolygonFits, HalvesFit, kept}
+use Rattle.polygon.specs.Polygons.{triangleOf, sphereOf, capsuleOf, boxOf, cylinderOf, polygonOf, polygonAt, kindAt}
+use Rattle.polygon.specs.Answers.{readOf}
+use Rattle.polygon.specs.Canonical.{canonical, Word, PolygonFits, HalvesFit, kept}
 use Rattle.polygon.specs.declared.halves.Halves.{Halves}
 use Rattle.polygon.specs.declared.Polygon.{Polygon}
 use Rattle.polygon.specs.declared.Polygon.the-variants.{Triangle, Sphere, Capsule, Box, Cylinder}
+use Rattle.polygon.specs.declared.Read.the-variants.{Found, Refused}
+use Rattle.polygon.specs.declared.ReadRefusal.the-variants.{ShortRecord, UnknownKind}
 use Rattle.polygon.proofs.KindLaws.{triangle-by-kind, box-by-kind, sphere-by-kind, capsule-by-kind, cylinder-by-kind}
+use Rattle.polygon.proofs.Sizes.{polygon-bytes}
 
 -- ---- the eight numbers
 
@@ -246,3 +252,94 @@ pub record-again : (bytes : List ℕ) (k : ℕ) → HalvesFit (halvesAt bytes k)
     → polygonBytes (polygonAt bytes k) ≡ halvesBytes (kept (halvesAt bytes k))
 unfolding polygonAt polygonBytes
 record-again bytes k f known = ap halvesBytes (halves-again (halvesAt bytes k) f known)
+
+-- ---- over bytes
+
+kind-read : (bytes : List ℕ) (k : ℕ) → halvesAt bytes k .at0 % 8 ≡ kindAt bytes k
+unfolding halvesAt leAt
+kind-read bytes k = omega arith
+
+all-kept : (h : Halves) → h .at0 % 8 ≡ 0 → kept h ≡ h
+unfolding kept
+all-kept h e = rw e
+
+module _ (bytes : List ℕ) (each : (i : ℕ) → getD bytes i 0 < 256) where
+  two-lt : (k : ℕ) → leAt 2 bytes k < 65536
+  unfolding leAt
+  two-lt k = omega (arith, each k, each (k + 1))
+
+  bytes-fit : (k : ℕ) → HalvesFit (halvesAt bytes k)
+  unfolding halvesAt
+  bytes-fit k =
+      record {
+        at0 = two-lt k;
+        at2 = two-lt (k + 2);
+        at4 = two-lt (k + 4);
+        at6 = two-lt (k + 6);
+        at8 = two-lt (k + 8);
+        at10 = two-lt (k + 10);
+        at12 = two-lt (k + 12);
+        at14 = two-lt (k + 14);
+      }
+
+  -- Bytes that were read as a number are its bytes.
+  le-again : (size k : ℕ) → k + size ≤ length bytes → littleEndian size (leAt size bytes k) ≡ take size (drop k bytes)
+  unfolding littleEndian leAt
+  le-again zero k h = refl
+  le-again (suc size) k h =
+      let b = getD bytes k 0 in
+      let n = leAt size bytes (k + 1) in
+      let low : (b + 256 * n) % 256 ≡ b = omega (arith, each k) in
+      let high : (b + 256 * n) / 256 ≡ n = omega (arith, each k) in
+      let rest = ap (littleEndian size) high ∙ le-again size (k + 1) (omega arith) in
+      ap₂ (λ (x : ℕ) (l : List ℕ). x ∷ l) low rest ∙ ap (take (suc size)) (sym (rest-one bytes k (omega arith)))
+
+  four-whole : (k j : ℕ) → k + (j + 8) ≤ length bytes
+      → fourBytes (leAt 2 bytes (k + j)) (leAt 2 bytes (k + (j + 2))) (leAt 2 bytes (k + (j + 4))) (leAt 2 bytes (k + (j + 6)))
+      ≡ take 8 (drop j (drop k bytes))
+  unfolding fourBytes
+  four-whole k j h =
+      let l = drop j (drop k bytes) in
+      let first = le-again 2 (k + j) (omega arith) ∙ ap (take 2) (sym (drop-drop j k bytes)) in
+      let two = ap₂ (λ (a b : List ℕ). a ++ b) first (part 2 (omega arith)) ∙ sym (take-add 2 2 l) in
+      let three = ap₂ (λ (a b : List ℕ). a ++ b) two (part 4 (omega arith)) ∙ sym (take-add 4 2 l) in
+      ap₂ (λ (a b : List ℕ). a ++ b) three (part 6 (omega arith)) ∙ sym (take-add 6 2 l)
+    where
+      part : (i : ℕ) → k + (j + i) + 2 ≤ length bytes → littleEndian 2 (leAt 2 bytes (k + (j + i))) ≡ take 2 (drop i (drop j (drop k bytes)))
+      part i b = le-again 2 (k + (j + i)) b ∙ ap (take 2) (sym (drop-drop i j (drop k bytes) ∙ drop-drop (j + i) k bytes))
+
+  record-whole : (k : ℕ) → k + 16 ≤ length bytes → halvesBytes (halvesAt bytes k) ≡ take 16 (drop k bytes)
+  unfolding halvesBytes halvesAt
+  record-whole k h =
+      let first =
+      ap (λ (n : ℕ). fourBytes (leAt 2 bytes n) (leAt 2 bytes (k + 2)) (leAt 2 bytes (k + 4)) (leAt 2 bytes (k + 6))) (sym (add-zero k))
+      ∙ four-whole k 0 (omega arith) in
+      ap₂ (λ (a b : List ℕ). a ++ b) first (four-whole k 8 (omega arith)) ∙ sym (take-add 8 8 (drop k bytes))
+
+  -- A record of a known kind, read and written again, is the record with its unused bytes cleared.
+  pub write-after-read : (k : ℕ) → kindAt bytes k ≤ 4 → polygonBytes (polygonAt bytes k) ≡ halvesBytes (kept (halvesAt bytes k))
+  write-after-read k known = record-again bytes k (bytes-fit k) (subst (λ (n : ℕ). n ≤ 4) (sym (kind-read bytes k)) known)
+
+  -- Of a triangle none is unused.
+  pub triangle-whole : (k : ℕ) → kindAt bytes k ≡ 0 → k + 16 ≤ length bytes → polygonBytes (polygonAt bytes k) ≡ take 16 (drop k bytes)
+  triangle-whole k e h =
+      write-after-read k (omega arith) ∙ ap halvesBytes (all-kept (halvesAt bytes k) (kind-read bytes k ∙ e)) ∙ record-whole k h
+
+-- ---- the entry point
+
+kind-written : (p : Polygon) (rest : List ℕ) → kindAt (polygonBytes p ++ rest) 0 ≤ 4
+unfolding polygonBytes halvesBytes fourBytes littleEndian triangleHalves roundHalves boxHalves
+kind-written (Triangle area nan v1 v2 v3 e1 e2 e3) rest = omega arith
+kind-written (Sphere index radius nan) rest = omega arith
+kind-written (Capsule i1 i2 radius nan) rest = omega arith
+kind-written (Box i1 i2 i3 i4) rest = omega arith
+kind-written (Cylinder i1 i2 radius nan) rest = omega arith
+
+-- What `read` answers to what `write` has written.
+pub read-after-write : (p : Polygon) (rest : List ℕ) → PolygonFits p → readOf (polygonBytes p ++ rest) ≡ Found (canonical p)
+unfolding readOf
+read-after-write p rest f =
+    let long : 16 ≤ length (polygonBytes p ++ rest) = omega (arith, length-append (polygonBytes p) rest, polygon-bytes p .size) in
+    ap₂ (λ (short unknown : Bool). cond short (Refused ShortRecord) (cond unknown (Refused UnknownKind) (Found (polygonAt (polygonBytes p ++ rest) 0))))
+    (le-ltb _ _ long) (le-ltb _ _ (kind-written p rest))
+    ∙ ap Found (polygon-back [] rest 0 p refl f)

@@ -18,7 +18,7 @@ use Rattle.polygon.specs.declared.Write.the-variants.{Written, BufferToo
 unfoldable pub readOf : List ℕ → Read
 readOf bytes = cond (ltb (length bytes) 16) (Refused ShortRecord) (cond (ltb 4 (kindAt bytes 0)) (Refused UnknownKind) (Found (polygonAt bytes 0)))
 
--- 01's number of each answer, 0 where it is not refused
+-- Rule G5: 01's number of each answer, 0 where it is not refused.
 abbrev pub refusalNumber : ReadRefusal → ℕ
 refusalNumber ShortRecord = 5
 refusalNumber UnknownKind = 6

@@ -4,6 +4,7 @@ use mathlib.Core.List.{List, _++_}
 use Rattle.base.specs.LittleEndian.{littleEndian, leAt}
 use Rattle.polygon.specs.declared.halves.Halves.{Halves}
 
+-- Rule G1: four of the numbers.
 unfoldable pub fourBytes : ℕ → ℕ → ℕ → ℕ → List ℕ
 fourBytes a b c d = littleEndian 2 a ++ littleEndian 2 b ++ littleEndian 2 c ++ littleEndian 2 d
 

@@ -85,6 +85,7 @@ triangleOf h =
     let area = joined (h .at0 / 8 * 8) (h .at2) in
     Triangle (ofBits binary32 area) area (h .at4) (h .at6) (h .at8) (signed16 (h .at10)) (signed16 (h .at12)) (signed16 (h .at14))
 
+-- Rule G4: a sphere, and below a capsule, a box and a cylinder.
 unfoldable pub sphereOf : Halves → Polygon
 sphereOf h = let radius = joined (h .at4) (h .at6) in Sphere (h .at2) (ofBits binary32 radius) radius
 

@@ -10,7 +10,6 @@ use Rattle.float32.specs.Casts.{shortOf, clampOf, truncatedOf, vertexOf}
 use Rattle.float32.specs.SquareRoot.{sqrtOf}
 use Rattle.polygon.specs.Halves.{fourBytes, halvesBytes}
 use Rattle.polygon.specs.Polygons.{wordOr, triangleHalves, polygonBytes}
-use Rattle.polygon.specs.declared.Polygon.{Polygon}
 use Rattle.polygon.specs.declared.Polygon.the-variants.{Triangle}
 
 -- to_short of 40000 is -25536

@@ -3,7 +3,6 @@ use borrow.Author.Needs.{needs}
 use Rattle.vertices.proofs.read_back.Statement.{statement}
 use Rattle.vertices.proofs.read_back.Tie as tie
 use mathlib.Core.Path.{ap, _∙_}
-use lib.IntN.{ℤ}
 use lib.Ieee.{Float, binary32, ofInt}
 use Rattle.base.proofs.ShortLaws.{same-short}
 use Rattle.math.specs.Vec3s.{_⊗_}

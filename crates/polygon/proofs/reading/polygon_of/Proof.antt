@@ -2,7 +2,7 @@
 use borrow.Author.Needs.{needs}
 use Rattle.polygon.proofs.reading.polygon_of.Statement.{statement}
 use Rattle.polygon.proofs.reading.polygon_of.Tie as tie
-use mathlib.Core.Path.{_≡_, sym, _∙_}
+use mathlib.Core.Path.{sym, _∙_}
 use Rattle.polygon.specs.Polygons.{sphereOf, capsuleOf, cylinderOf}
 use Rattle.polygon.proofs.KindLaws.{triangle-by-kind, box-by-kind, sphere-by-kind, capsule-by-kind, cylinder-by-kind}
 

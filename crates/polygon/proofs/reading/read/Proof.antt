@@ -2,12 +2,11 @@
 use borrow.Author.Needs.{needs}
 use Rattle.polygon.proofs.reading.read.Statement.{statement}
 use Rattle.polygon.proofs.reading.read.Tie as tie
-use mathlib.Core.Path.{_≡_, ap, _∙_}
+use mathlib.Core.Path.{ap, _∙_}
 use Prim.Native.Nat.{_≤_, _<_}
 use borrow.Author.Tests.{lt-ltb, le-ltb}
 use Rattle.polygon.specs.Polygons.{kindAt}
 use Rattle.polygon.specs.Answers.{readOf}
-use Rattle.polygon.specs.declared.Read.{Read}
 use Rattle.polygon.specs.declared.Read.the-variants.{Found}
 use native.Mathlib.Omega.{arith}
 

@@ -2,7 +2,6 @@
 use borrow.Author.Needs.{needs}
 use Rattle.polygon.proofs.writing.halves_of.Statement.{statement}
 use Rattle.polygon.proofs.writing.halves_of.Tie as tie
-use mathlib.Core.Path.{_∙_}
 use Rattle.base.proofs.ShortLaws.{same-short}
 
 enum-known-p : tie.Need-enum-known-p
