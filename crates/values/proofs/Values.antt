@@ -8,6 +8,10 @@ use lib.Ieee.{nan, inf, neg, lt, isNan, toSigned, binary32, ofBits, toBits}
 use Rattle.base.specs.LittleEndian.{littleEndian}
 use Rattle.float32.specs.Casts.{shortOf, clampOf, truncatedOf, vertexOf}
 use Rattle.float32.specs.SquareRoot.{sqrtOf}
+use Rattle.edges.specs.Links.{linkOf, linksOf}
+use Rattle.edges.specs.Sides.{pairOf, keyOf}
+use Rattle.materials.specs.Materials.{materialOf, valueAt, valuesOf, admit, listOf, indicesOf}
+use Rattle.polygon.specs.Corners.{none, nextOf}
 use Rattle.polygon.specs.Halves.{fourBytes, halvesBytes}
 use Rattle.polygon.specs.Polygons.{wordOr, triangleHalves, polygonBytes}
 use Rattle.polygon.specs.declared.Polygon.the-variants.{Triangle}
@@ -59,3 +63,22 @@ triangle-1 beside = refl
 pub triangle-3f800005 : (beside : ℕ) → triangle 0x3f80_0005 beside ≡ triangleBytes
 unfolding polygonBytes halvesBytes fourBytes littleEndian triangleHalves wordOr isNan ofBits toBits
 triangle-3f800005 beside = refl
+
+-- triangles (0,1,2), (2,1,3), (1,2,4) by their corners: links (−1,1,−1), (0,−1,−1), (0,−1,−1); none is −1 as a u16
+pub links-3 : linksOf (0 ∷ 1 ∷ 2 ∷ 2 ∷ 1 ∷ 3 ∷ 1 ∷ 2 ∷ 4 ∷ []) ≡ none ∷ 1 ∷ none ∷ 0 ∷ none ∷ none ∷ 0 ∷ none ∷ none ∷ []
+unfolding nextOf pairOf keyOf linkOf
+links-3 = refl
+
+-- what polygons 2, 0, 2, 9 have of the materials (1,0), (2,0), (1,0)
+abbrev materials-4 : List ℕ
+materials-4 = valuesOf 3 (1 ∷ 0 ∷ 2 ∷ 0 ∷ 1 ∷ 0 ∷ []) 4 (2 ∷ 0 ∷ 2 ∷ 9 ∷ [])
+
+-- the list is (1,0), (0,0)
+pub list-4 : listOf materials-4 ≡ materialOf 1 0 ∷ materialOf 0 0 ∷ []
+unfolding valueAt admit
+list-4 = refl
+
+-- the indices are 0, 0, 0, 1
+pub indices-4 : indicesOf materials-4 ≡ 0 ∷ 0 ∷ 0 ∷ 1 ∷ []
+unfolding valueAt admit
+indices-4 = refl
