@@ -47,7 +47,7 @@ pub fn measure(entries: &[u32], places: &[u32], plain: bool) -> Measured
 {
     let t = crate::totals::total(entries, places, plain);
     Measured {
-        around: crate::fold::fold_by_value(entries, places, t.low, t.high),
+        around: crate::fold::fold_by_value(entries, places, t.low, t.high, plain),
         average: average(t.sum, places.len()),
     }
 }

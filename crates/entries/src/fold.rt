@@ -2,12 +2,14 @@
 use crate::boxes::BoxWords;
 use base::numbers::Place;
 use math::vec3::Vec3;
-ghost use mathlib.Core.Bool.{_||_};
+use math::words3::Words3;
+ghost use mathlib.Core.Bool.{true, false, _||_};
 ghost use mathlib.Core.Path.{_≡_};
 ghost use lib.ListN.{length};
+ghost use lib.Ieee.{binary32, toBits, isNan};
 ghost use Rattle.entries.specs.Boxes.{boxAt};
 ghost use Rattle.entries.specs.Folding.{foldStep, foldBox};
-ghost use Rattle.math.specs.Stored.{valuesOf};
+ghost use Rattle.math.specs.Stored.{valuesOf, bitsOf};
 ghost use Rattle.base.specs.Lists.{Within};
 ghost use Rattle.entries.specs.Plain.{Plain};
 ghost use Rattle.entries.specs.steps.Totals.{anyNan};
@@ -56,18 +58,55 @@ fn either_nan(low: Vec3, high: Vec3) -> bool
     any_nan(high)
 }
 
+// Whether the fold has a NaN: where no entry has one, it has none, and nothing is tested.
+fn has_nan(low: Vec3, high: Vec3, plain: bool) -> bool
+    requires { ⌜ (plain ≡ true → (anyNan low || anyNan high) ≡ false) ⌝ }
+    ensures { λ r. ⌜ r ≡ (anyNan low || anyNan high) ⌝ }
+{
+    if plain {
+        return false;
+    }
+    either_nan(low, high)
+}
+
+// The word of a float that is no NaN.
+fn number_word(x: f32) -> u32
+    requires { ⌜ isNan x ≡ false ⌝ }
+    ensures { λ r. ⌜ r ≡ toBits binary32 x ⌝ }
+{
+    f32::to_bits(x)
+}
+
+// The words of floats of which none is a NaN.
+fn number_words(v: Vec3) -> Words3
+    requires { ⌜ anyNan v ≡ false ⌝ }
+    ensures { λ r. ⌜ r ≡ bitsOf v ⌝ }
+{
+    Words3 {
+        x: number_word(v.x),
+        y: number_word(v.y),
+        z: number_word(v.z),
+    }
+}
+
 // The words of the fold, of which the floats are known. A number has one word; a NaN's is found by the fold of the words.
-pub fn fold_by_value(entries: &[u32], places: &[u32], low: Vec3, high: Vec3) -> BoxWords
+pub fn fold_by_value(
+    entries: &[u32],
+    places: &[u32],
+    low: Vec3,
+    high: Vec3,
+    plain: bool,
+) -> BoxWords
     requires { ⌜ (Within (length (now entries)) (now places)) × (low ≡ valuesOf (foldBox (boxAt (now entries)) (now places) .min))
-        × (high ≡ valuesOf (foldBox (boxAt (now entries)) (now places) .max)) ⌝ }
+        × (high ≡ valuesOf (foldBox (boxAt (now entries)) (now places) .max)) × (Plain plain (now entries)) ⌝ }
     ensures { λ r. ⌜ r ≡ foldBox (boxAt (now (entries .entry))) (now (places .entry)) ⌝ }
 {
-    if either_nan(low, high) {
+    if has_nan(low, high, plain) {
         return fold_words(entries, places);
     }
     BoxWords {
-        min: math::words3::bits(low),
-        max: math::words3::bits(high),
+        min: number_words(low),
+        max: number_words(high),
     }
 }
 
@@ -77,5 +116,5 @@ pub fn fold_box(entries: &[u32], places: &[u32], plain: bool) -> BoxWords
     ensures { λ r. ⌜ r ≡ foldBox (boxAt (now (entries .entry))) (now (places .entry)) ⌝ }
 {
     let t = crate::totals::total(entries, places, plain);
-    fold_by_value(entries, places, t.low, t.high)
+    fold_by_value(entries, places, t.low, t.high, plain)
 }

@@ -54,7 +54,8 @@ loop-again c =
     let ws = s .args .entries .now in
     let v = after .centre .result in
     let is = after .centre .ensures ∙ ap (λ (b : Corners). scaleOf (addOf (b .low) (b .high)) half) (after .before .corners-at .ensures) in
-    subst (λ (cs : List Float). Storing ws (s .args .centres .now) cs (l .i + 1)) (in-a-row (l .centres) (l .i) v ∙ sym (c .before .before .put-centre .ensures))
+    let e = in-a-row (l .centres) (l .i) v ∙ sym (c .before .before .put-centre .ensures) in
+    subst (λ (cs : List Float). Storing ws (s .args .centres .now) cs (l .i + 1)) e
     (one-more ws (s .args .centres .now) (l .centres) (l .i) (l .inv) (s .pre .0) v (omega arith) is)
 
 same-length : tie.Need-same-length Inv-loop μ-loop

@@ -11,7 +11,8 @@ total-requires c κs = search needs
 fold-by-value-requires : tie.Need-fold-by-value-requires
 fold-by-value-requires c κs =
     let e = c .total .ensures in
-    (c .before .before .before .pre .0, ap (λ (t : Totals). t .low) e, ap (λ (t : Totals). t .high) e)
+    let g = c .before .before .before in
+    (g .pre .0, ap (λ (t : Totals). t .low) e, ap (λ (t : Totals). t .high) e, g .pre .1)
 
 returns : tie.Need-returns
 returns c = search needs

@@ -3,7 +3,7 @@ use borrow.Author.Needs.{needs}
 use native.Mathlib.Omega.{arith}
 use Rattle.split.proofs.divide.settle.Statement.{statement}
 use Rattle.split.proofs.divide.settle.Tie as tie
-use Prim.Native.Nat.{ℕ}
+use Prim.Native.Nat.{ℕ, _≤_}
 use mathlib.Core.Path.{_≡_, refl, sym, subst}
 use mathlib.Core.List.{List}
 use lib.ListN.{length, take}
@@ -59,7 +59,9 @@ returns-2 c =
     let h = m .middle .result in
     let sorted = s .sort .last .0 in
     let same : n ≡ length sorted = sym (s .sort .kept .0) in
-    let aside = kept-aside sorted (s .sort .last .1 .0) (p .paste .last .0) h n same (omega (arith, m .middle .ensures)) (omega (arith, s .sort .kept .1 .0, g .pre .0)) (p .paste .ensures) in
+    let room : n ≤ length (s .sort .last .1 .0) = omega (arith, s .sort .kept .1 .0, g .pre .0) in
+    let half : h ≤ n = omega (arith, m .middle .ensures) in
+    let aside = kept-aside sorted (s .sort .last .1 .0) (p .paste .last .0) h n same half room (p .paste .ensures) in
     let halves = subst (λ (two : List ℕ). LeaderFirst at (take h sorted) two (u .unite .last .0) (u .unite .result)) aside (u .unite .ensures at) in
     record { stands = λ l. absurd (omega arith); halved = λ l. rw (← m .middle .ensures, ← s .sort .ensures) halves }
 
