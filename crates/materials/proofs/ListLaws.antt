@@ -5,14 +5,14 @@ use native.Mathlib.Omega.{arith}
 use mathlib.Core.Path.{_≡_, refl, sym, ap, ap₂, subst, _∙_}
 use mathlib.Core.Logic.{⊎-elim}
 use mathlib.Core.Bool.{Bool, true, false, not, cond}
-use mathlib.Core.List.{List, [], _∷_, _++_, map}
+use mathlib.Core.List.{List, [], _∷_, _++_, map, map-append}
 use lib.Dec.{eqb, ltb}
 use lib.ListN.{length, getD, length-append, length-map}
-use borrow.Author.Tests.{eqb-true, eqb-false, eq-eqb, ne-eqb, lt-ltb, le-ltb, ltb-true, ltb-false}
+use borrow.Author.Tests.{eqb-true, eqb-false, eq-eqb, lt-ltb, le-ltb, ltb-true, ltb-false}
 use Rattle.base.specs.Every.{Every}
 use Rattle.base.specs.Lists.{sift, oneIf, occurrences, Among, upFrom, Below}
 use Rattle.base.proofs.EveryLaws.{every-append}
-use Rattle.base.proofs.ListLaws.{length-both, length-kept, occurs-more, occurs-append, among-head, among-tail, among-cases}
+use Rattle.base.proofs.ListLaws.{length-both, occurs-more, occurs-append, among-head, among-tail, among-cases}
 use Rattle.base.proofs.NumberLaws.{length-up}
 use Rattle.materials.specs.Materials.{placeIn, admit, listFrom, listOf, indicesOf}
 
@@ -104,10 +104,6 @@ all-listed ms = listed-from [] ms
 places-kept : (xs : List ℕ) (x : ℕ) (ms : List ℕ) → Every (λ y. placeIn xs y < length xs) ms → map (placeIn (admit xs x)) ms ≡ map (placeIn xs) ms
 places-kept xs x [] w = refl
 places-kept xs x (m ∷ ms) w = ap₂ (λ (a : ℕ) (l : List ℕ). a ∷ l) (place-kept xs x m (w .0)) (places-kept xs x ms (w .1))
-
-pub map-append : (f : ℕ → ℕ) (xs ys : List ℕ) → map f (xs ++ ys) ≡ map f xs ++ map f ys
-map-append f [] ys = refl
-map-append f (x ∷ xs) ys = ap (λ (l : List ℕ). f x ∷ l) (map-append f xs ys)
 
 pub indices-more : (ms : List ℕ) (m : ℕ) → indicesOf (ms ++ (m ∷ [])) ≡ indicesOf ms ++ (placeIn (listOf ms) m ∷ [])
 indices-more ms m =

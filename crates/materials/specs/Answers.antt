@@ -9,7 +9,7 @@ use Rattle.base.specs.Lists.{over}
 use Rattle.materials.specs.declared.building.Materials.{Materials}
 use Rattle.materials.specs.declared.building.Materials.the-variants.{Built, TooMany, BufferTooShort, TooManyMaterials}
 use Rattle.materials.specs.declared.building.Lengths.{Lengths}
-use Rattle.materials.specs.Materials.{valuesOf, listOf, indicesOf, materialsBytes}
+use Rattle.materials.specs.Materials.{listOf, indicesOf, materialsBytes}
 
 -- 01, materials, 1: over 32,767 polygons or 256 materials.
 abbrev pub many : ℕ → ℕ → Bool

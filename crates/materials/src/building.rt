@@ -4,8 +4,7 @@ use crate::listing::put_list;
 ghost use mathlib.Core.Path.{_≡_};
 ghost use Prim.Native.Nat.{_*_, _≤_};
 ghost use lib.ListN.{length};
-ghost use Rattle.base.specs.Lists.{over};
-ghost use Rattle.materials.specs.Materials.{valuesOf, listOf, indicesOf, materialsBytes};
+ghost use Rattle.materials.specs.Materials.{valuesOf};
 ghost use Rattle.materials.specs.Answers.{many, short, Answered};
 ghost use Rattle.materials.specs.steps.Listing.{Room, Listed};
 

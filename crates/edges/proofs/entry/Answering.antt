@@ -1,7 +1,7 @@
 -- What the entry answers, case by case, and what room there is where no buffer is too short.
 use Prim.Native.Nat.{ℕ, _*_, _≤_, _<_}
 use mathlib.Core.Path.{_≡_, refl}
-use mathlib.Core.Bool.{Bool, true, false}
+use mathlib.Core.Bool.{true, false}
 use mathlib.Core.List.{List}
 use lib.Dec.{ltb}
 use borrow.Author.Tests.{lt-ltb, le-ltb, ltb-false}
@@ -12,24 +12,16 @@ use Rattle.edges.specs.declared.entry.Lengths.{Lengths}
 use Rattle.edges.specs.Edges.{short, answerOf, linked, Answered}
 
 module _ (n : ℕ) (l : Lengths) where
-  pub records : short n l ≡ false → 16 * n ≤ l .polygons
-  records e =
-      let e₅ = neither _ (ltb (l .links) (3 * n)) e in
-      let e₄ = neither _ (ltb (l .spare) (3 * n)) (e₅ .0) in
-      let e₃ = neither _ (ltb (l .sides) (3 * n)) (e₄ .0) in
-      let e₂ = neither _ (ltb (l .keys) (3 * n)) (e₃ .0) in
-      let e₁ = neither (ltb (l .polygons) (16 * n)) (ltb (l .corners) (3 * n)) (e₂ .0) in
-      ltb-false (l .polygons) (16 * n) (e₁ .0)
-
-  -- of the parts to work in
-  pub parts : short n l ≡ false
-      → (3 * n ≤ l .corners) × (3 * n ≤ l .keys) × (3 * n ≤ l .sides) × (3 * n ≤ l .spare) × (3 * n ≤ l .links)
-  parts e =
+  -- of the records, and of the parts to work in
+  pub room : short n l ≡ false
+      → (16 * n ≤ l .polygons) × (3 * n ≤ l .corners) × (3 * n ≤ l .keys) × (3 * n ≤ l .sides) × (3 * n ≤ l .spare) × (3 * n ≤ l .links)
+  room e =
       let e₅ = neither _ (ltb (l .links) (3 * n)) e in
       let e₄ = neither _ (ltb (l .spare) (3 * n)) (e₅ .0) in
       let e₃ = neither _ (ltb (l .sides) (3 * n)) (e₄ .0) in
       let e₂ = neither _ (ltb (l .keys) (3 * n)) (e₃ .0) in
       let e₁ = neither (ltb (l .polygons) (16 * n)) (ltb (l .corners) (3 * n)) (e₂ .0) in (
+        ltb-false (l .polygons) (16 * n) (e₁ .0),
         ltb-false (l .corners) (3 * n) (e₁ .1),
         ltb-false (l .keys) (3 * n) (e₂ .1),
         ltb-false (l .sides) (3 * n) (e₃ .1),

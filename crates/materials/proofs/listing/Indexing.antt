@@ -4,7 +4,7 @@ use native.Mathlib.Omega.{arith}
 use native.Mathlib.Numerals.{add-one}
 use mathlib.Core.Path.{_≡_, refl, sym, ap, subst, _∙_}
 use mathlib.Core.Bool.{Bool, true, false}
-use mathlib.Core.List.{List, [], _∷_, _++_, map}
+use mathlib.Core.List.{List, [], _∷_, _++_, map, map-append}
 use lib.Dec.{eqb}
 use lib.ListN.{length, getD, set, take, length-set, length-map}
 use lib.Seq.{length-take-le, take-suc}
@@ -14,7 +14,7 @@ use Rattle.base.proofs.EveryLaws.{every-append}
 use Rattle.base.proofs.StoreLaws.{over-one}
 use Rattle.materials.specs.Materials.{placeIn, admit, listOf, indicesOf}
 use Rattle.materials.specs.steps.Listing.{Placed, Fits, Entered, Empty, Indexed}
-use Rattle.materials.proofs.ListLaws.{map-append, admit-length, place-kept, place-own, place-in, list-more, indices-more, few-materials}
+use Rattle.materials.proofs.ListLaws.{admit-length, place-kept, place-own, place-in, list-more, indices-more, few-materials}
 
 -- the materials of the first p polygons
 abbrev pub done : (ℕ → ℕ) → List ℕ → ℕ → List ℕ

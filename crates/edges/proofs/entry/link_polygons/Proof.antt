@@ -4,8 +4,7 @@ use borrow.Author.Needs.{needs}
 use Rattle.edges.proofs.entry.link_polygons.Statement.{statement}
 use Rattle.edges.proofs.entry.link_polygons.Tie as tie
 use Prim.Native.Nat.{_*_}
-use mathlib.Core.Path.{sym, _∙_}
-use lib.ListN.{length, take}
+use mathlib.Core.Path.{sym}
 use lib.Seq.{length-take-le}
 use Rattle.edges.proofs.entry.Linking.{length-unpacked, fit, stored}
 

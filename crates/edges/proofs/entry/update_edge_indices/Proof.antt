@@ -4,7 +4,7 @@ use Rattle.edges.proofs.entry.update_edge_indices.Statement.{statement}
 use Rattle.edges.proofs.entry.update_edge_indices.Tie as tie
 use borrow.Author.Tests.{not-true, not-false}
 use mathlib.Core.Path.{sym, _∙_}
-use Rattle.edges.proofs.entry.Answering.{records, parts, too-many, too-small, unknown, served}
+use Rattle.edges.proofs.entry.Answering.{room, too-many, too-small, unknown, served}
 
 returns : tie.Need-returns
 returns c = too-many _ _ _ (c .if1 .taken)
@@ -16,7 +16,7 @@ returns-2 : tie.Need-returns-2
 returns-2 c = too-small _ _ _ (c .before .before .if1 .left) (sym (c .before .too-short .ensures) ∙ c .if2 .taken)
 
 kinds-known-requires : tie.Need-kinds-known-requires
-kinds-known-requires c κs = records _ _ (sym (c .before .before .too-short .ensures) ∙ c .before .if2 .left)
+kinds-known-requires c κs = room _ _ (sym (c .before .before .too-short .ensures) ∙ c .before .if2 .left) .0
 
 same-length : tie.Need-same-length
 same-length c = search needs
@@ -35,15 +35,15 @@ link-polygons-requires c κs =
     let at-too-short = at-if2 .before in
     let at-if1 = at-too-short .before in
     let short = sym (at-too-short .too-short .ensures) ∙ at-if2 .if2 .left in
-    let w = parts _ _ short in
+    let w = room _ _ short in
     record {
       few = at-if1 .if1 .left;
-      records = records _ _ short;
-      for-corners = w .0;
-      for-keys = w .1;
-      for-sides = w .2;
-      for-spare = w .3;
-      for-links = w .4;
+      records = w .0;
+      for-corners = w .1;
+      for-keys = w .2;
+      for-sides = w .3;
+      for-spare = w .4;
+      for-links = w .5;
     }
 
 same-length-2 : tie.Need-same-length-2

@@ -3,7 +3,7 @@ use native.Mathlib.Omega.{arith}
 use Rattle.edges.proofs.runs.link_runs.Statement.{statement}
 use Rattle.edges.proofs.runs.link_runs.Tie as tie
 use Prim.Native.Nat.{_+_, _-_, _<_}
-use mathlib.Core.Path.{_≡_, sym, ap, _∙_}
+use mathlib.Core.Path.{sym, ap, _∙_}
 use lib.ListN.{length, getD}
 use Rattle.edges.specs.steps.Grouped.{keyIn, Sides}
 use Rattle.edges.proofs.KeyedLaws.{keyed-at, numbers}

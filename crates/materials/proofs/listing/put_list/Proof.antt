@@ -4,9 +4,6 @@ use Rattle.materials.proofs.listing.put_list.Statement.{statement}
 use Rattle.materials.proofs.listing.put_list.Tie as tie
 use Prim.Native.Nat.{_-_, _≤_}
 use mathlib.Core.Path.{_≡_}
-use lib.ListN.{length, take}
-use Rattle.base.specs.Lists.{over}
-use Rattle.materials.specs.Materials.{materialsBytes}
 use Rattle.materials.proofs.listing.Putting.{Putting, start, one-more}
 
 abbrev Inv-loop : tie.InvT-loop

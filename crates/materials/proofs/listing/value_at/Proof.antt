@@ -2,7 +2,6 @@
 use borrow.Author.Needs.{needs}
 use Rattle.materials.proofs.listing.value_at.Statement.{statement}
 use Rattle.materials.proofs.listing.value_at.Tie as tie
-use mathlib.Core.Path.{sym, _∙_}
 use borrow.Author.Tests.{lt-ltb, le-ltb}
 use Rattle.materials.specs.Materials.{valueAt}
 
