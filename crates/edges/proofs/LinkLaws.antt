@@ -11,7 +11,7 @@ use lib.Seq.{drop-cons}
 use borrow.Author.Tests.{eqb-false, eq-eqb, ne-eqb}
 use Rattle.edges.specs.Lists.{withKey, RisingBy}
 use Rattle.base.specs.Every.{Every}
-use Rattle.polygon.specs.Corners.{none}
+use Rattle.corners.specs.Corners.{none}
 use Rattle.edges.specs.Links.{linkAmong}
 use Rattle.edges.specs.steps.Linked.{linkOfFirst}
 use Rattle.edges.specs.steps.Grouped.{codeOf}

@@ -10,7 +10,7 @@ use mathlib.Core.List.{List, [], _∷_}
 use lib.Dec.{ltb}
 use lib.ListN.{length, getD}
 use borrow.Author.Tests.{eq-eqb, ne-eqb, ltb-true, ltb-false}
-use Rattle.polygon.specs.Corners.{none, there}
+use Rattle.corners.specs.Corners.{none, there}
 use Rattle.edges.specs.Sides.{pairOf}
 use Rattle.edges.specs.Links.{linkAmong, sameAs, linkOf, linksOf}
 use Rattle.edges.proofs.UpFromLaws.{map-counting}

@@ -11,7 +11,7 @@ use lib.ListN.{length, getD, set, take}
 use lib.Seq.{take-suc-set, getD-set-same, getD-set-other}
 use borrow.Author.Tests.{eqb-true, eqb-false, eq-eqb, ne-eqb, lt-ltb, le-ltb}
 use Rattle.base.specs.Lists.{sift, upFrom}
-use Rattle.polygon.specs.Corners.{none, nextOf, there, Corners}
+use Rattle.corners.specs.Corners.{none, nextOf, there, Corners}
 use Rattle.edges.specs.Sides.{pairOf, keyOf}
 use Rattle.edges.proofs.SiftLaws.{sift-front, sift-past}
 use Rattle.edges.proofs.UpFromLaws.{counting-more}

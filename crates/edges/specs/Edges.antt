@@ -4,7 +4,7 @@ use mathlib.Core.Bool.{Bool, cond, _||_}
 use mathlib.Core.List.{List}
 use mathlib.Core.Path.{_≡_}
 use lib.Dec.{ltb}
-use Rattle.polygon.specs.Corners.{kindsKnown, cornersOf, linksPut}
+use Rattle.corners.specs.Corners.{kindsKnown, cornersOf, linksPut}
 use Rattle.edges.specs.declared.entry.Edges.{Edges}
 use Rattle.edges.specs.declared.entry.Edges.the-variants.{Linked, TooManyPolygons, BufferTooShort, UnknownKind}
 use Rattle.edges.specs.declared.entry.Lengths.{Lengths}

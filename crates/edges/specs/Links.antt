@@ -6,7 +6,7 @@ use lib.Dec.{eqb}
 use lib.ListN.{length}
 use Rattle.base.specs.Lists.{upFrom}
 use Rattle.edges.specs.Lists.{withKey}
-use Rattle.polygon.specs.Corners.{none, there}
+use Rattle.corners.specs.Corners.{none, there}
 use Rattle.edges.specs.Sides.{keyOf, sidesOf}
 
 -- Rule E2 (01: "the first two triangle sides on an undirected edge link to each other's triangle .., later sides to the first's; alone −1"):

@@ -6,7 +6,7 @@ use mathlib.Core.List.{List}
 use lib.Dec.{ltb}
 use lib.ListN.{length, getD}
 use Rattle.base.specs.Lists.{sift, upFrom}
-use Rattle.polygon.specs.Corners.{nextOf, there}
+use Rattle.corners.specs.Corners.{nextOf, there}
 
 -- Rule E1: two corners as one number, the same from either end
 unfoldable pub pairOf : ℕ → ℕ → ℕ

@@ -1,8 +1,8 @@
 // The links of the triangles in a list of records.
 use crate::links::links_of;
-use polygon::corners::kinds_known;
-use polygon::corners::put_links;
-use polygon::corners::unpack_corners;
+use corners::kinds_known;
+use corners::put_links;
+use corners::unpack_corners;
 ghost use mathlib.Core.Path.{_≡_};
 ghost use Prim.Native.Nat.{_*_, _≤_};
 ghost use lib.ListN.{length};

@@ -12,7 +12,7 @@ ghost use Rattle.edges.specs.Lists.{RisingBy};
 ghost use Rattle.edges.specs.steps.Grouped.{keyIn, Sides};
 ghost use Rattle.edges.specs.Links.{linksOf, Room};
 ghost use Rattle.edges.specs.steps.Linked.{Linked};
-ghost use Rattle.polygon.specs.Corners.{Corners};
+ghost use Rattle.corners.specs.Corners.{Corners};
 
 // Links each of the sides, which are in their order.
 fn link_sides(keys: &[u32], sides: &mut [u32], spare: &mut [u32], links: &mut [u32])

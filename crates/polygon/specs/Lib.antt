@@ -1,6 +1,5 @@
 pub mod Answers
 pub mod Boxes
 pub mod Canonical
-pub mod Corners
 pub mod Halves
 pub mod Polygons

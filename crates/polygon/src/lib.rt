@@ -1,6 +1,5 @@
-// Polygons: five kinds by value, their records of 16 bytes, their boxes, and the corners and links of triangles in lists of records.
+// Polygons: five kinds by value, their records of 16 bytes and their boxes.
 pub mod boxes;
-pub mod corners;
 pub mod halves;
 pub mod reading;
 pub mod writing;

@@ -11,7 +11,7 @@ use Rattle.float32.specs.SquareRoot.{sqrtOf}
 use Rattle.edges.specs.Links.{linkOf, linksOf}
 use Rattle.edges.specs.Sides.{pairOf, keyOf}
 use Rattle.materials.specs.Materials.{materialOf, valueAt, valuesOf, admit, listOf, indicesOf}
-use Rattle.polygon.specs.Corners.{none, nextOf}
+use Rattle.corners.specs.Corners.{none, nextOf}
 use Rattle.polygon.specs.Halves.{fourBytes, halvesBytes}
 use Rattle.polygon.specs.Polygons.{wordOr, triangleHalves, polygonBytes}
 use Rattle.polygon.specs.declared.Polygon.the-variants.{Triangle}

@@ -6,7 +6,7 @@ use mathlib.Core.List.{List}
 use lib.Dec.{ltb}
 use borrow.Author.Tests.{lt-ltb, le-ltb, ltb-false}
 use Rattle.base.proofs.Truth.{neither}
-use Rattle.polygon.specs.Corners.{kindsKnown}
+use Rattle.corners.specs.Corners.{kindsKnown}
 use Rattle.edges.specs.declared.entry.Edges.the-variants.{Linked, TooManyPolygons, BufferTooShort, UnknownKind}
 use Rattle.edges.specs.declared.entry.Lengths.{Lengths}
 use Rattle.edges.specs.Edges.{short, answerOf, linked, Answered}

@@ -5,9 +5,9 @@ use mathlib.Core.List.{List}
 use lib.ListN.{length, take, drop}
 use lib.Seq.{take-at}
 use Rattle.base.specs.Lists.{over}
-use Rattle.polygon.specs.Corners.{Corners, cornersOf, linksPut}
-use Rattle.polygon.proofs.CornerLaws.{length-corners}
-use Rattle.polygon.proofs.LinkLaws.{corners-hold}
+use Rattle.corners.specs.Corners.{Corners, cornersOf, linksPut}
+use Rattle.corners.proofs.CornerLaws.{length-corners}
+use Rattle.corners.proofs.LinkLaws.{corners-hold}
 use Rattle.edges.specs.Links.{linksOf}
 use Rattle.edges.specs.Edges.{linked}
 

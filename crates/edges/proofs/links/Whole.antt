@@ -11,7 +11,7 @@ use lib.Seq.{length-take-le, getD-take, ext-getD}
 use Rattle.base.specs.Lists.{occurrences, Among, upFrom}
 use Rattle.edges.specs.Lists.{withKey, RisingBy}
 use Rattle.base.specs.Every.{Every}
-use Rattle.polygon.specs.Corners.{none, there, Corners}
+use Rattle.corners.specs.Corners.{none, there, Corners}
 use Rattle.edges.specs.Sides.{keyOf, sidesOf}
 use Rattle.edges.specs.Links.{linkAmong, sameAs, linkOf, linksOf}
 use Rattle.edges.specs.steps.Linked.{Linked}

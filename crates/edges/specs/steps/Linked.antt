@@ -7,7 +7,7 @@ use lib.Dec.{eqb}
 use lib.ListN.{getD}
 use Rattle.base.specs.Every.{Every}
 use Rattle.base.specs.Lists.{occurrences}
-use Rattle.polygon.specs.Corners.{none}
+use Rattle.corners.specs.Corners.{none}
 use Rattle.edges.specs.Lists.{withKey}
 use Rattle.edges.specs.Links.{linkAmong}
 

@@ -1,11 +1,11 @@
 -- `corners::unpack_corners` meets its contract. The invariant: the corners of i polygons are stored, and the rest is as it was.
-use Rattle.polygon.proofs.corners.unpack_corners.Statement.{statement}
-use Rattle.polygon.proofs.corners.unpack_corners.Tie as tie
+use Rattle.corners.proofs.unpack_corners.Statement.{statement}
+use Rattle.corners.proofs.unpack_corners.Tie as tie
 use mathlib.Core.Path.{_≡_, refl, ap, _∙_}
 use Prim.Native.Nat.{ℕ, _-_, _≤_}
 use Rattle.base.specs.Lists.{over}
-use Rattle.polygon.specs.Corners.{cornersOf}
-use Rattle.polygon.proofs.CornerLaws.{corners-next}
+use Rattle.corners.specs.Corners.{cornersOf}
+use Rattle.corners.proofs.CornerLaws.{corners-next}
 use native.Mathlib.Omega.{arith}
 use borrow.Author.Needs.{needs}
 use lib.ListN.{length}

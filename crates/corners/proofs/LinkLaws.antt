@@ -10,9 +10,9 @@ use lib.Dec.{T, eqb, leb}
 use lib.ListN.{length, getD, take, drop, length-drop, List·getD-append, List·getD-eq-default}
 use lib.Seq.{getD-drop, getD-take, length-take-le}
 use Rattle.base.specs.LittleEndian.{leAt}
-use Rattle.polygon.specs.Corners.{none, nextOf, Corners, inTurn, isTriangle, cornerOf, cornersAt, cornersOf}
-use Rattle.polygon.specs.Corners.{linkBytes, linkedRecord, linkedRecords, linksPut}
-use Rattle.polygon.proofs.CornerLaws.{length-corners-at, length-corners, length-linked-record, length-linked, part-in-turn}
+use Rattle.corners.specs.Corners.{none, nextOf, Corners, inTurn, isTriangle, cornerOf, cornersAt, cornersOf}
+use Rattle.corners.specs.Corners.{linkBytes, linkedRecord, linkedRecords, linksPut}
+use Rattle.corners.proofs.CornerLaws.{length-corners-at, length-corners, length-linked-record, length-linked, part-in-turn}
 
 -- ---- Corners
 

@@ -1,7 +1,7 @@
-// Lists of records: their kinds, and the corners and links of their triangles. Both are three words a polygon; 65535 is none.
-use crate::reading::kind_at;
+// Lists of polygon records: their kinds, and the corners and links of their triangles. Both are three words a polygon; 65535 is none.
 use base::little_endian::put_le;
 use base::little_endian::two_at;
+use polygon::reading::kind_at;
 ghost use mathlib.Core.Path.{_≡_};
 ghost use mathlib.Core.List.{[], _∷_, _++_};
 ghost use Prim.Native.Nat.{_+_, _*_, _%_, _<_, _≤_};
@@ -9,7 +9,7 @@ ghost use lib.ListN.{length, take, drop};
 ghost use lib.Seq.{sets};
 ghost use Rattle.base.specs.Lists.{over};
 ghost use Rattle.base.specs.LittleEndian.{littleEndian};
-ghost use Rattle.polygon.specs.Corners.{kindsKnown, cornerOf, cornersAt, cornersOf, linkBytes, linkedRecord, linksPut};
+ghost use Rattle.corners.specs.Corners.{kindsKnown, cornerOf, cornersAt, cornersOf, linkBytes, linkedRecord, linksPut};
 
 // Whether none of the first n records is of kind 5, 6 or 7.
 pub fn kinds_known(polygons: &[u8], n: usize) -> bool

@@ -14,8 +14,8 @@ use Rattle.base.specs.Lists.{over}
 use Rattle.base.proofs.LittleEndian.{joined, number-bytes}
 use Rattle.base.proofs.StoreLaws.{stores-leave, over-more}
 use Rattle.base.proofs.Truth.{both-yes}
 use Rattle.polygon.specs.Polygons.{kindAt}
-use Rattle.polygon.specs.Corners.{none, inTurn, kindsKnown, isTriangle, cornersAt, cornersOf, linkBytes, linkedRecord, linkedRecords}
+use Rattle.corners.specs.Corners.{none, inTurn, kindsKnown, isTriangle, cornersAt, cornersOf, linkBytes, linkedRecord, linkedRecords}
 
 -- ---- what is written from the first place on
 

@@ -1,12 +1,12 @@
 -- `corners::kinds_known` meets its contract. The invariant: the kinds of i records are known.
-use Rattle.polygon.proofs.corners.kinds_known.Statement.{statement}
-use Rattle.polygon.proofs.corners.kinds_known.Tie as tie
+use Rattle.corners.proofs.kinds_known.Statement.{statement}
+use Rattle.corners.proofs.kinds_known.Tie as tie
 use mathlib.Core.Bool.{true}
 use mathlib.Core.Path.{_≡_, refl, sym, ap, _∙_}
 use Prim.Native.Nat.{ℕ, _*_, _-_, _≤_, _<_}
 use Rattle.polygon.specs.Polygons.{kindAt}
-use Rattle.polygon.specs.Corners.{kindsKnown}
-use Rattle.polygon.proofs.CornerLaws.{known-more, unknown-among}
+use Rattle.corners.specs.Corners.{kindsKnown}
+use Rattle.corners.proofs.CornerLaws.{known-more, unknown-among}
 use native.Mathlib.Omega.{arith}
 use borrow.Author.Needs.{needs}
 

@@ -1,10 +1,10 @@
 -- `corners::unpack_one` meets its contract: by the kind.
 use borrow.Author.Needs.{needs}
-use Rattle.polygon.proofs.corners.unpack_one.Statement.{statement}
-use Rattle.polygon.proofs.corners.unpack_one.Tie as tie
+use Rattle.corners.proofs.unpack_one.Statement.{statement}
+use Rattle.corners.proofs.unpack_one.Tie as tie
 use mathlib.Core.Path.{sym, _∙_}
 use borrow.Author.Tests.{eq-eqb, ne-eqb}
-use Rattle.polygon.specs.Corners.{cornersAt}
+use Rattle.corners.specs.Corners.{cornersAt}
 
 mul-kind-at : tie.Need-mul-kind-at
 mul-kind-at c = search needs

@@ -1,10 +1,10 @@
 -- `corners::put_one` meets its contract: a triangle's links are stored, and of another kind nothing changes.
 use borrow.Author.Needs.{needs}
-use Rattle.polygon.proofs.corners.put_one.Statement.{statement}
-use Rattle.polygon.proofs.corners.put_one.Tie as tie
+use Rattle.corners.proofs.put_one.Statement.{statement}
+use Rattle.corners.proofs.put_one.Tie as tie
 use mathlib.Core.Path.{sym, _∙_}
 use borrow.Author.Tests.{ne-eqb}
-use Rattle.polygon.proofs.CornerLaws.{linked-triangle, linked-other}
+use Rattle.corners.proofs.CornerLaws.{linked-triangle, linked-other}
 
 mul-kind-at : tie.Need-mul-kind-at
 mul-kind-at c = search needs

@@ -1,9 +1,9 @@
 -- `corners::set_three` meets its contract: three stores in a row are a run.
 use borrow.Author.Needs.{needs}
-use Rattle.polygon.proofs.corners.set_three.Statement.{statement}
-use Rattle.polygon.proofs.corners.set_three.Tie as tie
+use Rattle.corners.proofs.set_three.Statement.{statement}
+use Rattle.corners.proofs.set_three.Tie as tie
 use lib.ListN.{length-set}
-use Rattle.polygon.proofs.CornerLaws.{three-set}
+use Rattle.corners.proofs.CornerLaws.{three-set}
 use native.Mathlib.Omega.{arith}
 
 mul-words : tie.Need-mul-words

@@ -1,12 +1,12 @@
 -- `corners::put_links` meets its contract. The invariant: the links of i polygons are stored, and all else is as it was.
-use Rattle.polygon.proofs.corners.put_links.Statement.{statement}
-use Rattle.polygon.proofs.corners.put_links.Tie as tie
+use Rattle.corners.proofs.put_links.Statement.{statement}
+use Rattle.corners.proofs.put_links.Tie as tie
 use lib.ListN.{length}
 use mathlib.Core.Path.{_≡_, refl, ap, _∙_}
 use Prim.Native.Nat.{ℕ, _-_, _≤_}
 use Rattle.base.specs.Lists.{over}
-use Rattle.polygon.specs.Corners.{linkedRecords, linksPut}
-use Rattle.polygon.proofs.CornerLaws.{links-next}
+use Rattle.corners.specs.Corners.{linkedRecords, linksPut}
+use Rattle.corners.proofs.CornerLaws.{links-next}
 use native.Mathlib.Omega.{arith}
 use borrow.Author.Needs.{needs}
 

@@ -1,14 +1,14 @@
 -- `corners::put_three` meets its contract: three runs of two stores, each from where the last one ended, are one run.
 use borrow.Author.Needs.{needs}
-use Rattle.polygon.proofs.corners.put_three.Statement.{statement}
-use Rattle.polygon.proofs.corners.put_three.Tie as tie
+use Rattle.corners.proofs.put_three.Statement.{statement}
+use Rattle.corners.proofs.put_three.Tie as tie
 use mathlib.Core.List.{_++_}
 use Prim.Native.Nat.{_+_, _*_}
 use lib.ListN.{getD}
 use Rattle.base.specs.LittleEndian.{littleEndian}
 use Rattle.base.proofs.LittleEndian.{joined, number-bytes}
 use Rattle.base.proofs.StoreLaws.{store-next}
-use Rattle.polygon.specs.Corners.{linkBytes}
+use Rattle.corners.specs.Corners.{linkBytes}
 
 mul-at : tie.Need-mul-at
 mul-at c = search needs
