@@ -1,6 +1,6 @@
 -- What the definitions mean: two sides have one key where they have the same two corners, in either direction; and for every side, what its
--- link is: none where it is alone on its edge, the first's is the second's polygon, and each other's the first's.
-use Prim.Native.Nat.{ℕ, _+_, _*_, _/_, _<_}
+-- link is: none where it is alone on its edge, the first's is the second's polygon, and each other's the first's. By cases of the tests.
+use Prim.Native.Nat.{ℕ, _+_, _*_, _/_, _≤_, _<_}
 use native.Mathlib.Omega.{arith}
 use native.Mathlib.Nat.{zero-add}
 use mathlib.Core.Path.{_≡_, refl, ap, _∙_}
@@ -10,7 +10,8 @@ use mathlib.Core.List.{List, [], _∷_}
 use lib.Dec.{ltb}
 use lib.ListN.{length, getD}
 use borrow.Author.Tests.{eq-eqb, ne-eqb, ltb-true, ltb-false}
-use Rattle.corners.specs.Corners.{none, there}
+use Rattle.corners.specs.Corners.{none, there, cornersOf, linksPut}
+use Rattle.corners.proofs.LinkLaws.{links-forget}
 use Rattle.edges.specs.Sides.{pairOf}
 use Rattle.edges.specs.Links.{linkAmong, sameAs, linkOf, linksOf}
 use Rattle.edges.proofs.UpFromLaws.{map-counting}
@@ -60,3 +61,7 @@ module _ (cs : List ℕ) (s : ℕ) where
   pub link-of-later : (f g : ℕ) (gs : List ℕ) → there cs s ≡ true → sameAs cs s ≡ f ∷ (g ∷ gs) → (s ≡ f → ⊥) → linkOf cs s ≡ f / 3
   unfolding linkOf
   link-of-later f g gs e q ne = rw e (ap (linkAmong s) q ∙ ap (λ (b : Bool). cond b (g / 3) (f / 3)) (ne-eqb s f ne))
+
+-- The links that the records came with do not matter: nor do those of an earlier pass, which a second pass finds.
+pub forgets : (n : ℕ) (links bytes : List ℕ) → 16 * n ≤ length bytes → linksOf (cornersOf n (linksPut n links bytes)) ≡ linksOf (cornersOf n bytes)
+forgets n links bytes h = ap linksOf (links-forget n links bytes h)
