@@ -1,5 +1,4 @@
 pub mod Answers
-pub mod Boxes
 pub mod Canonical
 pub mod Corners
 pub mod Halves

@@ -1,5 +1,4 @@
-// Polygons: five kinds by value, their records of 16 bytes, their boxes, and the corners and links of triangles in lists of records.
-pub mod boxes;
+// Polygons: five kinds by value, their records of 16 bytes, and the corners and links of triangles in lists of records.
 pub mod corners;
 pub mod halves;
 pub mod reading;
