@@ -1,5 +1,4 @@
-// Polygons: five kinds by value, their records of 16 bytes and their boxes.
-pub mod boxes;
+// Polygons: five kinds by value, and their records of 16 bytes.
 pub mod halves;
 pub mod reading;
 pub mod writing;

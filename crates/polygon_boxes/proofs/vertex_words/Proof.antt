@@ -1,11 +1,11 @@
--- `boxes::vertex_words` meets its contract: a vertex is there where its three words are.
+-- `vertex_words` meets its contract: a vertex is there where its three words are.
 use borrow.Author.Needs.{needs}
-use Rattle.polygon.proofs.boxes.vertex_words.Statement.{statement}
-use Rattle.polygon.proofs.boxes.vertex_words.Tie as tie
+use Rattle.polygon_boxes.proofs.vertex_words.Statement.{statement}
+use Rattle.polygon_boxes.proofs.vertex_words.Tie as tie
 use Prim.Native.Nat.{_/_, _<_, _≤_}
 use lib.ListN.{length}
 use borrow.Author.Tests.{lt-ltb, le-ltb}
-use Rattle.polygon.specs.Boxes.{vertexWords}
+use Rattle.polygon_boxes.specs.Boxes.{vertexWords}
 use native.Mathlib.Omega.{arith}
 
 mul-at : tie.Need-mul-at

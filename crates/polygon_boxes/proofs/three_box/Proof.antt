@@ -1,11 +1,11 @@
--- `boxes::three_box` meets its contract: what its calls ensure, one after the other.
+-- `three_box` meets its contract: what its calls ensure, one after the other.
 use borrow.Author.Needs.{needs}
-use Rattle.polygon.proofs.boxes.three_box.Statement.{statement}
-use Rattle.polygon.proofs.boxes.three_box.Tie as tie
+use Rattle.polygon_boxes.proofs.three_box.Statement.{statement}
+use Rattle.polygon_boxes.proofs.three_box.Tie as tie
 use mathlib.Core.Path.{ap, _∙_}
 use Rattle.math.specs.Stored.{vminWordsOf, vmaxWordsOf}
 use Rattle.math.specs.declared.words3.Words3.{Words3}
-use Rattle.polygon.specs.Boxes.{threeBox}
+use Rattle.polygon_boxes.specs.Boxes.{threeBox}
 
 vmin-words-requires : tie.Need-vmin-words-requires
 vmin-words-requires c κs = search needs

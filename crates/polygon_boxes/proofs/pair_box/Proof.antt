@@ -1,11 +1,11 @@
--- `boxes::pair_box` meets its contract: what its calls ensure, one after the other.
+-- `pair_box` meets its contract: what its calls ensure, one after the other.
 use borrow.Author.Needs.{needs}
-use Rattle.polygon.proofs.boxes.pair_box.Statement.{statement}
-use Rattle.polygon.proofs.boxes.pair_box.Tie as tie
+use Rattle.polygon_boxes.proofs.pair_box.Statement.{statement}
+use Rattle.polygon_boxes.proofs.pair_box.Tie as tie
 use mathlib.Core.Path.{ap₂, _∙_}
 use Rattle.math.specs.Vec3s.{vmin3Of, vmax3Of}
 use Rattle.math.specs.declared.vec3.Vec3.{Vec3}
-use Rattle.polygon.specs.Boxes.{grownBox, pairBox}
+use Rattle.polygon_boxes.specs.Boxes.{grownBox, pairBox}
 
 values-requires : tie.Need-values-requires
 values-requires c κs = search needs

@@ -1,7 +1,7 @@
--- `boxes::bbox` meets its contract: in each arm what its calls ensure of the case's fields.
+-- `bbox` meets its contract: in each arm what its calls ensure of the case's fields.
 use borrow.Author.Needs.{needs}
-use Rattle.polygon.proofs.boxes.bbox.Statement.{statement}
-use Rattle.polygon.proofs.boxes.bbox.Tie as tie
+use Rattle.polygon_boxes.proofs.bbox.Statement.{statement}
+use Rattle.polygon_boxes.proofs.bbox.Tie as tie
 use Rattle.base.proofs.ShortLaws.{same-short}
 
 enum-known-p : tie.Need-enum-known-p

@@ -1,11 +1,11 @@
--- `boxes::four_box` meets its contract: what its calls ensure, one after the other.
+-- `four_box` meets its contract: what its calls ensure, one after the other.
 use borrow.Author.Needs.{needs}
-use Rattle.polygon.proofs.boxes.four_box.Statement.{statement}
-use Rattle.polygon.proofs.boxes.four_box.Tie as tie
+use Rattle.polygon_boxes.proofs.four_box.Statement.{statement}
+use Rattle.polygon_boxes.proofs.four_box.Tie as tie
 use mathlib.Core.Path.{ap, _∙_}
 use Rattle.math.specs.Stored.{vminWordsOf, vmaxWordsOf}
-use Rattle.polygon.specs.Boxes.{threeBox, fourBox}
-use Rattle.polygon.specs.declared.boxes.PolygonBox.{PolygonBox}
+use Rattle.polygon_boxes.specs.Boxes.{threeBox, fourBox}
+use Rattle.polygon_boxes.specs.declared.PolygonBox.{PolygonBox}
 
 three-box-requires : tie.Need-three-box-requires
 three-box-requires c κs = search needs

@@ -1,10 +1,10 @@
--- `boxes::grown_box` meets its contract: what its calls ensure, one after the other.
+-- `grown_box` meets its contract: what its calls ensure, one after the other.
 use borrow.Author.Needs.{needs}
-use Rattle.polygon.proofs.boxes.grown_box.Statement.{statement}
-use Rattle.polygon.proofs.boxes.grown_box.Tie as tie
+use Rattle.polygon_boxes.proofs.grown_box.Statement.{statement}
+use Rattle.polygon_boxes.proofs.grown_box.Tie as tie
 use mathlib.Core.Path.{ap, _∙_}
 use Rattle.math.specs.Stored.{bitsOf}
-use Rattle.polygon.specs.Boxes.{grownBox}
+use Rattle.polygon_boxes.specs.Boxes.{grownBox}
 
 vadd-f-requires : tie.Need-vadd-f-requires
 vadd-f-requires c κs = search needs

@@ -1,6 +1,4 @@
 // The box of a polygon over its vertices, which are three words each. A vertex that is not there is zero.
-use crate::Polygon;
-use crate::halves::half_of;
 use math::vec3::Vec3;
 use math::vec3::vadd_f;
 use math::vec3::vmax;
@@ -10,8 +8,10 @@ use math::words3::bits;
 use math::words3::values;
 use math::words3::vmax_words;
 use math::words3::vmin_words;
+use polygon::Polygon;
+use polygon::halves::half_of;
 ghost use mathlib.Core.Path.{_≡_};
-ghost use Rattle.polygon.specs.Boxes.{vertexWords, threeBox, fourBox, grownBox, pairBox, bboxOf};
+ghost use Rattle.polygon_boxes.specs.Boxes.{vertexWords, threeBox, fourBox, grownBox, pairBox, bboxOf};
 
 // Words, so that a NaN that is copied keeps its bits.
 #[repr(C)]

@@ -10,9 +10,9 @@ use Rattle.math.specs.Stored.{valuesOf, bitsOf, vminWordsOf, vmaxWordsOf}
 use Rattle.math.specs.Vec3s.{vaddOf, vmin3Of, vmax3Of}
 use Rattle.math.specs.declared.vec3.Vec3.{Vec3}
 use Rattle.math.specs.declared.words3.Words3.{Words3}
-use Rattle.polygon.specs.declared.boxes.PolygonBox.{PolygonBox}
+use Rattle.polygon_boxes.specs.declared.PolygonBox.{PolygonBox}
 use Rattle.polygon.specs.declared.Polygon.{Polygon}
 use Rattle.polygon.specs.declared.Polygon.the-variants.{Triangle, Sphere, Capsule, Box, Cylinder}
 
 -- Rule G8 (01: a missing vertex is plain zero): vertex i of a list of words, three a vertex.
 unfoldable pub vertexWords : List ℕ → ℕ → Words3
