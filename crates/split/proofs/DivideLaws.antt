@@ -14,7 +14,7 @@ use Rattle.base.proofs.SortLaws.{sort-length, sort-every, sort-permutes}
 use Rattle.base.proofs.WithinLaws.{within-sift, within-append, within-take, within-drop}
 use Rattle.entries.specs.declared.boxes.BoxWords.{BoxWords}
 use Rattle.split.specs.Rule.{chosen, groupOne, groupTwo, twoLeads, firstOf, secondOf}
-use Rattle.sorting.specs.Sorted.{atMost, sortBoxes}
+use Rattle.box_sort.specs.Sorted.{atMost, sortBoxes}
 
 -- two groups that the places of a list are split into
 pub record Split (ps one two : List ℕ) : Type 0 where

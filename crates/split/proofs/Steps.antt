@@ -15,7 +15,7 @@ use Rattle.math.specs.declared.vec3.Vec3.{Vec3}
 use Rattle.math.specs.declared.axis.Axis.{Axis}
 use Rattle.entries.specs.declared.boxes.BoxWords.{BoxWords}
 use Rattle.entries.specs.Average.{averageOf}
-use Rattle.sorting.specs.Sorted.{sortBoxes}
+use Rattle.box_sort.specs.Sorted.{sortBoxes}
 use Rattle.split.specs.declared.groups.Counts.{Counts}
 use Rattle.split.specs.Rule.{above, axisOf, chosen, one, two, stuck, groupOne, groupTwo, twoLeads, firstOf, secondOf, Divided}
 use Rattle.split.specs.steps.Groups.{countsOf, axisBy, Parted, LeaderFirst, Settled}

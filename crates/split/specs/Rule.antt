@@ -13,7 +13,7 @@ use Rattle.math.specs.declared.axis.Axis.the-variants.{X, Y, Z}
 use Rattle.math.specs.Axes.{coordinate}
 use Rattle.entries.specs.declared.boxes.BoxWords.{BoxWords}
 use Rattle.entries.specs.Average.{centreOf, averageOf}
-use Rattle.sorting.specs.Sorted.{sortBoxes}
+use Rattle.box_sort.specs.Sorted.{sortBoxes}
 
 -- a centre below the average, and one above it; a NaN is neither
 unfoldable pub below : (ℕ → BoxWords) → Vec3 → Axis → ℕ → Bool

@@ -29,7 +29,7 @@ fn settle(places: &mut [u32], temp: &mut [u32], entries: &[u32], first: usize) -
     if first < n {
         return first;
     }
-    sorting::merging::sort(places, temp, entries);
+    box_sort::merging::sort(places, temp, entries);
     let h = middle(n);
     crate::groups::paste(temp, 0, &places[h..n], n - h);
     crate::groups::unite(places, temp, h)

@@ -14,7 +14,7 @@ use Rattle.math.specs.Transform.{half}
 use Rattle.entries.specs.declared.boxes.BoxWords.{BoxWords}
 use Rattle.split.specs.declared.groups.Counts.{Counts}
 use Rattle.split.specs.Rule.{below, countBelow, offset, nearestAxis, twoLeads}
-use Rattle.sorting.specs.Sorted.{sortBoxes}
+use Rattle.box_sort.specs.Sorted.{sortBoxes}
 
 -- how many centres are below the average, on each axis, and how many there are
 abbrev pub countsOf : (ℕ → BoxWords) → Vec3 → List ℕ → Counts
