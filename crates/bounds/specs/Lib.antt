@@ -1,3 +1,4 @@
+pub mod Geometry
 pub mod Numbers
 pub mod PointThree
 pub mod Trees

@@ -1,4 +1,6 @@
 // The C interface: one function an operation, none of which asks anything of its caller.
+pub mod geometry;
+
 use bvh::core::Build;
 use bvh::core::BuildRefusal;
 use bvh::core::BuiltTree;

@@ -1,0 +1,15 @@
+-- `geometry::unread` meets its contract: the number, and zeros.
+use borrow.Author.Needs.{needs}
+use Rattle.bounds.specs.Geometry.{unread}
+use Rattle.bounds.proofs.geometry.unread.Statement.{statement}
+use Rattle.bounds.proofs.geometry.unread.Tie as tie
+
+round-struct-requires : tie.Need-round-struct-requires
+round-struct-requires c κs = search needs
+
+returns : tie.Need-returns
+unfolding unread
+returns c = cc
+
+pub unread-spec : {M : Type 1} → statement M
+unread-spec = tie.close (tie.spec round-struct-requires returns)
