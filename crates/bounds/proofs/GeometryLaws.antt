@@ -9,10 +9,10 @@ use Rattle.edges.specs.declared.entry.Edges.{Edges}
 use Rattle.edges.specs.declared.entry.Lengths.{Lengths}
 use Rattle.edges.specs.Edges.{Answered, kept, linked, numberOf}
 use Rattle.polygon.specs.Answers.{Wrote, writeExit, writeNumber}
-use Rattle.polygon.specs.Boxes.{bboxOf}
+use Rattle.polygon_boxes.specs.Boxes.{bboxOf}
 use Rattle.polygon.specs.declared.Polygon.{Polygon}
 use Rattle.polygon.specs.declared.Write.{Write}
-use Rattle.polygon.specs.declared.boxes.PolygonBox.{PolygonBox}
+use Rattle.polygon_boxes.specs.declared.PolygonBox.{PolygonBox}
 use Rattle.bounds.specs.Geometry.{triangleIn, sphereIn, capsuleIn, boxIn, cylinderIn, polygonIn, WroteStruct, unboxed, boxed, boxAnswer, EdgesAnswered}
 use Rattle.bounds.specs.declared.geometry.BoxAnswer.{BoxAnswer}
 use Rattle.bounds.specs.declared.geometry.PolygonC.{PolygonC}

@@ -10,13 +10,13 @@ use Rattle.edges.specs.declared.entry.Lengths.{Lengths}
 use Rattle.edges.specs.Edges.{answerOf, kept, linked, numberOf}
 use Rattle.float32.specs.Casts.{low16bits, signed16}
 use Rattle.polygon.specs.Answers.{refusalNumber, writeNumber, writeOf, writeExit}
-use Rattle.polygon.specs.Boxes.{bboxOf}
+use Rattle.polygon_boxes.specs.Boxes.{bboxOf}
 use Rattle.polygon.specs.Polygons.{wordOr}
 use Rattle.polygon.specs.declared.Polygon.{Polygon}
 use Rattle.polygon.specs.declared.Polygon.the-variants.{Triangle, Sphere, Capsule, Box, Cylinder}
 use Rattle.polygon.specs.declared.Read.{Read}
 use Rattle.polygon.specs.declared.Read.the-variants.{Found, Refused}
-use Rattle.polygon.specs.declared.boxes.PolygonBox.{PolygonBox}
+use Rattle.polygon_boxes.specs.declared.PolygonBox.{PolygonBox}
 use Rattle.bounds.specs.Trees.{zeroWords}
 use Rattle.bounds.specs.declared.geometry.BoxAnswer.{BoxAnswer}
 use Rattle.bounds.specs.declared.geometry.PolygonC.{PolygonC}

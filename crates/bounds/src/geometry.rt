@@ -8,9 +8,9 @@ use polygon::Polygon;
 use polygon::Read;
 use polygon::ReadRefusal;
 use polygon::Write;
-use polygon::boxes::PolygonBox;
 use polygon::halves::half_of;
 use polygon::halves::short_of;
+use polygon_boxes::PolygonBox;
 use records::BoundVertex;
 ghost use mathlib.Core.Path.{_≡_};
 ghost use lib.ListN.{length};
@@ -315,7 +315,7 @@ pub extern "C" fn bounds_polygon_bbox(polygon: PolygonC, vertices: &[u32]) -> Bo
     if polygon.kind > 4 {
         return unboxed(6);
     }
-    boxed(polygon::boxes::bbox(polygon_in(polygon), vertices))
+    boxed(polygon_boxes::bbox(polygon_in(polygon), vertices))
 }
 
 // ---- links
