@@ -89,7 +89,7 @@ fn builds(series: &[Series]) -> Panel {
     Panel {
         title: "Build: library's time by the reference's",
         below: "boxes",
-        aims: vec![Aim { name: "aim 0.2", ratio: 0.2, colour: "#888" }],
+        aims: vec![Aim { name: "aim 0.18", ratio: 0.18, colour: "#888" }],
         lines: lines.collect(),
     }
 }
