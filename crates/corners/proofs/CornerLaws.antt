@@ -12,7 +12,7 @@ use lib.ListN.{length, getD, take, drop, set, length-append, length-drop, take-a
 use lib.Seq.{sets, drop-at, drop-drop, take-add, take-take, getD-drop, getD-append-add, length-take-le}
 use Rattle.base.specs.Lists.{over}
 use Rattle.base.proofs.LittleEndian.{joined, number-bytes}
-use Rattle.base.proofs.StoreLaws.{stores-leave, over-more}
+use Rattle.base.proofs.StoreLaws.{stores-leave, over-next}
 use Rattle.base.proofs.Truth.{both-yes}
 use Rattle.polygon.specs.Polygons.{kindAt}
 use Rattle.corners.specs.Corners.{none, inTurn, kindsKnown, isTriangle, cornersAt, cornersOf, linkBytes, linkedRecord, linkedRecords}
@@ -107,11 +107,9 @@ pub corners-next : (bytes before : List ℕ) (i : ℕ) {now next : List ℕ} →
     → now ≡ over (cornersOf i bytes) before → next ≡ sets now (3 * i) (cornersAt bytes i) → next ≡ over (cornersOf (i + 1) bytes) before
 corners-next bytes before i {now} {next} h e f =
     let many = length-corners i bytes in
-    let long = ap length e ∙ length-over (cornersOf i bytes) before (omega arith) in
     f
-    ∙ stores-leave now (cornersAt bytes i) (3 * i) 3 (length-corners-at bytes i) (omega arith)
-    ∙ ap (λ (l : List ℕ). take (3 * i) l ++ (cornersAt bytes i ++ drop (3 * i + 3) l)) e
-    ∙ over-more (cornersOf i bytes) (cornersAt bytes i) before (3 * i) 3 many (length-corners-at bytes i)
+    ∙ ap (λ (l : List ℕ). sets l (3 * i) (cornersAt bytes i)) e
+    ∙ over-next (cornersOf i bytes) (cornersAt bytes i) before (3 * i) many (omega (arith, length-corners-at bytes i))
     ∙ ap (λ (k : ℕ). over (cornersOf k bytes) before) (sym (add-one i))
 
 -- ---- links
@@ -131,24 +129,6 @@ record-alone links bytes other p e =
     let kind : getD bytes (16 * p) 0 ≡ getD other (16 * p) 0 = first-of bytes (16 * p) ∙ ap (λ (l : List ℕ). getD l 0 0) e ∙ sym (first-of other (16 * p)) in
     rw (e, kind)
 
--- a triangle's record: its first ten bytes, and the links
-pub linked-triangle : (links bytes : List ℕ) (p : ℕ) → kindAt bytes (16 * p) ≡ 0 → 16 * p + 16 ≤ length bytes
-    → sets bytes (16 * p + 10) (linkBytes links p) ≡ take (16 * p) bytes ++ (linkedRecord links bytes p ++ drop (16 * p + 16) bytes)
-unfolding linkedRecord
-linked-triangle links bytes p k h =
-    let b = linkBytes links p in
-    let past : 16 * p + 10 + 6 ≡ 16 * p + 16 = omega arith in
-    stores-leave bytes b (16 * p + 10) 6 (length-link-bytes links p) (omega arith)
-    ∙ ap₂ (λ (l : List ℕ) (n : ℕ). l ++ (b ++ drop n bytes)) (take-add (16 * p) 10 bytes) past
-    ∙ append-assoc (take (16 * p) bytes) (take 10 (drop (16 * p) bytes)) (b ++ drop (16 * p + 16) bytes)
-    ∙ ap (λ (r : List ℕ). take (16 * p) bytes ++ r) (sym (append-assoc (take 10 (drop (16 * p) bytes)) b (drop (16 * p + 16) bytes)))
-    ∙ rw (eq-eqb (kindAt bytes (16 * p)) 0 k, take-take 10 16 (drop (16 * p) bytes) (omega arith))
-
-pub linked-other : (links bytes : List ℕ) (p : ℕ) → isTriangle bytes p ≡ false
-    → bytes ≡ take (16 * p) bytes ++ (linkedRecord links bytes p ++ drop (16 * p + 16) bytes)
-unfolding linkedRecord
-linked-other links bytes p k = in-parts bytes (16 * p) 16 ∙ rw k
-
 either-sixteen : (t : Bool) (a b : List ℕ) → length a ≡ 16 → length b ≡ 16 → length (cond t a b) ≡ 16
 either-sixteen true a b e f = e
 either-sixteen false a b e f = f
@@ -162,16 +142,39 @@ length-linked-record links bytes p h =
     either-sixteen (isTriangle bytes p) (take 10 r ++ linkBytes links p) r
     (length-append (take 10 r) (linkBytes links p) ∙ ap₂ _+_ front (length-link-bytes links p)) whole
 
+-- a triangle's record: its first ten bytes, and the links
+pub linked-triangle : (links bytes : List ℕ) (p : ℕ) → kindAt bytes (16 * p) ≡ 0 → 16 * p + 16 ≤ length bytes
+    → sets bytes (16 * p + 10) (linkBytes links p) ≡ sets bytes (16 * p) (linkedRecord links bytes p)
+unfolding linkedRecord
+linked-triangle links bytes p k h =
+    let b = linkBytes links p in
+    let past : 16 * p + 10 + 6 ≡ 16 * p + 16 = omega arith in
+    let parts : sets bytes (16 * p + 10) b ≡ take (16 * p) bytes ++ (linkedRecord links bytes p ++ drop (16 * p + 16) bytes) =
+    stores-leave bytes b (16 * p + 10) 6 (length-link-bytes links p) (omega arith)
+    ∙ ap₂ (λ (l : List ℕ) (n : ℕ). l ++ (b ++ drop n bytes)) (take-add (16 * p) 10 bytes) past
+    ∙ append-assoc (take (16 * p) bytes) (take 10 (drop (16 * p) bytes)) (b ++ drop (16 * p + 16) bytes)
+    ∙ ap (λ (r : List ℕ). take (16 * p) bytes ++ r) (sym (append-assoc (take 10 (drop (16 * p) bytes)) b (drop (16 * p + 16) bytes)))
+    ∙ rw (eq-eqb (kindAt bytes (16 * p)) 0 k, take-take 10 16 (drop (16 * p) bytes) (omega arith)) in
+    parts ∙ sym (stores-leave bytes (linkedRecord links bytes p) (16 * p) 16 (length-linked-record links bytes p h) h)
+
+-- another kind's record: what is there
+pub linked-other : (links bytes : List ℕ) (p : ℕ) → isTriangle bytes p ≡ false → 16 * p + 16 ≤ length bytes
+    → bytes ≡ sets bytes (16 * p) (linkedRecord links bytes p)
+unfolding linkedRecord
+linked-other links bytes p k h =
+    let parts : bytes ≡ take (16 * p) bytes ++ (linkedRecord links bytes p ++ drop (16 * p + 16) bytes) = in-parts bytes (16 * p) 16 ∙ rw k in
+    parts ∙ sym (stores-leave bytes (linkedRecord links bytes p) (16 * p) 16 (length-linked-record links bytes p h) h)
+
 pub length-linked : (n : ℕ) (links bytes : List ℕ) → 16 * n ≤ length bytes → length (linkedRecords n links bytes) ≡ 16 * n
 length-linked n links bytes h = length-in-turn 16 (linkedRecord links bytes) n (λ p below. length-linked-record links bytes p (omega arith))
 
 -- Once the links of i polygons are stored, those of one more.
 pub links-next : (links before : List ℕ) (i : ℕ) {now next : List ℕ} → 16 * i + 16 ≤ length before → now ≡ over (linkedRecords i links before) before
-    → next ≡ take (16 * i) now ++ (linkedRecord links now i ++ drop (16 * i + 16) now) → next ≡ over (linkedRecords (i + 1) links before) before
+    → next ≡ sets now (16 * i) (linkedRecord links now i) → next ≡ over (linkedRecords (i + 1) links before) before
 links-next links before i {now} {next} h e f =
     let many = length-linked i links before (omega arith) in
     let same = record-alone links now before i (ap (drop (16 * i)) e ∙ rest-kept (linkedRecords i links before) before (16 * i) many) in
     f
-    ∙ ap₂ (λ (l r : List ℕ). take (16 * i) l ++ (r ++ drop (16 * i + 16) l)) e same
-    ∙ over-more (linkedRecords i links before) (linkedRecord links before i) before (16 * i) 16 many (length-linked-record links before i h)
+    ∙ ap₂ (λ (l r : List ℕ). sets l (16 * i) r) e same
+    ∙ over-next (linkedRecords i links before) (linkedRecord links before i) before (16 * i) many (omega (arith, length-linked-record links before i h))
     ∙ ap (λ (k : ℕ). over (linkedRecords k links before) before) (sym (add-one i))

@@ -3,9 +3,9 @@ use base::little_endian::put_le;
 use base::little_endian::two_at;
 use polygon::reading::kind_at;
 ghost use mathlib.Core.Path.{_≡_};
-ghost use mathlib.Core.List.{[], _∷_, _++_};
+ghost use mathlib.Core.List.{[], _∷_};
 ghost use Prim.Native.Nat.{_+_, _*_, _%_, _<_, _≤_};
-ghost use lib.ListN.{length, take, drop};
+ghost use lib.ListN.{length};
 ghost use lib.Seq.{sets};
 ghost use Rattle.base.specs.Lists.{over};
 ghost use Rattle.base.specs.LittleEndian.{littleEndian};
@@ -98,8 +98,7 @@ fn put_three(polygons: &mut [u8], p: usize, links: &[u32])
 // The links of polygon p, if it is a triangle.
 fn put_one(polygons: &mut [u8], p: usize, links: &[u32])
     requires { ⌜ (16 * p + 16 ≤ length (now polygons)) × (3 * p + 3 ≤ length (now links)) ⌝ }
-    ensures { λ _. ⌜ now (polygons .exit) ≡ take (16 * p) (now (polygons .entry))
-        ++ (linkedRecord (now (links .entry)) (now (polygons .entry)) p ++ drop (16 * p + 16) (now (polygons .entry))) ⌝ }
+    ensures { λ _. ⌜ now (polygons .exit) ≡ sets (now (polygons .entry)) (16 * p) (linkedRecord (now (links .entry)) (now (polygons .entry)) p) ⌝ }
 {
     if kind_at(polygons, 16 * p) == 0 {
         put_three(polygons, p, links);

@@ -1,10 +1,11 @@
 -- What reading and writing a polygon answer (01, What each operation turns down). Definitions only.
 use Prim.Native.Nat.{ℕ}
 use mathlib.Core.Bool.{cond}
-use mathlib.Core.List.{List, _++_}
+use mathlib.Core.List.{List}
 use mathlib.Core.Path.{_≡_}
 use lib.Dec.{ltb}
-use lib.ListN.{length, drop}
+use lib.ListN.{length}
+use Rattle.base.specs.Lists.{over}
 use Rattle.polygon.specs.Polygons.{polygonBytes, polygonAt, kindAt}
 use Rattle.polygon.specs.declared.Polygon.{Polygon}
 use Rattle.polygon.specs.declared.Read.{Read}
@@ -37,7 +38,7 @@ writeOf out = cond (ltb (length out) 16) BufferTooShort Written
 
 -- Rule G5 (01: a refusal changes no output buffer): the bytes after it.
 abbrev pub writeExit : Polygon → List ℕ → List ℕ
-writeExit p out = cond (ltb (length out) 16) out (polygonBytes p ++ drop 16 out)
+writeExit p out = cond (ltb (length out) 16) out (over (polygonBytes p) out)
 
 -- Rule G5: what `write` promises of its answer r and of every byte.
 pub record Wrote (p : Polygon) (before after : List ℕ) (r : Write) : Type 0 where

@@ -2,9 +2,8 @@
 use base::little_endian::put_le;
 use base::little_endian::two_at;
 ghost use mathlib.Core.Path.{_≡_};
-ghost use mathlib.Core.List.{_++_};
 ghost use Prim.Native.Nat.{_+_, _≤_};
-ghost use lib.ListN.{length, take, drop};
+ghost use lib.ListN.{length};
 ghost use lib.Seq.{sets};
 ghost use Rattle.base.specs.LittleEndian.{leAt};
 ghost use Rattle.float32.specs.Casts.{low16bits, signed16};
@@ -71,7 +70,7 @@ fn put_four(out: &mut [u8], at: usize, a: u16, b: u16, c: u16, d: u16)
 
 pub fn put_halves(out: &mut [u8], at: usize, h: Halves)
     requires { ⌜ at + 16 ≤ length (now out) ⌝ }
-    ensures { λ _. ⌜ now (out .exit) ≡ take at (now (out .entry)) ++ (halvesBytes h ++ drop (at + 16) (now (out .entry))) ⌝ }
+    ensures { λ _. ⌜ now (out .exit) ≡ sets (now (out .entry)) at (halvesBytes h) ⌝ }
 {
     put_four(out, at, h.at0, h.at2, h.at4, h.at6);
     put_four(out, at + 8, h.at8, h.at10, h.at12, h.at14);

@@ -5,9 +5,9 @@ use crate::halves::Halves;
 use crate::halves::half_of;
 use crate::halves::put_halves;
 ghost use mathlib.Core.Path.{_≡_};
-ghost use mathlib.Core.List.{_++_};
 ghost use Prim.Native.Nat.{_+_, _/_, _%_, _≤_};
-ghost use lib.ListN.{length, take, drop};
+ghost use lib.ListN.{length};
+ghost use lib.Seq.{sets};
 ghost use Rattle.polygon.specs.Polygons.{wordOr, roundHalves, triangleHalves, boxHalves, halvesOf, polygonBytes};
 ghost use Rattle.polygon.specs.Answers.{Wrote};
 
@@ -111,7 +111,7 @@ fn halves_of(p: Polygon) -> Halves
 
 pub fn put_polygon(out: &mut [u8], at: usize, p: Polygon)
     requires { ⌜ at + 16 ≤ length (now out) ⌝ }
-    ensures { λ _. ⌜ now (out .exit) ≡ take at (now (out .entry)) ++ (polygonBytes p ++ drop (at + 16) (now (out .entry))) ⌝ }
+    ensures { λ _. ⌜ now (out .exit) ≡ sets (now (out .entry)) at (polygonBytes p) ⌝ }
 {
     put_halves(out, at, halves_of(p));
 }

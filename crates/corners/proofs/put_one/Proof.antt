@@ -27,7 +27,7 @@ same-length-2 : tie.Need-same-length-2
 same-length-2 c = search needs
 
 returns-2 : tie.Need-returns-2
-returns-2 c = linked-other _ _ _ (ne-eqb _ 0 (λ e. c .if1 .left (c .before .kind-at .ensures ∙ e)))
+returns-2 c = linked-other _ _ _ (ne-eqb _ 0 (λ e. c .if1 .left (c .before .kind-at .ensures ∙ e))) (search needs)
 
 pub put-one-spec : {M : Type 1} → statement M
 put-one-spec =

@@ -2,10 +2,9 @@
 use borrow.Author.Needs.{needs}
 use Rattle.polygon.proofs.halves.put_halves.Statement.{statement}
 use Rattle.polygon.proofs.halves.put_halves.Tie as tie
-use mathlib.Core.Path.{_∙_}
-use Rattle.base.proofs.StoreLaws.{store-next, stores-leave}
+use Rattle.base.proofs.StoreLaws.{store-next}
 use Rattle.polygon.specs.Halves.{fourBytes, halvesBytes}
-use Rattle.polygon.proofs.Sizes.{four-bytes, halves-bytes}
+use Rattle.polygon.proofs.Sizes.{four-bytes}
 
 put-four-requires : tie.Need-put-four-requires
 put-four-requires c κs = search needs
@@ -29,7 +28,6 @@ returns c =
     let h = s .args .h in
     store-next out (fourBytes (h .at0) (h .at2) (h .at4) (h .at6)) (fourBytes (h .at8) (h .at10) (h .at12) (h .at14)) (s .args .at) 8
     (four-bytes (h .at0) (h .at2) (h .at4) (h .at6) .size) (first .put-four .ensures) (second .put-four2 .ensures)
-    ∙ stores-leave out (halvesBytes h) (s .args .at) 16 (halves-bytes h .size) (s .pre)
 
 pub put-halves-spec : {M : Type 1} → statement M
 put-halves-spec =

@@ -3,9 +3,7 @@ use borrow.Author.Needs.{needs}
 use Rattle.polygon.proofs.writing.put_polygon.Statement.{statement}
 use Rattle.polygon.proofs.writing.put_polygon.Tie as tie
 use mathlib.Core.Path.{ap, _∙_}
-use mathlib.Core.List.{_++_}
-use Prim.Native.Nat.{_+_}
-use lib.ListN.{take, drop}
+use lib.Seq.{sets}
 use Rattle.polygon.specs.Halves.{halvesBytes}
 use Rattle.polygon.specs.Polygons.{polygonBytes}
 use Rattle.polygon.specs.declared.halves.Halves.{Halves}
@@ -25,7 +23,7 @@ returns c =
     let put = c .before .before in
     let s = put .before .before .before .before .args in
     put .put-halves .ensures
-    ∙ ap (λ (h : Halves). take (s .at) (s .out .now) ++ (halvesBytes h ++ drop (s .at + 16) (s .out .now))) (put .before .halves-of .ensures)
+    ∙ ap (λ (h : Halves). sets (s .out .now) (s .at) (halvesBytes h)) (put .before .halves-of .ensures)
 
 pub put-polygon-spec : {M : Type 1} → statement M
 put-polygon-spec = tie.close (tie.spec halves-of-requires put-halves-requires same-length returns)
