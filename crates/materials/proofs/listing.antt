@@ -1,0 +1,4 @@
+mod Entering
+mod Indexing
+mod Putting
+mod Seeking

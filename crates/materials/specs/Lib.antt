@@ -1,0 +1,3 @@
+pub mod Answers
+pub mod Materials
+pub mod steps
