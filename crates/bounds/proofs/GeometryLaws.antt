@@ -1,4 +1,4 @@
--- The polygon of a C struct, by its kind; and what the answers of writing, of a box and of links say of the C interface's. Assumes nothing.
+-- The polygon of a C struct, by its kind; and what the answers of writing, of a box, of links and of materials say of the C interface's. Assumes nothing.
 use Prim.Native.Nat.{ℕ, _<_, _≤_}
 use mathlib.Core.List.{List}
 use mathlib.Core.Path.{_≡_, refl, ap, _∙_}
@@ -8,13 +8,19 @@ use borrow.Author.Tests.{ne-eqb, lt-ltb, le-ltb}
 use Rattle.edges.specs.declared.entry.Edges.{Edges}
 use Rattle.edges.specs.declared.entry.Lengths.{Lengths}
 use Rattle.edges.specs.Edges.{Answered, kept, linked, numberOf}
+use Rattle.materials.specs.declared.building.Lengths as L
+use Rattle.materials.specs.declared.building.Materials.{Materials}
+use Rattle.materials.specs.Answers as M
+use Rattle.materials.specs.Materials.{listOf, indicesOf, materialsBytes}
 use Rattle.polygon.specs.Answers.{Wrote, writeExit, writeNumber}
 use Rattle.polygon_boxes.specs.Boxes.{bboxOf}
 use Rattle.polygon.specs.declared.Polygon.{Polygon}
 use Rattle.polygon.specs.declared.Write.{Write}
 use Rattle.polygon_boxes.specs.declared.PolygonBox.{PolygonBox}
-use Rattle.bounds.specs.Geometry.{triangleIn, sphereIn, capsuleIn, boxIn, cylinderIn, polygonIn, WroteStruct, unboxed, boxed, boxAnswer, EdgesAnswered}
+use Rattle.bounds.specs.Geometry.{triangleIn, sphereIn, capsuleIn, boxIn, cylinderIn, polygonIn, WroteStruct, unboxed, boxed, boxAnswer}
+use Rattle.bounds.specs.Geometry.{EdgesAnswered, materialsAnswer, MaterialsAnswered}
 use Rattle.bounds.specs.declared.geometry.BoxAnswer.{BoxAnswer}
+use Rattle.bounds.specs.declared.geometry.MaterialsAnswer.{MaterialsAnswer}
 use Rattle.bounds.specs.declared.geometry.PolygonC.{PolygonC}
 
 module _ (c : PolygonC) where
@@ -68,4 +74,13 @@ edges-answered n l before after e r a given =
     record {
       number = given ∙ ap numberOf (a .answer);
       bytes = a .bytes ∙ ap (λ (x : Edges). kept x (linked n before) before) (a .answer);
+    }
+
+pub materials-answered : (n m : ℕ) (l : L.Lengths) (ms list₀ list indices₀ indices : List ℕ) (b : Materials) (r : MaterialsAnswer)
+    → M.Answered n m l ms list₀ list indices₀ indices b → r ≡ materialsAnswer b → MaterialsAnswered n m l ms list₀ list indices₀ indices r
+materials-answered n m l ms list₀ list indices₀ indices b r a given =
+    record {
+      answer = given ∙ ap materialsAnswer (a .answer);
+      listed = a .listed ∙ ap (λ (x : Materials). M.kept x (materialsBytes (listOf ms)) list₀) (a .answer);
+      indexed = a .indexed ∙ ap (λ (x : Materials). M.kept x (indicesOf ms) indices₀) (a .answer);
     }

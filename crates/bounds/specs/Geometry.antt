@@ -1,4 +1,4 @@
--- What the C interface answers of polygons and their links. Definitions only.
+-- What the C interface answers of polygons, their links and their materials. Definitions only.
 use Prim.Native.Nat.{ℕ, _*_}
 use mathlib.Core.Bool.{cond}
 use mathlib.Core.List.{List}
@@ -9,6 +9,11 @@ use lib.Ieee.{binary32, ofBits}
 use Rattle.edges.specs.declared.entry.Lengths.{Lengths}
 use Rattle.edges.specs.Edges.{answerOf, kept, linked, numberOf}
 use Rattle.float32.specs.Casts.{low16bits, signed16}
+use Rattle.materials.specs.declared.building.Lengths as L
+use Rattle.materials.specs.declared.building.Materials.{Materials}
+use Rattle.materials.specs.declared.building.Materials.the-variants as Mat
+use Rattle.materials.specs.Answers as M
+use Rattle.materials.specs.Materials.{listOf, indicesOf, materialsBytes}
 use Rattle.polygon.specs.Answers.{refusalNumber, writeNumber, writeOf, writeExit}
 use Rattle.polygon_boxes.specs.Boxes.{bboxOf}
 use Rattle.polygon.specs.Polygons.{wordOr}
@@ -19,6 +24,7 @@ use Rattle.polygon.specs.declared.Read.the-variants.{Found, Refused}
 use Rattle.polygon_boxes.specs.declared.PolygonBox.{PolygonBox}
 use Rattle.bounds.specs.Trees.{zeroWords}
 use Rattle.bounds.specs.declared.geometry.BoxAnswer.{BoxAnswer}
+use Rattle.bounds.specs.declared.geometry.MaterialsAnswer.{MaterialsAnswer}
 use Rattle.bounds.specs.declared.geometry.PolygonC.{PolygonC}
 use Rattle.bounds.specs.declared.geometry.ReadAnswer.{ReadAnswer}
 
@@ -104,3 +110,19 @@ edgesWorkLen n = 15 * n
 pub record EdgesAnswered (n : ℕ) (l : Lengths) (before after : List ℕ) (r : ℕ) : Type 0 where
   pub number : r ≡ numberOf (answerOf n l before)
   pub bytes : after ≡ kept (answerOf n l before) (linked n before) before
+
+unfoldable pub materialsWith : ℕ → ℕ → MaterialsAnswer
+materialsWith n count = record { refusal = n; count = count }
+
+-- Rule M3 (01, materials): the number and the count of each answer.
+abbrev pub materialsAnswer : Materials → MaterialsAnswer
+materialsAnswer (Mat.Built count) = materialsWith 0 count
+materialsAnswer Mat.TooMany = materialsWith 1 0
+materialsAnswer Mat.BufferTooShort = materialsWith 2 0
+materialsAnswer Mat.TooManyMaterials = materialsWith 8 0
+
+-- Rule M3 (01, materials): the answer r, and every byte of the list and of the indices. ms are the polygons' materials.
+pub record MaterialsAnswered (n m : ℕ) (l : L.Lengths) (ms list₀ list indices₀ indices : List ℕ) (r : MaterialsAnswer) : Type 0 where
+  pub answer : r ≡ materialsAnswer (M.answerOf n m l ms)
+  pub listed : list ≡ M.kept (M.answerOf n m l ms) (materialsBytes (listOf ms)) list₀
+  pub indexed : indices ≡ M.kept (M.answerOf n m l ms) (indicesOf ms) indices₀

@@ -1,6 +1,8 @@
-// Polygons, the links of their triangles, and stored vertices.
+// Polygons, the links of their triangles, their materials, and stored vertices.
 use edges::entry::Edges;
 use edges::entry::update_edge_indices;
+use materials::building::Materials;
+use materials::building::build_materials;
 use math::aabb::Aabb;
 use math::vec3::Vec3;
 use math::words3::Words3;
@@ -15,26 +17,13 @@ use records::BoundVertex;
 ghost use mathlib.Core.Path.{_≡_};
 ghost use lib.ListN.{length};
 ghost use Rattle.edges.specs.Edges.{numberOf as edgesNumber};
+ghost use Rattle.materials.specs.Materials.{valuesOf};
 ghost use Rattle.polygon.specs.Answers.{refusalNumber as readRefusal, readOf, writeNumber};
 ghost use Rattle.polygon.specs.Polygons.{wordOr};
 ghost use Rattle.vertices.specs.Vertices.{quantumOfBox, storedOf, readBackOf};
-ghost use Rattle.bounds.specs.Geometry.{
-  triangleStruct,
-  roundStruct,
-  boxStruct,
-  structOf,
-  triangleIn,
-  boxIn,
-  polygonIn,
-  unread,
-  readAnswer,
-  WroteStruct,
-  unboxed,
-  boxed,
-  boxAnswer,
-  edgesWorkLen,
-  EdgesAnswered,
-};
+ghost use Rattle.bounds.specs.Geometry.{triangleStruct, roundStruct, boxStruct, structOf, triangleIn, boxIn, polygonIn};
+ghost use Rattle.bounds.specs.Geometry.{unread, readAnswer, WroteStruct, unboxed, boxed, boxAnswer};
+ghost use Rattle.bounds.specs.Geometry.{edgesWorkLen, EdgesAnswered, materialsWith, materialsAnswer, MaterialsAnswered};
 
 // A polygon by its kind, 0 to 4. `word` is the area or the radius, of any bits; a box's is 0. The halves, of which the unused are 0:
 // a triangle's three vertices and three links, a sphere's index, a capsule's and a cylinder's two, a box's four.
@@ -362,6 +351,59 @@ pub extern "C" fn bounds_update_edge_indices(
         (now (polygons .entry)) (now (polygons .exit)) r ⌝ }
 {
     edges_number(update_edge_indices(polygons, polygon_count, corners, keys, sides, spare, links))
+}
+
+// ---- materials
+
+// What building a list of materials answers: 01's number, 0 where it is not refused, and how many it has, 0 where it is.
+#[repr(C)]
+pub struct MaterialsAnswer {
+    pub refusal: u32,
+    pub count: usize,
+}
+
+fn materials_with(number: u32, count: usize) -> MaterialsAnswer
+    ensures { λ r. ⌜ r ≡ materialsWith number count ⌝ }
+{
+    MaterialsAnswer {
+        refusal: number,
+        count: count,
+    }
+}
+
+fn materials_answer(m: Materials) -> MaterialsAnswer
+    ensures { λ r. ⌜ r ≡ materialsAnswer m ⌝ }
+{
+    match m {
+        Materials::Built(count) => materials_with(0, count),
+        Materials::TooMany => materials_with(1, 0),
+        Materials::BufferTooShort => materials_with(2, 0),
+        Materials::TooManyMaterials => materials_with(8, 0),
+    }
+}
+
+// The materials that the polygons use, each once, and each polygon's index among them: `numbers` has the number of each polygon's
+// material, `mats` the materials, two words each.
+#[no_mangle]
+pub extern "C" fn bounds_build_materials(
+    polygon_count: usize,
+    numbers: &[u8],
+    material_count: usize,
+    mats: &[u32],
+    list: &mut [u8],
+    indices: &mut [u8],
+) -> MaterialsAnswer
+    ensures { λ r. ⌜ MaterialsAnswered «polygon_count» «material_count»
+        (record {
+          numbers = length (now (numbers .entry));
+          mats = length (now (mats .entry));
+          list = length (now (list .entry));
+          indices = length (now (indices .entry));
+        })
+        (valuesOf «material_count» (now (mats .entry)) «polygon_count» (now (numbers .entry)))
+        (now (list .entry)) (now (list .exit)) (now (indices .entry)) (now (indices .exit)) r ⌝ }
+{
+    materials_answer(build_materials(polygon_count, numbers, material_count, mats, list, indices))
 }
 
 // ---- stored vertices

@@ -198,6 +198,80 @@ typedef struct {
 /* Whether n entries, of seven words each as a build reads them, meet the premises. */
 bounds_premises bounds_ordinary(size_t entry_count, const uint32_t *entries, size_t entries_len);
 
+/* ---- polygons, links, materials, stored vertices ----
+ *
+ * Refusals 5 short record, 6 unknown kind; the others as above.
+ */
+
+/* A polygon by its kind: 0 triangle, 1 sphere, 2 capsule, 3 box, 4 cylinder. `word` has the bits of the area or of the
+ * radius. The halves: a triangle's three vertices (bit 15 a flag) and three links (i16, -1 for none), a sphere's index, a
+ * capsule's and a cylinder's two, a box's four (i16). What a kind has not is 0 in an answer, and not looked at
+ * otherwise. */
+typedef struct {
+    uint32_t kind, word;
+    uint16_t h0, h1, h2, h3, h4, h5;
+} bounds_polygon;
+
+typedef struct {
+    uint32_t refusal;
+    bounds_polygon polygon;  /* 0 throughout where refused */
+} bounds_read_answer;
+
+typedef struct {
+    uint32_t refusal;
+    bounds_words3 min, max;  /* 0 where refused */
+} bounds_box_answer;
+
+typedef struct {
+    uint32_t refusal;
+    size_t count;  /* materials in the list; 0 where refused */
+} bounds_materials_answer;
+
+typedef struct { int16_t x, y, z; } bounds_vertex;
+
+/* The polygon of a record's first 16 bytes. Refusals 5 (under 16 bytes), 6 (a kind above 4), in this order. */
+bounds_read_answer bounds_polygon_read(const uint8_t *bytes, size_t bytes_len);
+
+/* Writes the 16 bytes of a polygon. Refusals 6 (a kind above 4), 2 (under 16 bytes), in this order. */
+uint32_t bounds_polygon_write(uint8_t *out, size_t out_len, bounds_polygon polygon);
+
+/* The box of a polygon over vertices of three words each; one that is not there is zero. Refusal 6 (a kind above 4). */
+bounds_box_answer bounds_polygon_bbox(bounds_polygon polygon, const uint32_t *vertices, size_t vertices_len);
+
+/* Words that linking n polygons works in, all parts together: 3n for each of the five. */
+uint64_t bounds_edges_work_len(uint32_t polygons);
+
+/* Stores the links of the triangles among n records. Refusals 1 (over 32,767), 2 (under 16 bytes a polygon, or a part
+ * under 3n words), 6 (a record's kind is above 4), in this order. */
+uint32_t bounds_update_edge_indices(uint8_t *polygons, size_t polygons_len, size_t polygon_count,
+                                    uint32_t *corners, size_t corners_len, uint32_t *keys, size_t keys_len,
+                                    uint32_t *sides, size_t sides_len, uint32_t *spare, size_t spare_len,
+                                    uint32_t *links, size_t links_len);
+
+/* bounds_update_edge_indices in one work buffer, of which bounds_edges_work_len(n) words are needed. */
+static inline uint32_t bounds_update_edge_indices_in(uint8_t *polygons, size_t polygons_len, size_t polygon_count,
+                                                     uint32_t *work, size_t work_len) {
+    size_t part = 3 * (polygon_count < 32767 ? polygon_count : 32767), left = work_len;
+    size_t corners = bounds_part(part, &left), keys = bounds_part(part, &left);
+    size_t sides = bounds_part(part, &left), spare = bounds_part(part, &left);
+    uint32_t *keys_at = work + corners, *sides_at = keys_at + keys, *spare_at = sides_at + sides;
+    return bounds_update_edge_indices(polygons, polygons_len, polygon_count, work, corners, keys_at, keys,
+                                      sides_at, sides, spare_at, spare, spare_at + spare, left);
+}
+
+/* Lists the materials that n polygons use, each once, eight bytes each, and each polygon's index among them. `numbers` has
+ * the number of each polygon's material, `mats` the materials, two words each; one that is not given is (0, 0). Refusals
+ * 1 (over 32,767 polygons or 256 materials), 2 (fewer numbers or indices than polygons, fewer words than two a material,
+ * a list under 2,048 bytes), in this order. */
+bounds_materials_answer bounds_build_materials(size_t polygon_count, const uint8_t *numbers, size_t numbers_len,
+                                               size_t material_count, const uint32_t *mats, size_t mats_len,
+                                               uint8_t *list, size_t list_len, uint8_t *indices, size_t indices_len);
+
+/* A geometry's quantum, half its box in 32,767 parts; a vertex in units of it; and the point that such a vertex is. */
+bounds_vec3 bounds_quantum(bounds_aabb b);
+bounds_vertex bounds_stored_vertex(bounds_vec3 v, bounds_vec3 quantum);
+bounds_vec3 bounds_read_back(bounds_vertex v, bounds_vec3 quantum);
+
 #ifdef __cplusplus
 }
 #endif

@@ -7,6 +7,7 @@
 #![allow(unsafe_code)]
 
 use crate::bvh::BvhItem;
+use crate::geometry::{BoundMaterial, BoundVertex};
 use crate::math::{Mat4, Vec3, Vec4};
 use crate::walk::Records;
 
@@ -267,6 +268,176 @@ const _: () = {
     assert!(size_of::<WalkAnswer>() == 24 && align_of::<WalkAnswer>() == 8);
     assert!(size_of::<Premises>() == 12 && align_of::<Premises>() == 4);
     assert!(size_of::<Bvh>() == 96 && align_of::<Bvh>() == 8);
+};
+
+// ---- geometry
+
+/// `bounds_polygon`.
+#[derive(Clone, Copy)]
+#[repr(C)]
+pub struct PolygonC {
+    pub kind: u32,
+    pub word: u32,
+    pub h0: u16,
+    pub h1: u16,
+    pub h2: u16,
+    pub h3: u16,
+    pub h4: u16,
+    pub h5: u16,
+}
+
+/// `bounds_read_answer`.
+#[derive(Clone, Copy)]
+#[repr(C)]
+pub struct ReadAnswer {
+    pub refusal: u32,
+    pub polygon: PolygonC,
+}
+
+/// `bounds_box_answer`.
+#[derive(Clone, Copy)]
+#[repr(C)]
+pub struct BoxAnswer {
+    pub refusal: u32,
+    pub min: Words3,
+    pub max: Words3,
+}
+
+/// `bounds_materials_answer`.
+#[derive(Clone, Copy)]
+#[repr(C)]
+pub struct MaterialsAnswer {
+    pub refusal: u32,
+    pub count: usize,
+}
+
+unsafe extern "C" {
+    // Structs by value, as above.
+    pub safe fn bounds_quantum(b: Aabb) -> Vec3; // float arithmetic has an answer for any floats
+    pub safe fn bounds_stored_vertex(v: Vec3, quantum: Vec3) -> BoundVertex; // likewise; clamps before it truncates
+    pub safe fn bounds_read_back(v: BoundVertex, quantum: Vec3) -> Vec3; // likewise; each i16 is a float
+    pub safe fn bounds_edges_work_len(polygons: u32) -> u64; // any number; 15 of them stay below 2^64
+
+    // Memory is reached, and only through each pointer and the length behind it: called below, with slices.
+    fn bounds_polygon_read(bytes: *const u8, bytes_len: usize) -> ReadAnswer;
+    fn bounds_polygon_write(out: *mut u8, out_len: usize, polygon: PolygonC) -> u32;
+    fn bounds_polygon_bbox(polygon: PolygonC, vertices: *const u32, vertices_len: usize) -> BoxAnswer;
+    fn bounds_update_edge_indices(
+        polygons: *mut u8,
+        polygons_len: usize,
+        polygon_count: usize,
+        corners: *mut u32,
+        corners_len: usize,
+        keys: *mut u32,
+        keys_len: usize,
+        sides: *mut u32,
+        sides_len: usize,
+        spare: *mut u32,
+        spare_len: usize,
+        links: *mut u32,
+        links_len: usize,
+    ) -> u32;
+    fn bounds_build_materials(
+        polygon_count: usize,
+        numbers: *const u8,
+        numbers_len: usize,
+        material_count: usize,
+        mats: *const u32,
+        mats_len: usize,
+        list: *mut u8,
+        list_len: usize,
+        indices: *mut u8,
+        indices_len: usize,
+    ) -> MaterialsAnswer;
+}
+
+/// `bounds_polygon_read`.
+pub fn polygon_read(bytes: &[u8]) -> ReadAnswer {
+    // SAFETY: the pointer comes from a slice, which is only read, and goes with its length; any bytes will do.
+    unsafe { bounds_polygon_read(bytes.as_ptr(), bytes.len()) }
+}
+
+/// `bounds_polygon_write`.
+pub fn polygon_write(out: &mut [u8], polygon: PolygonC) -> u32 {
+    // SAFETY: the pointer comes from an exclusive slice and goes with its length; any struct may be given.
+    unsafe { bounds_polygon_write(out.as_mut_ptr(), out.len(), polygon) }
+}
+
+/// `bounds_polygon_bbox`.
+pub fn polygon_bbox(polygon: PolygonC, vertices: &[u32]) -> BoxAnswer {
+    // SAFETY: the pointer comes from a slice, which is only read, and goes with its length. Any struct may be given: the
+    // library reads a vertex only where the slice has it.
+    unsafe { bounds_polygon_bbox(polygon, vertices.as_ptr(), vertices.len()) }
+}
+
+/// `bounds_update_edge_indices`; what it works in is lent in five parts: corners, keys, sides, spare and links.
+pub fn update_edge_indices(
+    polygons: &mut [u8],
+    polygon_count: usize,
+    [corners, keys, sides, spare, links]: [&mut [u32]; 5],
+) -> u32 {
+    // SAFETY: each pointer comes from a slice and goes with that slice's length, and all its cells are initialised; being
+    // exclusive borrows, none overlaps another. The count may be any number: the library reaches records only where it
+    // found the slices long enough for them.
+    unsafe {
+        bounds_update_edge_indices(
+            polygons.as_mut_ptr(),
+            polygons.len(),
+            polygon_count,
+            corners.as_mut_ptr(),
+            corners.len(),
+            keys.as_mut_ptr(),
+            keys.len(),
+            sides.as_mut_ptr(),
+            sides.len(),
+            spare.as_mut_ptr(),
+            spare.len(),
+            links.as_mut_ptr(),
+            links.len(),
+        )
+    }
+}
+
+/// `bounds_build_materials`, with as many polygons as numbers.
+pub fn build_materials(
+    numbers: &[u8],
+    materials: &[BoundMaterial],
+    list: &mut [u8],
+    indices: &mut [u8],
+) -> MaterialsAnswer {
+    // SAFETY: each pointer comes from a slice and goes with its length; a material is `repr(C)`, two words without padding
+    // (checked below), so there are twice as many words. Those two slices are only read; the others, being exclusive
+    // borrows, overlap nothing.
+    unsafe {
+        bounds_build_materials(
+            numbers.len(),
+            numbers.as_ptr(),
+            numbers.len(),
+            materials.len(),
+            materials.as_ptr().cast(),
+            2 * materials.len(),
+            list.as_mut_ptr(),
+            list.len(),
+            indices.as_mut_ptr(),
+            indices.len(),
+        )
+    }
+}
+
+/// The words of points, three each, as they lie in memory.
+pub fn vector_words(points: &[Vec3]) -> &[u32] {
+    // SAFETY: a point is `repr(C)`, three f32 without padding and aligned as a u32 is (checked above), and each pattern of
+    // a float's bits is a u32. The words are borrowed for as long as the points.
+    unsafe { std::slice::from_raw_parts(points.as_ptr().cast(), 3 * points.len()) }
+}
+
+const _: () = {
+    assert!(size_of::<PolygonC>() == 20 && align_of::<PolygonC>() == 4);
+    assert!(size_of::<ReadAnswer>() == 24 && align_of::<ReadAnswer>() == 4);
+    assert!(size_of::<BoxAnswer>() == 28 && align_of::<BoxAnswer>() == 4);
+    assert!(size_of::<MaterialsAnswer>() == 16 && align_of::<MaterialsAnswer>() == 8);
+    assert!(size_of::<BoundMaterial>() == 8 && align_of::<BoundMaterial>() == 4);
+    assert!(size_of::<BoundVertex>() == 6 && align_of::<BoundVertex>() == 2);
 };
 
 #[cfg(test)]

@@ -6,6 +6,7 @@
 //! - [`float`]: one float step each, on values and on words (a float's 32 bits).
 //! - [`math`]: points, boxes and transforms.
 //! - [`bvh`]: the tree over a list of boxes, and its header.
+//! - [`geometry`]: polygons, their links and materials, stored vertices.
 //! - [`premises`]: whether a list meets what the walk's promise asks.
 //! - [`walk`](mod@walk): the walk over a tree's records.
 //! - [`refusal`]: what an operation turns down, by its number and in words.
@@ -15,12 +16,14 @@
 pub mod bvh;
 mod ffi;
 pub mod float;
+pub mod geometry;
 pub mod math;
 pub mod premises;
 pub mod refusal;
 pub mod walk;
 
 pub use bvh::{build_bvh, tree_header, BuiltTree, Bvh, BvhItem};
+pub use geometry::{build_materials, update_edge_indices, BoundMaterial, BoundVertex, Polygon};
 pub use math::{Mat4, Vec3, Vec4};
 pub use premises::ordinary;
 pub use refusal::Refusal;
