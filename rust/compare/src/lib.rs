@@ -27,6 +27,7 @@ pub mod pairs;
 pub mod plain;
 pub mod polygons;
 pub mod promises;
+pub mod proved;
 pub mod queries;
 pub mod random;
 pub mod records;

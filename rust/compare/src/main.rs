@@ -1,12 +1,12 @@
 //! `compare [OP..] [--seed S] [--cases N] [--stride N] [--threads N] [--write-vectors FILE]`
 //!
 //! OP is `float`, `math`, `tree`, `walk`, `pair`, `exhaustive`, `all` (these six, and what is meant without an OP) or an
-//! operation's name; those of `tree` are `build` and `header`. Those of `geometry` hold
-//! plain Rust to the reference: the library has none of them yet.
+//! operation's name; those of `tree` are `build` and `header`. Those of `geometry`
+//! are asked for by name.
 //! Exit status: 0 all the same, 1 a mismatch, 2 it could not be run.
 
 use compare::exhaustive::{self, Extent};
-use compare::{build, check, header, meshes, operation, pairs, plain, polygons, report, vectors, vertices, walks};
+use compare::{build, check, header, meshes, operation, pairs, polygons, proved, report, vectors, vertices, walks};
 use std::process::ExitCode;
 
 const USAGE: &str = "usage: compare [OP..] [--seed S] [--cases N] [--stride N] [--threads N] [--write-vectors FILE]
@@ -99,13 +99,13 @@ fn geometry(a: &Arguments) -> Vec<report::Line> {
     let mut lines = Vec::new();
     let named = |name: &str| a.ops.iter().any(|op| op == GEOMETRY[0] || op == name);
     if named("polygon") {
-        lines.push(polygons::run(a.seed, a.cases, &polygons::PLAIN));
+        lines.push(polygons::run(a.seed, a.cases, &proved::POLYGON));
     }
     if named("materials") {
-        lines.push(meshes::materials(a.seed, a.cases, plain::materials::build));
+        lines.push(meshes::materials(a.seed, a.cases, proved::materials));
     }
     if named("links") {
-        lines.push(meshes::links(a.seed, a.cases, plain::links::update));
+        lines.push(meshes::links(a.seed, a.cases, proved::links));
     }
     for op in vertices::operations().iter().filter(|op| named(op.name)) {
         lines.push(check::run(op, a.seed, a.cases));

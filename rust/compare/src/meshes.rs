@@ -188,19 +188,18 @@ fn expected_links(case: &Links) -> Result<Vec<u8>, u32> {
     Ok(records)
 }
 
-fn links_differ(case: &Links, ours: UpdateLinks) -> Outcome {
-    let mut records = case.records.clone();
-    let answer = ours(&mut records, case.count);
+fn links_differ(case: &Links, ours: UpdateLinks, seed: u64) -> Outcome {
+    let mut records = Lent::<u8>::new(case.records.len(), seed);
+    records.buffer().copy_from_slice(&case.records);
+    let answer = ours(records.buffer(), case.count);
     let expected = expected_links(case);
     if answer != expected.as_ref().map(|_| ()).map_err(|&number| number) {
         return Err(format!("{answer:?}, expected {:?}", expected.map(|_| ())));
     }
     let written = expected.as_deref().unwrap_or_default();
     let after = case.records.get(written.len()..).unwrap_or_default();
-    match written.iter().chain(after).zip(&records).position(|(expected, found)| expected != found) {
-        Some(at) => Err(format!("byte {at} holds {}", records[at])),
-        None => Ok(expected.map(|records| records.chunks_exact(RECORD).filter(|r| kind(r) == 0).count())),
-    }
+    records.check(&[written, after].concat())?;
+    Ok(expected.map(|records| records.chunks_exact(RECORD).filter(|r| kind(r) == 0).count()))
 }
 
 /// An operation's name, what its answers count, and its refusals.
@@ -280,7 +279,7 @@ pub fn links(seed: u64, cases: u64, ours: UpdateLinks) -> Line {
         let len = case.count;
         (case, len)
     };
-    compared(of, cases, case, |case, _| links_differ(case, ours))
+    compared(of, cases, case, |case, done| links_differ(case, ours, seed ^ done << 20))
 }
 
 #[cfg(test)]
@@ -302,19 +301,23 @@ mod tests {
     }
 
     #[test]
-    fn plain_materials_match() {
-        if left_out("plain_materials_match") {
+    fn materials_match() {
+        if left_out("materials_match") {
             return;
         }
-        holds(materials(1, 16_000, plain::materials::build), &[1, 2]);
+        for ours in [crate::proved::materials, plain::materials::build] {
+            holds(materials(1, 16_000, ours), &[1, 2]);
+        }
     }
 
     #[test]
-    fn plain_links_match() {
-        if left_out("plain_links_match") {
+    fn links_match() {
+        if left_out("links_match") {
             return;
         }
-        holds(links(1, 16_000, plain::links::update), &[1, 2, 6]);
+        for ours in [crate::proved::links, plain::links::update] {
+            holds(links(1, 16_000, ours), &[1, 2, 6]);
+        }
     }
 
     #[test]

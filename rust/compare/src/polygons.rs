@@ -172,13 +172,15 @@ mod tests {
     }
 
     #[test]
-    fn plain_polygons_match_and_every_kind_is_reached() {
-        if left_out("plain_polygons_match_and_every_kind_is_reached") {
+    fn polygons_match_and_every_kind_is_reached() {
+        if left_out("polygons_match_and_every_kind_is_reached") {
             return;
         }
-        let line = run(1, 50_000, &PLAIN);
-        assert_eq!((line.mismatches, line.smallest), (0, None));
-        assert!(line.reached.iter().all(|what| !what.contains(": 0")), "{:?}", line.reached);
+        for sides in [crate::proved::POLYGON, PLAIN] {
+            let line = run(1, 50_000, &sides);
+            assert_eq!((line.mismatches, line.smallest), (0, None));
+            assert!(line.reached.iter().all(|what| !what.contains(": 0")), "{:?}", line.reached);
+        }
     }
 
     #[test]

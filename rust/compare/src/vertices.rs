@@ -1,8 +1,8 @@
 //! A geometry's quantum, and vertices stored in units of it and read back: operations on words.
 
 use crate::inputs::Input::{self, Count, Float};
-use crate::operation::{made, Operation};
-use crate::plain::vertex as plain;
+use crate::operation::{made, Operation, Side};
+use crate::{plain::vertex as plain, proved};
 use oracle::geometry::{prepare, Geometry, IDENTITY};
 use oracle::{math, Aabb, Vec3};
 
@@ -37,35 +37,39 @@ fn reference_quantum(b: Aabb) -> Vec3 {
     prepare(&empty).expect("nothing to refuse").quantum
 }
 
-/// Plain Rust on our side, until the library has them.
+/// An operation's sides, with plain Rust for the library or the library itself.
+fn operation(name: &'static str, shape: &'static [Input], ours: Side, theirs: Side) -> Operation {
+    Operation { name, group: "geometry", number: None, shape, ours, theirs }
+}
+
+fn quantum(ours: Side) -> Operation {
+    operation("quantum", &[Float; 6], ours, |w| reference_quantum(boxed(w)).map(made).into())
+}
+
+fn stored(ours: Side) -> Operation {
+    operation("stored", &[Float; 6], ours, |w| math::quantise_vertex(point(w), point(&w[3..])).map(|n| n as u32).into())
+}
+
+fn read_back(ours: Side) -> Operation {
+    operation("read_back", &[Count, Count, Count, Float, Float, Float], ours, |w| {
+        math::vertex_read_back(shorts(w), point(&w[3..])).map(made).into()
+    })
+}
+
 pub fn operations() -> Vec<Operation> {
-    let operation = |name, shape: &'static [Input], ours, theirs| Operation {
-        name,
-        group: "geometry",
-        number: None,
-        shape,
-        ours,
-        theirs,
-    };
     vec![
-        operation(
-            "quantum",
-            &[Float; 6],
-            |w| plain::quantum(boxed(w)).map(made).into(),
-            |w| reference_quantum(boxed(w)).map(made).into(),
-        ),
-        operation(
-            "stored",
-            &[Float; 6],
-            |w| plain::stored(point(w), point(&w[3..])).map(|n| n as u32).into(),
-            |w| math::quantise_vertex(point(w), point(&w[3..])).map(|n| n as u32).into(),
-        ),
-        operation(
-            "read_back",
-            &[Count, Count, Count, Float, Float, Float],
-            |w| plain::read_back(shorts(w), point(&w[3..])).map(made).into(),
-            |w| math::vertex_read_back(shorts(w), point(&w[3..])).map(made).into(),
-        ),
+        quantum(|w| proved::quantum(boxed(w)).map(made).into()),
+        stored(|w| proved::stored(point(w), point(&w[3..])).map(|n| n as u32).into()),
+        read_back(|w| proved::read_back(shorts(w), point(&w[3..])).map(made).into()),
+    ]
+}
+
+/// Plain Rust on our side.
+pub fn plain_operations() -> Vec<Operation> {
+    vec![
+        quantum(|w| plain::quantum(boxed(w)).map(made).into()),
+        stored(|w| plain::stored(point(w), point(&w[3..])).map(|n| n as u32).into()),
+        read_back(|w| plain::read_back(shorts(w), point(&w[3..])).map(made).into()),
     ]
 }
 
@@ -75,11 +79,11 @@ mod tests {
     use crate::check;
 
     #[test]
-    fn plain_vertices_match() {
+    fn vertices_match() {
         if let Some(why) = oracle::missing() {
-            return eprintln!("plain_vertices_match is left out: {why}");
+            return eprintln!("vertices_match is left out: {why}");
         }
-        for operation in operations() {
+        for operation in operations().into_iter().chain(plain_operations()) {
             let line = check::run(&operation, 1, 20_000);
             assert_eq!((line.mismatches, line.smallest), (0, None));
         }

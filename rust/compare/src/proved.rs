@@ -1,0 +1,83 @@
+//! The library's side of a geometry's steps, in the comparison's own types.
+
+use crate::lent::Lent;
+use crate::polygons::Sides;
+use bounds::geometry::{self as library, BoundMaterial, BoundVertex};
+use bounds::Refusal;
+use oracle::polygon::{Material, Polygon, LIMIT};
+use oracle::{Aabb, Vec3};
+
+pub const POLYGON: Sides = Sides { read, write, bbox };
+
+fn ours(p: Polygon) -> library::Polygon {
+    use library::Polygon as Ours;
+    match p {
+        Polygon::Triangle { material, area, v, links } => Ours::Triangle { material, area, v, edges: links },
+        Polygon::Sphere { material, index, radius } => Ours::Sphere { material, index, radius },
+        Polygon::Capsule { material, i1, i2, radius } => Ours::Capsule { material, i1, i2, radius },
+        Polygon::Box { material, i } => Ours::Box { material, i },
+        Polygon::Cylinder { material, i1, i2, radius } => Ours::Cylinder { material, i1, i2, radius },
+    }
+}
+
+fn theirs(p: library::Polygon) -> Polygon {
+    use library::Polygon as Ours;
+    match p {
+        Ours::Triangle { material, area, v, edges } => Polygon::Triangle { material, area, v, links: edges },
+        Ours::Sphere { material, index, radius } => Polygon::Sphere { material, index, radius },
+        Ours::Capsule { material, i1, i2, radius } => Polygon::Capsule { material, i1, i2, radius },
+        Ours::Box { material, i } => Polygon::Box { material, i },
+        Ours::Cylinder { material, i1, i2, radius } => Polygon::Cylinder { material, i1, i2, radius },
+    }
+}
+
+fn point([x, y, z]: Vec3) -> bounds::Vec3 {
+    bounds::Vec3::new(x, y, z)
+}
+
+fn coordinates(p: bounds::Vec3) -> Vec3 {
+    [p.x, p.y, p.z]
+}
+
+pub fn read(bytes: &[u8]) -> Result<Polygon, u32> {
+    library::Polygon::read(bytes).map(theirs).map_err(Refusal::number)
+}
+
+/// Where there is room, both ways of writing have to give the same.
+pub fn write(out: &mut [u8], polygon: Polygon) -> Result<(), u32> {
+    ours(polygon).write_to(out).map_err(Refusal::number)?;
+    assert_eq!(out[..library::RECORD], ours(polygon).to_bytes());
+    Ok(())
+}
+
+pub fn bbox(polygon: Polygon, vertices: &[Vec3]) -> Aabb {
+    let vertices: Vec<bounds::Vec3> = vertices.iter().copied().map(point).collect();
+    let (min, max) = ours(polygon).bbox(&vertices);
+    Aabb { min: coordinates(min), max: coordinates(max) }
+}
+
+pub fn materials(numbers: &[u8], given: &[Material], list: &mut [u8], indices: &mut [u8]) -> Result<usize, u32> {
+    let given: Vec<BoundMaterial> = given.iter().map(|&(data1, data2)| BoundMaterial { data1, data2 }).collect();
+    library::build_materials(numbers, &given, list, indices).map_err(Refusal::number)
+}
+
+/// In a work buffer of just the length that is asked for, of any contents.
+pub fn links(records: &mut [u8], n: usize) -> Result<(), u32> {
+    let mut work = Lent::<u32>::new(library::edges_work_len(n.min(LIMIT)), n as u64);
+    let answer = library::update_edge_indices(records, n, work.buffer()).map_err(Refusal::number);
+    work.check_guards().expect("nothing past the work buffer is touched");
+    answer
+}
+
+pub fn quantum(b: Aabb) -> Vec3 {
+    coordinates(library::calculate_quantum(point(b.min), point(b.max)))
+}
+
+pub fn stored(v: Vec3, quantum: Vec3) -> [i16; 3] {
+    let BoundVertex(x, y, z) = BoundVertex::from_vec(point(v), point(quantum));
+    [x, y, z]
+}
+
+pub fn read_back([x, y, z]: [i16; 3], quantum: Vec3) -> Vec3 {
+    coordinates(BoundVertex(x, y, z).to_vec(point(quantum)))
+}
