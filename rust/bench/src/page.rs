@@ -69,10 +69,10 @@ force grows with the boxes and shrinks with what is met.
 const POLYGONS: &str = "\
 Links (`update_edge_indices`) of triangles of a grid, of triangles that all have one edge in common, and of equal ones;
 materials (`build_materials`) of polygons that have each one of 8 or 256. The library stores links in the records and
-works in buffers that are lent again and again; the reference makes hash maps and lists anew, and in its time is also
-that its structs are made of the input and read back. Box, read and write are a call for each polygon on both sides; the
-oracle copies the four vertices into a list of the reference's at each call of `bbox`, which takes longer than the box.
-Times and instructions are those of one polygon.
+works in buffers that are lent again and again; the reference makes lists and, by a random seed, hash maps anew, and its
+structs are made of the input and read back in its time, 4 to 10 % of its instructions where counted. Box (over 32,768
+vertices), read and write are a call for each polygon; the reference's `bbox` is left out: it is called here with a copy
+of all vertices. Times and instructions are those of one polygon.
 ";
 
 const STEPS: &str = "\

@@ -6,6 +6,7 @@ use crate::subjects::{vec3, Kind, Pass, Side, Subject, Work};
 use bounds::geometry::{edges_work_len, BoundMaterial, Polygon, MATERIALS_LEN};
 use bounds::{build_materials, update_edge_indices, Vec3};
 use compare::random::Random;
+use oracle::geometry::VERTICES;
 use oracle::polygon as reference;
 use std::hint::black_box;
 
@@ -55,15 +56,15 @@ fn triangle(v: [u16; 3]) -> Polygon {
     Polygon::Triangle { material: 0, area: 1.0, v, edges: [-1; 3] }
 }
 
-/// A triangle of three of four vertices.
+/// A triangle of any vertices.
 fn corners(tame: &mut Tame) -> Polygon {
-    triangle([0; 3].map(|_| tame.0.below(4) as u16))
+    triangle([0; 3].map(|_| tame.0.below(VERTICES) as u16))
 }
 
-/// Of any kind, of four vertices.
+/// Of any kind, of any vertices.
 fn mixed(tame: &mut Tame) -> Polygon {
     let material = 0;
-    let [a, b, c, d] = [0; 4].map(|_| tame.0.below(4) as u16);
+    let [a, b, c, d] = [0; 4].map(|_| tame.0.below(VERTICES) as u16);
     let radius = tame.float().abs();
     match tame.0.below(5) {
         0 => triangle([a, b, c]),
@@ -131,18 +132,17 @@ fn materials(n: usize, given: usize, seed: u64) -> Work {
     both(Box::new(ours), Box::new(theirs), n)
 }
 
-/// Of four vertices: the oracle copies the reference's list at each call, and of a longer one nothing else would show.
+/// Over vertices that are spread, as many as there may be. Only the library's: the oracle copies the reference's list of
+/// vertices at each call, and that is what would be timed.
 fn boxes(polygons: &[Polygon], seed: u64) -> Work {
-    let points: [[f32; 3]; 4] = inputs(4, seed, Tame::point).try_into().expect("four");
-    let vertices: [Vec3; 4] = points.map(vec3);
-    for p in polygons {
-        let (min, max) = p.bbox(&vertices);
+    let points: Vec<[f32; 3]> = inputs(VERTICES, seed, Tame::point);
+    let vertices: Vec<Vec3> = points.iter().copied().map(vec3).collect();
+    for p in &polygons[..100] {
         let b = reference::bbox(theirs(p), &points);
-        assert_eq!((min, max), (vec3(b.min), vec3(b.max)), "the same box");
+        assert_eq!(p.bbox(&vertices), (vec3(b.min), vec3(b.max)), "the same box");
     }
     let ours = each(polygons.to_vec(), move |p| p.bbox(black_box(&vertices)));
-    let list = polygons.iter().map(theirs).collect();
-    both(ours, each(list, move |&p| reference::bbox(p, black_box(&points))), polygons.len())
+    Work { passes: vec![(Side::Library, ours)], units: polygons.len(), queries: None }
 }
 
 fn records(polygons: &[Polygon]) -> Vec<[u8; 16]> {
