@@ -10,6 +10,7 @@ mod machine;
 mod measure;
 mod page;
 mod plot;
+mod polygons;
 mod subjects;
 mod tuned;
 mod vector;
@@ -22,7 +23,7 @@ use subjects::{Side, Subject};
 
 const USAGE: &str = "usage: bench [OP..] [--samples N] [--seed S] [--instructions] [--write]
        bench vector-code ARCHIVE
-  OP              the beginning of an operation's name, as random or queries (default: all)
+  OP              the beginning of an operation's name, as random, queries or links (default: all)
   --samples N     of each size and side (default 31)
   --seed S        of the inputs (default 1)
   --instructions  counts them too, by valgrind

@@ -6,7 +6,7 @@ use std::time::Duration;
 /// One size of a subject. Times are of a whole pass, in nanoseconds.
 pub struct Row {
     pub size: usize,
-    /// What a pass does: so many boxes, records or calls.
+    /// What a pass does: so many boxes, records, polygons or calls.
     pub units: usize,
     pub times: Vec<(Side, f64)>,
     pub instructions: Vec<(Side, u64)>,
@@ -18,7 +18,7 @@ impl Row {
         self.times.iter().find(|(of, _)| *of == side).map(|(_, time)| *time)
     }
 
-    /// Nanoseconds of one box, record or call.
+    /// Nanoseconds of one box, record, polygon or call.
     pub fn each(&self, side: Side) -> Option<f64> {
         Some(self.time(side)? / self.units.max(1) as f64)
     }

@@ -1,4 +1,4 @@
-//! What was measured as a page: tables of builds, walks, queries and steps, and what they were measured with.
+//! What was measured as a page: tables of builds, walks, queries, polygons and steps, and what they were measured with.
 
 use crate::machine;
 use crate::measure::{Row, Series, FEWEST};
@@ -32,7 +32,11 @@ pub fn page(series: &[Series], samples: usize, seed: u64) -> String {
 /// The tables of what was measured, each under its heading.
 pub fn tables(series: &[Series]) -> String {
     let parts = [("Builds", BUILDS, builds(series)), ("Walks", WALKS, walks(series))];
-    let more = [("Queries", QUERIES, queries(series)), ("Steps", STEPS, steps(series))];
+    let more = [
+        ("Queries", QUERIES, queries(series)),
+        ("Polygons", POLYGONS, calls(series, Kind::Polygon, "operation", "polygons")),
+        ("Steps", STEPS, calls(series, Kind::Step, "step", "calls")),
+    ];
     let whole = |(title, text, table): &(&str, &str, String)| match table.is_empty() {
         true => String::new(),
         false => format!("## {title}\n\n{text}\n{table}\n"),
@@ -60,6 +64,15 @@ meet some 1, 10 or 100 boxes. Means of one query, and thousand queries a second.
 hands out all items of a leaf that meets: more than brute force finds, and who wants the exact answer compares the boxes
 of what was handed out. So a small query over many boxes takes as long as its tree records, and the lead over brute
 force grows with the boxes and shrinks with what is met.
+";
+
+const POLYGONS: &str = "\
+Links (`update_edge_indices`) of triangles of a grid, of triangles that all have one edge in common, and of equal ones;
+materials (`build_materials`) of polygons that have each one of 8 or 256. The library stores links in the records and
+works in buffers that are lent again and again; the reference makes lists and, by a random seed, hash maps anew, and its
+structs are made of the input and read back in its time, 4 to 10 % of its instructions where counted. Box (over 32,768
+vertices), read and write are a call for each polygon; the reference's `bbox` is left out: it is called here with a copy
+of all vertices. Times and instructions are those of one polygon.
 ";
 
 const STEPS: &str = "\
@@ -154,11 +167,12 @@ fn queries(series: &[Series]) -> String {
     })
 }
 
-fn steps(series: &[Series]) -> String {
-    let counted = counted(series, Kind::Step);
-    let names = ["calls", "library, ns", "reference, ns", "ratio"];
-    let head = head("step", &with_instructions(&names, &BOTH, counted));
-    rows(series, Kind::Step, head, |name, r| {
+/// Times of one polygon or call beside the reference's.
+fn calls(series: &[Series], kind: Kind, left: &str, size: &str) -> String {
+    let counted = counted(series, kind);
+    let names = ["library, ns", "reference, ns", "ratio"];
+    let head = head(left, &[&[size], &with_instructions(&names, &BOTH, counted)[..]].concat());
+    rows(series, kind, head, |name, r| {
         let mut cells = vec![r.size.to_string()];
         cells.extend(BOTH.map(|side| cell(r.each(side), 2)));
         cells.push(cell(r.ratio(Side::Reference), 2));

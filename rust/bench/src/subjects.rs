@@ -1,7 +1,7 @@
 //! What is timed: the sides of an operation over the same inputs.
 
 use crate::lists::{self, inputs, spread, Tame};
-use crate::walks;
+use crate::{polygons, walks};
 use bounds::bvh::{build_bvh, records_len, work_len, BvhItem};
 use bounds::{float, math, Mat4, Vec3};
 use oracle::{float as source, math as reference, tree, Aabb};
@@ -41,6 +41,7 @@ impl Side {
 pub enum Kind {
     Build,
     Walk,
+    Polygon,
     Step,
 }
 
@@ -57,7 +58,7 @@ pub struct Subject {
 
 pub struct Work {
     pub passes: Vec<(Side, Pass)>,
-    /// What a pass does: so many boxes, records or calls.
+    /// What a pass does: so many boxes, records, polygons or calls.
     pub units: usize,
     pub queries: Option<Queries>,
 }
@@ -130,7 +131,7 @@ fn calls<T: Copy + Send + 'static, A, B>(
 }
 
 pub fn all() -> Vec<Subject> {
-    builds_of_lists().into_iter().chain(walks::all()).chain(steps()).collect()
+    builds_of_lists().into_iter().chain(walks::all()).chain(polygons::all()).chain(steps()).collect()
 }
 
 fn builds_of_lists() -> Vec<Subject> {

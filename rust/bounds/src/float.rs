@@ -12,6 +12,7 @@ use std::cmp::Ordering;
 /// assert_eq!(bounds::float::value(0x3F80_0000), 1.0);
 /// assert!(bounds::float::value(0xFF80_0001).is_nan());
 /// ```
+#[inline]
 pub fn value(word: u32) -> f32 {
     ffi::bounds_value(word)
 }
@@ -22,6 +23,7 @@ pub fn value(word: u32) -> f32 {
 /// assert_eq!(bounds::float::bits(-0.0), 0x8000_0000);
 /// assert_eq!(bounds::float::bits(-f32::NAN), 0x7FC0_0000);
 /// ```
+#[inline]
 pub fn bits(x: f32) -> u32 {
     ffi::bounds_bits(x)
 }
@@ -32,6 +34,7 @@ pub fn bits(x: f32) -> u32 {
 /// assert_eq!(bounds::float::value_bits(0x8000_0001), 0x8000_0001);
 /// assert_eq!(bounds::float::value_bits(0xFF80_0001), 0x7FC0_0000);
 /// ```
+#[inline]
 pub fn value_bits(word: u32) -> u32 {
     ffi::bounds_value_bits(word)
 }
@@ -43,6 +46,7 @@ pub fn value_bits(word: u32) -> u32 {
 /// assert_eq!(bounds::float::relate(1.0, 2.0), Some(Less));
 /// assert_eq!(bounds::float::relate(1.0, f32::NAN), None);
 /// ```
+#[inline]
 pub fn relate(a: f32, b: f32) -> Option<Ordering> {
     match ffi::bounds_relate(a, b) {
         0 => Some(Ordering::Less),
@@ -59,6 +63,7 @@ pub fn relate(a: f32, b: f32) -> Option<Ordering> {
 /// assert_eq!(bounds::float::cmp_f32(f32::NAN, f32::NEG_INFINITY), Less);
 /// assert_eq!(bounds::float::cmp_f32(-0.0, 0.0), Equal);
 /// ```
+#[inline]
 pub fn cmp_f32(a: f32, b: f32) -> Ordering {
     ffi::bounds_cmp_f32(a, b).cmp(&0)
 }
@@ -70,6 +75,7 @@ pub fn cmp_f32(a: f32, b: f32) -> Ordering {
 /// assert_eq!(order_key(0x8000_0000), order_key(0));
 /// assert!(order_key(0x7FC0_0000) < order_key(0xFF80_0000));
 /// ```
+#[inline]
 pub fn order_key(word: u32) -> u32 {
     ffi::bounds_order_key(word)
 }
@@ -81,6 +87,7 @@ pub fn order_key(word: u32) -> u32 {
 /// assert_eq!(vmin(vmin(1.0, f32::NAN), 3.0), 3.0);
 /// assert!(vmin(1.0, f32::NAN).is_nan());
 /// ```
+#[inline]
 pub fn vmin(a: f32, b: f32) -> f32 {
     ffi::bounds_vmin(a, b)
 }
@@ -90,6 +97,7 @@ pub fn vmin(a: f32, b: f32) -> f32 {
 /// ```
 /// assert_eq!(bounds::float::vmax(f32::NAN, 3.0), 3.0);
 /// ```
+#[inline]
 pub fn vmax(a: f32, b: f32) -> f32 {
     ffi::bounds_vmax(a, b)
 }
@@ -99,6 +107,7 @@ pub fn vmax(a: f32, b: f32) -> f32 {
 /// ```
 /// assert_eq!(bounds::float::vmin_word(0x3F80_0000, 0xFF80_0001), 0xFF80_0001);
 /// ```
+#[inline]
 pub fn vmin_word(a: u32, b: u32) -> u32 {
     ffi::bounds_vmin_word(a, b)
 }
@@ -108,6 +117,7 @@ pub fn vmin_word(a: u32, b: u32) -> u32 {
 /// ```
 /// assert_eq!(bounds::float::vmax_word(0xFF80_0001, 0x3F80_0000), 0x3F80_0000);
 /// ```
+#[inline]
 pub fn vmax_word(a: u32, b: u32) -> u32 {
     ffi::bounds_vmax_word(a, b)
 }
@@ -117,6 +127,7 @@ pub fn vmax_word(a: u32, b: u32) -> u32 {
 /// ```
 /// assert_eq!(bounds::float::min_number(f32::NAN, 3.0), 3.0);
 /// ```
+#[inline]
 pub fn min_number(a: f32, b: f32) -> f32 {
     ffi::bounds_min_number(a, b)
 }
@@ -126,6 +137,7 @@ pub fn min_number(a: f32, b: f32) -> f32 {
 /// ```
 /// assert_eq!(bounds::float::max_number(1.0, f32::NAN), 1.0);
 /// ```
+#[inline]
 pub fn max_number(a: f32, b: f32) -> f32 {
     ffi::bounds_max_number(a, b)
 }
@@ -136,6 +148,7 @@ pub fn max_number(a: f32, b: f32) -> f32 {
 /// assert_eq!(bounds::float::to_i32(-1.9), -1);
 /// assert_eq!(bounds::float::to_i32(1e20), i32::MAX);
 /// ```
+#[inline]
 pub fn to_i32(x: f32) -> i32 {
     ffi::bounds_to_i32(x)
 }
@@ -145,6 +158,7 @@ pub fn to_i32(x: f32) -> i32 {
 /// ```
 /// assert_eq!(bounds::float::wrap_i16(40000), -25536);
 /// ```
+#[inline]
 pub fn wrap_i16(n: i32) -> i16 {
     ffi::bounds_wrap_i16(n)
 }
@@ -157,6 +171,7 @@ pub fn wrap_i16(n: i32) -> i16 {
 /// assert_eq!(to_short(f32::INFINITY), -1);
 /// assert_eq!(to_short(f32::NAN), 0);
 /// ```
+#[inline]
 pub fn to_short(x: f32) -> i16 {
     ffi::bounds_to_short(x)
 }
@@ -168,6 +183,7 @@ pub fn to_short(x: f32) -> i16 {
 /// assert_eq!(vertex_value(40000.0), 32767);
 /// assert_eq!(vertex_value(-0.9), 0);
 /// ```
+#[inline]
 pub fn vertex_value(x: f32) -> i16 {
     ffi::bounds_vertex_value(x)
 }
@@ -177,6 +193,7 @@ pub fn vertex_value(x: f32) -> i16 {
 /// ```
 /// assert_eq!(bounds::float::sqrt(2.0).to_bits(), 0x3FB5_04F3);
 /// ```
+#[inline]
 pub fn sqrt(x: f32) -> f32 {
     ffi::bounds_sqrt(x)
 }
@@ -186,6 +203,7 @@ pub fn sqrt(x: f32) -> f32 {
 /// ```
 /// assert_eq!(bounds::float::of_count(65535), 65535.0);
 /// ```
+#[inline]
 pub fn of_count(n: u16) -> f32 {
     ffi::bounds_of_count(n)
 }

@@ -35,6 +35,7 @@ impl Vec3 {
     pub const ZERO: Vec3 = Vec3 { x: 0.0, y: 0.0, z: 0.0 };
 
     /// The point with these coordinates.
+    #[inline]
     pub fn new(x: f32, y: f32, z: f32) -> Vec3 {
         Vec3 { x, y, z }
     }
@@ -45,6 +46,7 @@ impl Vec3 {
     /// # use bounds::Vec3;
     /// assert_eq!(Vec3::new(1.0, 2.0, 3.0).dot(Vec3::new(4.0, 5.0, 6.0)), 32.0);
     /// ```
+    #[inline]
     pub fn dot(self, rhs: Vec3) -> f32 {
         ffi::bounds_dot(self, rhs)
     }
@@ -55,6 +57,7 @@ impl Vec3 {
     /// # use bounds::Vec3;
     /// assert_eq!(Vec3::new(1.0, 0.0, 0.0).cross(Vec3::new(0.0, 1.0, 0.0)), Vec3::new(0.0, 0.0, 1.0));
     /// ```
+    #[inline]
     pub fn cross(self, rhs: Vec3) -> Vec3 {
         ffi::bounds_cross(self, rhs)
     }
@@ -65,6 +68,7 @@ impl Vec3 {
     /// # use bounds::Vec3;
     /// assert_eq!(Vec3::new(1.0, 1.0, 0.0).length().to_bits(), 0x3FB5_04F3);
     /// ```
+    #[inline]
     pub fn length(self) -> f32 {
         ffi::bounds_length(self)
     }
@@ -75,6 +79,7 @@ impl Vec3 {
     /// # use bounds::Vec3;
     /// assert_eq!(Vec3::new(-1.0, 2.0, -0.0).abs(), Vec3::new(1.0, 2.0, 0.0));
     /// ```
+    #[inline]
     pub fn abs(self) -> Vec3 {
         ffi::bounds_abs(self)
     }
@@ -86,6 +91,7 @@ impl Vec3 {
 /// ```
 impl Add for Vec3 {
     type Output = Vec3;
+    #[inline]
     fn add(self, rhs: Vec3) -> Vec3 {
         ffi::bounds_add(self, rhs)
     }
@@ -97,6 +103,7 @@ impl Add for Vec3 {
 /// ```
 impl Sub for Vec3 {
     type Output = Vec3;
+    #[inline]
     fn sub(self, rhs: Vec3) -> Vec3 {
         ffi::bounds_sub(self, rhs)
     }
@@ -108,6 +115,7 @@ impl Sub for Vec3 {
 /// ```
 impl Mul<f32> for Vec3 {
     type Output = Vec3;
+    #[inline]
     fn mul(self, rhs: f32) -> Vec3 {
         ffi::bounds_scale(self, rhs)
     }
@@ -119,6 +127,7 @@ impl Mul<f32> for Vec3 {
 /// ```
 impl Neg for Vec3 {
     type Output = Vec3;
+    #[inline]
     fn neg(self) -> Vec3 {
         ffi::bounds_neg(self)
     }
@@ -126,11 +135,13 @@ impl Neg for Vec3 {
 
 impl Vec4 {
     /// The point with these coordinates.
+    #[inline]
     pub fn new(x: f32, y: f32, z: f32, w: f32) -> Vec4 {
         Vec4 { x, y, z, w }
     }
 
     /// The first three coordinates.
+    #[inline]
     pub fn xyz(self) -> Vec3 {
         Vec3::new(self.x, self.y, self.z)
     }
@@ -138,6 +149,7 @@ impl Vec4 {
 
 impl Mat4 {
     /// The transform that leaves finite points where they are.
+    #[inline]
     pub fn identity() -> Mat4 {
         Mat4([1.0, 0.0, 0.0, 0.0, 0.0, 1.0, 0.0, 0.0, 0.0, 0.0, 1.0, 0.0, 0.0, 0.0, 0.0, 1.0])
     }
@@ -150,6 +162,7 @@ impl Mat4 {
     /// // The identity multiplies too: infinity times 0 is a NaN.
     /// assert!(Mat4::identity().transform_point(Vec3::new(f32::INFINITY, 0.0, 0.0)).y.is_nan());
     /// ```
+    #[inline]
     pub fn transform_point(&self, p: Vec3) -> Vec4 {
         ffi::bounds_transform_point(*self, p)
     }
@@ -160,6 +173,7 @@ impl Mat4 {
     /// # use bounds::{Mat4, Vec3};
     /// assert_eq!(Mat4::identity().transform_vector(Vec3::new(1.0, 2.0, 3.0)), Vec3::new(1.0, 2.0, 3.0));
     /// ```
+    #[inline]
     pub fn transform_vector(&self, v: Vec3) -> Vec3 {
         ffi::bounds_transform_vector(*self, v)
     }
@@ -172,6 +186,7 @@ impl Mat4 {
 /// assert_eq!(norm(Vec3::new(0.0, 4.0, 0.0)), Vec3::new(0.0, 1.0, 0.0));
 /// assert_eq!(norm(Vec3::new(0.0, 1e-7, 0.0)), Vec3::new(0.0, 1e-7, 0.0));
 /// ```
+#[inline]
 pub fn norm(v: Vec3) -> Vec3 {
     ffi::bounds_norm(v)
 }
@@ -182,6 +197,7 @@ pub fn norm(v: Vec3) -> Vec3 {
 /// # use bounds::{math::vmul, Vec3};
 /// assert_eq!(vmul(Vec3::new(1.0, 2.0, 3.0), Vec3::new(4.0, 5.0, 6.0)), Vec3::new(4.0, 10.0, 18.0));
 /// ```
+#[inline]
 pub fn vmul(a: Vec3, b: Vec3) -> Vec3 {
     ffi::bounds_vmul(a, b)
 }
@@ -192,6 +208,7 @@ pub fn vmul(a: Vec3, b: Vec3) -> Vec3 {
 /// # use bounds::{math::vdiv, Vec3};
 /// assert_eq!(vdiv(Vec3::new(1.0, 2.0, 3.0), Vec3::new(2.0, 4.0, 0.0)), Vec3::new(0.5, 0.5, f32::INFINITY));
 /// ```
+#[inline]
 pub fn vdiv(a: Vec3, b: Vec3) -> Vec3 {
     ffi::bounds_vdiv(a, b)
 }
@@ -202,6 +219,7 @@ pub fn vdiv(a: Vec3, b: Vec3) -> Vec3 {
 /// # use bounds::{math::vadd_f, Vec3};
 /// assert_eq!(vadd_f(Vec3::new(1.0, 2.0, 3.0), 1.0), Vec3::new(2.0, 3.0, 4.0));
 /// ```
+#[inline]
 pub fn vadd_f(v: Vec3, f: f32) -> Vec3 {
     ffi::bounds_vadd_f(v, f)
 }
@@ -212,6 +230,7 @@ pub fn vadd_f(v: Vec3, f: f32) -> Vec3 {
 /// # use bounds::{math::vmin, Vec3};
 /// assert_eq!(vmin(Vec3::new(1.0, 2.0, f32::NAN), Vec3::new(0.0, 3.0, 4.0)), Vec3::new(0.0, 2.0, 4.0));
 /// ```
+#[inline]
 pub fn vmin(a: Vec3, b: Vec3) -> Vec3 {
     ffi::bounds_vmin3(a, b)
 }
@@ -222,6 +241,7 @@ pub fn vmin(a: Vec3, b: Vec3) -> Vec3 {
 /// # use bounds::{math::vmax, Vec3};
 /// assert_eq!(vmax(Vec3::new(1.0, 2.0, f32::NAN), Vec3::new(0.0, 3.0, 4.0)), Vec3::new(1.0, 3.0, 4.0));
 /// ```
+#[inline]
 pub fn vmax(a: Vec3, b: Vec3) -> Vec3 {
     ffi::bounds_vmax3(a, b)
 }
@@ -232,6 +252,7 @@ pub fn vmax(a: Vec3, b: Vec3) -> Vec3 {
 /// # use bounds::math::vmin_words;
 /// assert_eq!(vmin_words([0, 0x3F80_0000, 0], [0x8000_0000, 0, 0x7F80_0001]), [0x8000_0000, 0, 0x7F80_0001]);
 /// ```
+#[inline]
 pub fn vmin_words(a: [u32; 3], b: [u32; 3]) -> [u32; 3] {
     plain(ffi::bounds_vmin_words3(words(a), words(b)))
 }
@@ -242,14 +263,17 @@ pub fn vmin_words(a: [u32; 3], b: [u32; 3]) -> [u32; 3] {
 /// # use bounds::math::vmax_words;
 /// assert_eq!(vmax_words([0, 0x3F80_0000, 7], [0x8000_0000, 0, 0xFFFF_FFFF]), [0x8000_0000, 0x3F80_0000, 0xFFFF_FFFF]);
 /// ```
+#[inline]
 pub fn vmax_words(a: [u32; 3], b: [u32; 3]) -> [u32; 3] {
     plain(ffi::bounds_vmax_words3(words(a), words(b)))
 }
 
+#[inline]
 fn words([x, y, z]: [u32; 3]) -> Words3 {
     Words3 { x, y, z }
 }
 
+#[inline]
 fn plain(w: Words3) -> [u32; 3] {
     [w.x, w.y, w.z]
 }
@@ -261,6 +285,7 @@ fn plain(w: Words3) -> [u32; 3] {
 /// use std::cmp::Ordering::*;
 /// assert_eq!(cmp_vec3(Vec3::new(1.0, 2.0, 3.0), Vec3::new(1.0, 2.0, 2.0)), Greater);
 /// ```
+#[inline]
 pub fn cmp_vec3(a: Vec3, b: Vec3) -> Ordering {
     ffi::bounds_cmp_vec3(a, b).cmp(&0)
 }
@@ -275,6 +300,7 @@ pub fn cmp_vec3(a: Vec3, b: Vec3) -> Ordering {
 /// let (min, max) = transform_box(Vec3::new(1.0, 1.0, 1.0), Vec3::new(3.0, 3.0, 3.0), &m);
 /// assert_eq!((min, max), (Vec3::ZERO, Vec3::new(2.0, 2.0, 2.0)));
 /// ```
+#[inline]
 pub fn transform_box(min: Vec3, max: Vec3, m: &Mat4) -> (Vec3, Vec3) {
     let b = ffi::bounds_transform_box(Aabb { min, max }, *m);
     (b.min, b.max)
