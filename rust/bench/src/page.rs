@@ -69,10 +69,9 @@ force grows with the boxes and shrinks with what is met.
 const POLYGONS: &str = "\
 Links (`update_edge_indices`) of triangles of a grid, of triangles that all have one edge in common, and of equal ones;
 materials (`build_materials`) of polygons that have each one of 8 or 256. The library stores links in the records and
-works in buffers that are lent again and again; the reference makes lists and, by a random seed, hash maps anew, and its
-structs are made of the input and read back in its time, 4 to 10 % of its instructions where counted. Box (over 32,768
-vertices), read and write are a call for each polygon; the reference's `bbox` is left out: it is called here with a copy
-of all vertices. Times and instructions are those of one polygon.
+works in buffers that are lent again and again; the reference stores them in its structs, and makes lists and, by a
+random seed, hash maps anew. Box (over 32,768 vertices), read and write are a call for each polygon, of the library into
+it. Times and instructions are those of one polygon.
 ";
 
 const STEPS: &str = "\

@@ -106,10 +106,7 @@ fn links(corners: &[[u16; 3]]) -> Work {
     let ours = move || {
         black_box(update_edge_indices(black_box(&mut records), n, &mut work)).expect("a list within the limits");
     };
-    let theirs = move || {
-        black_box(reference::edges(black_box(&list)).expect("a list within the limits"));
-    };
-    both(Box::new(ours), Box::new(theirs), n)
+    both(Box::new(ours), reference::linker(&list), n)
 }
 
 fn materials(n: usize, given: usize, seed: u64) -> Work {
@@ -121,19 +118,18 @@ fn materials(n: usize, given: usize, seed: u64) -> Work {
     let count = build_materials(&numbers, &own, &mut list, &mut indices).expect("a list within the limits");
     let built = reference::materials(&numbers, &pairs).expect("a list within the limits");
     assert_eq!((count, &indices), (built.list.len(), &built.indices), "the same materials");
-    let polygons = numbers.clone();
+    let mut theirs = reference::lister(&numbers, &pairs);
     let ours = move || {
         let built = build_materials(black_box(&numbers), &own, &mut list, black_box(&mut indices));
         black_box(built).expect("a list within the limits");
     };
     let theirs = move || {
-        black_box(reference::materials(black_box(&polygons), &pairs).expect("a list within the limits"));
+        black_box(theirs());
     };
     both(Box::new(ours), Box::new(theirs), n)
 }
 
-/// Over vertices that are spread, as many as there may be. Only the library's: the oracle copies the reference's list of
-/// vertices at each call, and that is what would be timed.
+/// Over vertices that are spread, as many as there may be.
 fn boxes(polygons: &[Polygon], seed: u64) -> Work {
     let points: Vec<[f32; 3]> = inputs(VERTICES, seed, Tame::point);
     let vertices: Vec<Vec3> = points.iter().copied().map(vec3).collect();
@@ -142,7 +138,8 @@ fn boxes(polygons: &[Polygon], seed: u64) -> Work {
         assert_eq!(p.bbox(&vertices), (vec3(b.min), vec3(b.max)), "the same box");
     }
     let ours = each(polygons.to_vec(), move |p| p.bbox(black_box(&vertices)));
-    Work { passes: vec![(Side::Library, ours)], units: polygons.len(), queries: None }
+    let list: Vec<_> = polygons.iter().map(theirs).collect();
+    both(ours, reference::boxer(&list, &points), polygons.len())
 }
 
 fn records(polygons: &[Polygon]) -> Vec<[u8; 16]> {

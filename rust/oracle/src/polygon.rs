@@ -42,6 +42,9 @@ answers! {
     /// bounds.rs, `Polygon::bbox`.
     fn bbox(polygon: Polygon, vertices: &[Vec3]) -> Aabb { inside::bbox(polygon, vertices) }
 
+    /// `Polygon::bbox` alone, to be timed: each call makes the boxes of all polygons, one after another.
+    fn boxer(polygons: &[Polygon], vertices: &[Vec3]) -> Box<dyn FnMut() + Send> { inside::boxer(polygons, vertices) }
+
     /// bounds.rs, `Geometry::build_materials`, for polygons with these material numbers. Refusal 1; 8 cannot happen
     /// with numbers of one byte.
     fn materials(numbers: &[u8], materials: &[Material]) -> Result<Materials, Refused> {
@@ -50,9 +53,18 @@ answers! {
         Ok(inside::materials(numbers, materials))
     }
 
+    /// `build_materials` alone, to be timed: each call answers how many there are. A call finds the list that the last one
+    /// left, which has the same materials. Nothing is refused.
+    fn lister(numbers: &[u8], materials: &[Material]) -> Box<dyn FnMut() -> usize + Send> {
+        inside::lister(numbers, materials)
+    }
+
     /// bounds.rs, `Geometry::update_edge_indices`. Refusal 1.
     fn edges(polygons: &[Polygon]) -> Result<Vec<Polygon>, Refused> {
         at_most(polygons.len(), LIMIT)?;
         Ok(inside::edges(polygons))
     }
+
+    /// `update_edge_indices` alone, to be timed: each call links the polygons anew. Nothing is refused.
+    fn linker(polygons: &[Polygon]) -> Box<dyn FnMut() + Send> { inside::linker(polygons) }
 }

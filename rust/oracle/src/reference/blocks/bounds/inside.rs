@@ -7,6 +7,7 @@ use crate::composite::Child;
 use crate::geometry::{Prepared, Quantised};
 use crate::polygon::{Material, Materials, Polygon as Plain};
 use crate::{tree, Refused};
+use std::hint::black_box;
 
 #[inline]
 pub fn v(p: crate::Vec3) -> Vec3 {
@@ -87,6 +88,16 @@ pub fn read(b: &[u8]) -> Option<Plain> {
     Polygon::read(b).map(|p| plain(&p))
 }
 
+pub fn boxer(polygons: &[Plain], vertices: &[crate::Vec3]) -> Box<dyn FnMut() + Send> {
+    let polygons: Vec<Polygon> = polygons.iter().map(|&p| polygon(p)).collect();
+    let vertices: Vec<Vec3> = vertices.iter().map(|&p| v(p)).collect();
+    Box::new(move || {
+        for p in &polygons {
+            black_box(black_box(p).bbox(black_box(&vertices)));
+        }
+    })
+}
+
 pub fn bbox(p: Plain, vertices: &[crate::Vec3]) -> crate::Aabb {
     let vertices: Vec<Vec3> = vertices.iter().map(|&p| v(p)).collect();
     let (min, max) = polygon(p).bbox(&vertices);
@@ -101,19 +112,42 @@ fn empty(kind: BoundKind) -> Geometry {
     Geometry::new(BoundCommon::new(kind))
 }
 
-pub fn materials(numbers: &[u8], list: &[Material]) -> Materials {
+fn numbered(numbers: &[u8], list: &[Material]) -> Geometry {
     let mut geo = empty(BoundKind::Geometry);
     geo.polygons = numbers.iter().map(|&material| Polygon::Box { material, i: [0; 4] }).collect();
     geo.materials = list.iter().map(material).collect();
+    geo
+}
+
+pub fn lister(numbers: &[u8], list: &[Material]) -> Box<dyn FnMut() -> usize + Send> {
+    let mut geo = numbered(numbers, list);
+    Box::new(move || {
+        black_box(&mut geo).build_materials();
+        geo.materials.len()
+    })
+}
+
+pub fn materials(numbers: &[u8], list: &[Material]) -> Materials {
+    let mut geo = numbered(numbers, list);
     geo.build_materials();
     let carried: Vec<u8> = geo.polygons.iter().map(Polygon::material).collect();
     assert_eq!(carried, geo.polygon_material_indices);
     Materials { list: geo.materials.iter().map(|m| (m.data1, m.data2)).collect(), indices: carried }
 }
 
-pub fn edges(polygons: &[Plain]) -> Vec<Plain> {
+fn of_polygons(polygons: &[Plain]) -> Geometry {
     let mut geo = empty(BoundKind::Geometry);
     geo.polygons = polygons.iter().map(|&p| polygon(p)).collect();
+    geo
+}
+
+pub fn linker(polygons: &[Plain]) -> Box<dyn FnMut() + Send> {
+    let mut geo = of_polygons(polygons);
+    Box::new(move || black_box(&mut geo).update_edge_indices())
+}
+
+pub fn edges(polygons: &[Plain]) -> Vec<Plain> {
+    let mut geo = of_polygons(polygons);
     geo.update_edge_indices();
     geo.polygons.iter().map(plain).collect()
 }
