@@ -41,7 +41,8 @@ fn corners(item: &BvhItem) -> [f32; 6] {
 
 /// The premises as one would write them in Rust, in doubles where the source's floats do not matter.
 fn plain(items: &[BvhItem]) -> Result<(), Broken> {
-    let present = || items.iter().enumerate().filter(|(_, item)| item.present != 0).map(|(place, item)| (place, corners(item)));
+    let present =
+        || items.iter().enumerate().filter(|(_, item)| item.present != 0).map(|(place, item)| (place, corners(item)));
     for (place, c) in present() {
         for (at, &v) in c.iter().enumerate() {
             if !v.is_finite() || (v as f64).abs() > 100f64.exp2() {
@@ -85,8 +86,12 @@ fn every_special_float_at_every_place_of_a_box() {
             for axis in 0..3 {
                 let mut c = [0.0; 6];
                 (c[axis], c[axis + 3]) = (a, b);
-                for items in [&[item(c)][..], &[BvhItem::ABSENT, good, item(c)], &[item(c), good], &[good, item(c), item([a; 6])]]
-                {
+                for items in [
+                    &[item(c)][..],
+                    &[BvhItem::ABSENT, good, item(c)],
+                    &[item(c), good],
+                    &[good, item(c), item([a; 6])],
+                ] {
                     found[same(items).is_ok() as usize] += 1;
                 }
             }
@@ -135,7 +140,11 @@ fn random_lists() {
                 if hostile && random(4) == 0 {
                     c[random(6) as usize] = special[random(special.len() as u64) as usize];
                 }
-                if random(5) != 0 { item(c) } else { BvhItem::ABSENT }
+                if random(5) != 0 {
+                    item(c)
+                } else {
+                    BvhItem::ABSENT
+                }
             })
             .collect();
         found[same(&items).is_ok() as usize] += 1;

@@ -7,8 +7,8 @@
 //! - [`walks`]: walks over what [`records`] makes, compared with [`oracle::walk`], one in plain Rust.
 //! - [`pairs`]: builds and walks over their records, held to what [`promises`] finds by brute force, over the lists and
 //!   queries of [`queries`].
-//! - [`polygons`], [`meshes`], [`vertices`]: polygon records and boxes, materials and links, stored vertices; [`plain`]
-//!   Rust stands where the library will.
+//! - [`polygons`], [`meshes`], [`vertices`]: polygon records and boxes, materials and links, stored vertices. The tests
+//!   hold [`plain`], the same steps in plain Rust, against the reference too.
 //! - [`exhaustive`]: operations of one word over all 2^32.
 //! - [`vectors`]: a sample of the reference's answers as a text file.
 //! - [`lent`]: buffers for operations that write into what they are lent.

@@ -1,5 +1,5 @@
-//! Steps of a geometry in plain Rust, written from the scope document alone: what stands where the proved library will,
-//! so that the comparison is ready for it.
+//! Steps of a geometry in plain Rust, written from the scope document: the tests compare it with the reference, so that
+//! the comparison itself is tried without the library.
 
 pub mod links;
 pub mod materials;
