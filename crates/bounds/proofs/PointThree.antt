@@ -20,11 +20,11 @@ use Rattle.tree.specs.Pair.{outcomeOf, Delivered}
 use Rattle.tree.specs.WellFormed.{WellFormed}
 use Rattle.tree.proofs.AnswerLaws.{refusal-numbered, Listed, words-listed, items-listed}
 use Rattle.tree.proofs.PointThree.{records-well-formed, walk-delivers}
-use Rattle.bounds.specs.declared.BuildAnswer.{BuildAnswer}
-use Rattle.bounds.specs.declared.WalkAnswer.{WalkAnswer}
+use Rattle.answers.specs.declared.trees.BuildAnswer.{BuildAnswer}
+use Rattle.answers.specs.declared.walks.WalkAnswer.{WalkAnswer}
 use Rattle.bounds.specs.PointThree.{WalkedOver, handedOut, PointThree}
-use Rattle.bounds.specs.Trees.{refusedBy, treeValues, buildAnswer, Answers}
-use Rattle.bounds.specs.WalkAnswers.{counted, WalkAnswered}
+use Rattle.answers.specs.Trees.{refusedBy, treeValues, buildAnswer, Answers}
+use Rattle.answers.specs.WalkAnswers.{counted, WalkAnswered}
 
 -- ---- the build
 

@@ -9,7 +9,7 @@ use Rattle.float32.specs.Casts.{low16, low16bits}
 use Rattle.float32.proofs.Wrap.{signed-fits}
 use Rattle.float32.specs.declared.sorting.Ordering as O
 use Rattle.float32.specs.declared.sorting.Ordering.the-variants as Ord
-use Rattle.bounds.specs.Numbers.{orderingNumber}
+use Rattle.answers.specs.Numbers.{orderingNumber}
 
 ordering-fits : (o : O.Ordering) → SFits w32 (orderingNumber o)
 ordering-fits Ord.Less = record { sfits = lit< tt }

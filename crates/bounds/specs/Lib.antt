@@ -1,5 +1,1 @@
-pub mod Geometry
-pub mod Numbers
 pub mod PointThree
-pub mod Trees
-pub mod WalkAnswers

@@ -15,9 +15,9 @@ use Rattle.walk.specs.Boxes.{queryOf, meetsBox}
 use Rattle.walk.specs.Walks.{walkOf}
 use Rattle.tree.specs.Pair.{Ordinary, boxValues}
 use Rattle.tree.specs.WellFormed.{countFor, nodeNo, treeNo, itemsAt, itemsHeld, isLeaf, rangesWith, NodeNumbers, RangeNumbers, FromLeaf}
-use Rattle.bounds.specs.declared.BuildAnswer.{BuildAnswer}
-use Rattle.bounds.specs.declared.WalkAnswer.{WalkAnswer}
-use Rattle.bounds.specs.WalkAnswers.{sizesOf, WalkAnswered}
+use Rattle.answers.specs.declared.trees.BuildAnswer.{BuildAnswer}
+use Rattle.answers.specs.declared.walks.WalkAnswer.{WalkAnswer}
+use Rattle.answers.specs.WalkAnswers.{sizesOf, WalkAnswered}
 
 -- Rule P3 (01, Walk: over a build the walk is given its node and tree bytes unchanged, its cen and inverse, its node and tree counts without padding,
 -- and as item count the entries at threshold 1, else the present items): the contract of `bounds_walk` where it is given these.

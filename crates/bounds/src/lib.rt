@@ -1,24 +1,15 @@
 // The C interface: one function an operation, none of which asks anything of its caller.
 pub mod geometry;
 
-use bvh::core::Build;
-use bvh::core::BuildRefusal;
-use bvh::core::BuiltTree;
+use answers::trees::BuildAnswer;
+use answers::walks::WalkAnswer;
 use bvh::items::BvhItem;
-use float32::compare::Relation;
-use float32::sorting::Ordering;
 use math::aabb::Aabb;
 use math::mat4::Mat4;
 use math::mat4::Vec4;
 use math::vec3::Vec3;
 use math::words3::Words3;
 use records::header::Bvh;
-use records::header::Header;
-use records::scale::Scale;
-use walk::core::Counts;
-use walk::core::Walk;
-use walk::core::WalkRefusal;
-use walk::state::Sizes;
 ghost use mathlib.Core.Path.{_≡_};
 ghost use Prim.Native.Nat.{_+_, _*_};
 ghost use lib.Ieee.{binary32, ofBits, toBits};
@@ -32,13 +23,11 @@ ghost use Rattle.float32.specs.SquareRoot.{sqrtOf};
 ghost use Rattle.math.specs.Stored.{vminWordsOf, vmaxWordsOf};
 ghost use Rattle.math.specs.Transform.{pointOf, vectorOf, transformBox};
 ghost use Rattle.math.specs.Vec3s.{addOf, subOf, scaleOf, negOf, absOf, dotOf, crossOf, lengthOf, vmulOf, vdivOf, vaddOf, normOf, vmin3Of, vmax3Of, cmpVec3Of};
-ghost use Rattle.records.specs.Header.{headerNumber};
-ghost use Rattle.bvh.specs.Build.{refusalNumber as buildRefusal};
 ghost use Rattle.bvh.specs.Entry.{entriesIn, entriesOf, outputs, lent, lengthsOf};
-ghost use Rattle.bounds.specs.Numbers.{relationNumber, orderingNumber};
-ghost use Rattle.walk.specs.Walks.{refusalNumber as walkRefusal, walkOf};
-ghost use Rattle.bounds.specs.Trees.{refusedBy, treeValues, buildAnswer, workLen, Answers, HeaderWritten};
-ghost use Rattle.bounds.specs.WalkAnswers.{sizesOf, counted, walkAnswer, WalkAnswered};
+ghost use Rattle.answers.specs.Numbers.{relationNumber, orderingNumber};
+ghost use Rattle.walk.specs.Walks.{walkOf};
+ghost use Rattle.answers.specs.Trees.{workLen, Answers, HeaderWritten};
+ghost use Rattle.answers.specs.WalkAnswers.{sizesOf, WalkAnswered};
 
 // ---- words and floats
 
@@ -66,39 +55,18 @@ pub extern "C" fn bounds_value_bits(word: u32) -> u32
 
 // ---- comparison
 
-fn relation_number(r: Relation) -> u32
-    ensures { λ n. ⌜ n ≡ relationNumber r ⌝ }
-{
-    match r {
-        Relation::Less => 0,
-        Relation::Equal => 1,
-        Relation::Greater => 2,
-        Relation::Unordered => 3,
-    }
-}
-
-fn ordering_number(o: Ordering) -> i32
-    ensures { λ n. ⌜ n ≡ orderingNumber o ⌝ }
-{
-    match o {
-        Ordering::Less => -1,
-        Ordering::Equal => 0,
-        Ordering::Greater => 1,
-    }
-}
-
 #[no_mangle]
 pub extern "C" fn bounds_relate(a: f32, b: f32) -> u32
     ensures { λ r. ⌜ r ≡ relationNumber (relationOf a b) ⌝ }
 {
-    relation_number(float32::compare::relate(a, b))
+    answers::numbers::relation_number(float32::compare::relate(a, b))
 }
 
 #[no_mangle]
 pub extern "C" fn bounds_cmp_f32(a: f32, b: f32) -> i32
     ensures { λ r. ⌜ r ≡ orderingNumber (cmpOf a b) ⌝ }
 {
-    ordering_number(float32::sorting::cmp_f32(a, b))
+    answers::numbers::ordering_number(float32::sorting::cmp_f32(a, b))
 }
 
 #[no_mangle]
@@ -300,7 +268,7 @@ pub extern "C" fn bounds_vmax3(a: Vec3, b: Vec3) -> Vec3
 pub extern "C" fn bounds_cmp_vec3(a: Vec3, b: Vec3) -> i32
     ensures { λ r. ⌜ r ≡ orderingNumber (cmpVec3Of a b) ⌝ }
 {
-    ordering_number(math::vec3::cmp_vec3(a, b))
+    answers::numbers::ordering_number(math::vec3::cmp_vec3(a, b))
 }
 
 #[no_mangle]
@@ -342,89 +310,13 @@ pub extern "C" fn bounds_transform_box(b: Aabb, m: Mat4) -> Aabb
 
 // ---- trees
 
-// What a build answers: 01's number, 0 where it is not refused, and the tree's values, 0 where it is.
-#[repr(C)]
-pub struct BuildAnswer {
-    pub refusal: u32,
-    pub nodes: usize,
-    pub capacity: usize,
-    pub trees: usize,
-    pub present: usize,
-    pub min: Words3,
-    pub max: Words3,
-    pub scale: Scale,
-}
-
-fn refused(number: u32) -> BuildAnswer
-    ensures { λ r. ⌜ r ≡ refusedBy number ⌝ }
-{
-    let zero = Vec3 {
-        x: 0.0,
-        y: 0.0,
-        z: 0.0,
-    };
-    let none = Words3 { x: 0, y: 0, z: 0 };
-    BuildAnswer {
-        refusal: number,
-        nodes: 0,
-        capacity: 0,
-        trees: 0,
-        present: 0,
-        min: none,
-        max: none,
-        scale: Scale {
-            cen: zero,
-            inverse: zero,
-            quantum: zero,
-        },
-    }
-}
-
-fn tree_values(t: BuiltTree) -> BuildAnswer
-    ensures { λ r. ⌜ r ≡ treeValues t ⌝ }
-{
-    let min = t.min;
-    let max = t.max;
-    let scale = t.scale;
-    BuildAnswer {
-        refusal: 0,
-        nodes: t.nodes,
-        capacity: t.capacity,
-        trees: t.trees,
-        present: t.present,
-        min: min,
-        max: max,
-        scale: scale,
-    }
-}
-
-fn build_refusal_number(why: BuildRefusal) -> u32
-    ensures { λ r. ⌜ r ≡ buildRefusal why ⌝ }
-{
-    match why {
-        BuildRefusal::TooManyEntries => 1,
-        BuildRefusal::BufferTooShort => 2,
-        BuildRefusal::ThresholdOutside => 3,
-        BuildRefusal::TooManyNodes => 4,
-    }
-}
-
-fn build_answer(b: Build) -> BuildAnswer
-    ensures { λ r. ⌜ r ≡ buildAnswer b ⌝ }
-{
-    match b {
-        Build::Built(t) => tree_values(t),
-        Build::Refused(why) => refused(build_refusal_number(why)),
-    }
-}
-
 // The words that a build of n entries works in, all parts together: 7n for the entries, n each for places, temp and stack, 8(2n + 1) for
 // the rows, 4n for the centres.
 #[no_mangle]
 pub extern "C" fn bounds_work_len(entries: u32) -> u64
     ensures { λ r. ⌜ r ≡ workLen entries ⌝ }
 {
-    30 * (entries as u64) + 8
+    answers::trees::work_len(entries)
 }
 
 // The tree of the present items. What it works in is lent in six parts: entries, places, temp, stack, rows and centres.
@@ -448,7 +340,7 @@ pub extern "C" fn bounds_build_bvh(
         (outputs (now («node_bytes» .entry)) (now («tree_bytes» .entry)) (now (order .entry)))
         (outputs (now («node_bytes» .exit)) (now («tree_bytes» .exit)) (now (order .exit))) ⌝ }
 {
-    build_answer(bvh::entry::build_bvh(
+    answers::trees::build_answer(bvh::entry::build_bvh(
         items,
         threshold,
         node_bytes,
@@ -463,64 +355,15 @@ pub extern "C" fn bounds_build_bvh(
     ))
 }
 
-fn header_number(h: Header) -> u32
-    ensures { λ n. ⌜ n ≡ headerNumber h ⌝ }
-{
-    match h {
-        Header::Written => 0,
-        Header::TooManyTrees => 1,
-        Header::BufferTooShort => 2,
-    }
-}
-
 // The 128 bytes of a tree's header; 01's number, 0 where it is not refused.
 #[no_mangle]
 pub extern "C" fn bounds_tree_header(out: &mut [u8], bvh: Bvh) -> u32
     ensures { λ r. ⌜ HeaderWritten bvh (now (out .entry)) (now (out .exit)) r ⌝ }
 {
-    header_number(records::header::tree_header(out, bvh))
+    answers::numbers::header_number(records::header::tree_header(out, bvh))
 }
 
 // ---- walks
-
-// What a walk answers: 01's number, 0 where it is not refused, the records read and the positions handed out.
-#[repr(C)]
-pub struct WalkAnswer {
-    pub refusal: u32,
-    pub reads: usize,
-    pub handed: usize,
-}
-
-fn with_counts(number: u32, c: Counts) -> WalkAnswer
-    ensures { λ r. ⌜ r ≡ counted number c ⌝ }
-{
-    WalkAnswer {
-        refusal: number,
-        reads: c.reads,
-        handed: c.handed,
-    }
-}
-
-fn walk_refusal_number(why: WalkRefusal) -> u32
-    ensures { λ r. ⌜ r ≡ walkRefusal why ⌝ }
-{
-    match why {
-        WalkRefusal::TooMany => 1,
-        WalkRefusal::BufferTooShort => 2,
-        WalkRefusal::TreeRange => 9,
-        WalkRefusal::NodeRecord => 10,
-        WalkRefusal::TooManyHandedOut => 11,
-    }
-}
-
-fn walk_answer(w: Walk) -> WalkAnswer
-    ensures { λ r. ⌜ r ≡ walkAnswer w ⌝ }
-{
-    match w {
-        Walk::Walked(c) => with_counts(0, c),
-        Walk::Refused(why, c) => with_counts(walk_refusal_number(why), c),
-    }
-}
 
 // The positions of the items whose records meet the query.
 #[no_mangle]
@@ -538,12 +381,16 @@ pub extern "C" fn bounds_walk(
     ensures { λ r. ⌜ WalkAnswered (walkOf query cen inverse (sizesOf «node_count» «tree_count» «item_count»)
         (now («node_bytes» .entry)) (now («tree_bytes» .entry)) (length (now (out .entry)))) (now (out .entry)) (now (out .exit)) r ⌝ }
 {
-    let sizes = Sizes {
-        nodes: node_count,
-        trees: tree_count,
-        items: item_count,
-    };
-    walk_answer(walk::entry::walk_bvh(query, cen, inverse, sizes, node_bytes, tree_bytes, out))
+    let sizes = answers::walks::sizes(node_count, tree_count, item_count);
+    answers::walks::walk_answer(walk::entry::walk_bvh(
+        query,
+        cen,
+        inverse,
+        sizes,
+        node_bytes,
+        tree_bytes,
+        out,
+    ))
 }
 
 // ---- premises of the walk's promise

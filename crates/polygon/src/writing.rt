@@ -12,7 +12,7 @@ ghost use Rattle.polygon.specs.Polygons.{wordOr, roundHalves, triangleHa
 ghost use Rattle.polygon.specs.Answers.{Wrote};
 
 // A float's word; of a NaN, `nan`.
-fn word_or(x: f32, nan: u32) -> u32
+pub fn word_or(x: f32, nan: u32) -> u32
     ensures { λ r. ⌜ r ≡ wordOr x nan ⌝ }
 {
     if x != x { nan } else { float32::words::bits(x) }

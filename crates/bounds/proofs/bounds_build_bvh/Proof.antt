@@ -48,15 +48,15 @@ use Rattle.bvh.proofs.entry.build_bvh as g
 use Rattle.bvh.proofs.entry.build_bvh.Symbol as g-def
 use Rattle.bvh.proofs.entry.build_bvh.Symbol.{name as #bvh·entry·build-bvh}
 use Rattle.bvh.proofs.entry.build_bvh.Met as g-thm
-use Rattle.bounds.specs.declared.BuildAnswer.{BuildAnswer}
-use Rattle.bounds.specs.Trees.{buildAnswer, Answers}
-use Rattle.bounds.proofs.BuildLaws.{answers}
-use Rattle.bounds.proofs.BuildAnswer as R
-use Rattle.bounds.proofs.BuildAnswer.Laws as R′
-use Rattle.bounds.proofs.build_answer as h
-use Rattle.bounds.proofs.build_answer.Symbol as h-def
-use Rattle.bounds.proofs.build_answer.Symbol.{name as #bounds·build-answer}
-use Rattle.bounds.proofs.build_answer.Met as h-thm
+use Rattle.answers.specs.declared.trees.BuildAnswer.{BuildAnswer}
+use Rattle.answers.specs.Trees.{buildAnswer, Answers}
+use Rattle.answers.proofs.BuildLaws.{answers}
+use Rattle.answers.proofs.trees.BuildAnswer as R
+use Rattle.answers.proofs.trees.BuildAnswer.Laws as R′
+use Rattle.answers.proofs.trees.build_answer as h
+use Rattle.answers.proofs.trees.build_answer.Symbol as h-def
+use Rattle.answers.proofs.trees.build_answer.Symbol.{name as #answers·trees·build-answer}
+use Rattle.answers.proofs.trees.build_answer.Met as h-thm
 use Rattle.bounds.proofs.bounds_build_bvh.Key.{name as #bounds·bounds-build-bvh}
 use Rattle.bounds.proofs.bounds_build_bvh as f
 use Rattle.bounds.proofs.bounds_build_bvh.Statement as stated
@@ -141,7 +141,7 @@ module _ {M : Type 1} (𝓤 : URA M) (H : Heap 𝓤) (A : Atoms 𝓤) (W : Given
       says ! (answers _ _ _ b r _ _ said told) $ done !
 
   module _ (C : Calls 𝓤 H) (Λ : Loops 𝓤 H) (fm : FmC 𝓤 H (W .laws) C) (known : Triple 𝓤 (C #bvh·entry·build-bvh) (Builds 𝓤 H A mem run))
-      (known-tell : Triple 𝓤 (C #bounds·build-answer) (Tells 𝓤 H A mem run)) where
+      (known-tell : Triple 𝓤 (C #answers·trees·build-answer) (Tells 𝓤 H A mem run)) where
     walk : Room T.the-row (length (items .now)) → th < 2 ^ 32 → Room u8 (length (nodes .now)) → Room u8 (length (trees .now))
         → Room u16 (length (order .now)) → Room u32 (length (entries .now)) → Room u32 (length (places .now)) → Room u32 (length (temp .now))
         → Room u32 (length (stack .now)) → Room u32 (length (rows .now)) → Room f32 (length (centres .now))
@@ -238,7 +238,7 @@ module _ {M : Type 1} (𝓤 : URA M) (H : Heap 𝓤) (A : Atoms 𝓤) (W : Given
 
 module _ {M : Type 1} (𝓤 : URA M) (H : Heap 𝓤) (A : Atoms 𝓤) (W : Given 𝓤 H A) (mem : Memory → SProp 𝓤)
     (run : Routine → Fun 𝓤) (𝓣 : Tables 𝓤 H) (known : Triple 𝓤 (𝓣 .C #bvh·entry·build-bvh) (Builds 𝓤 H A mem run))
-    (known-tell : Triple 𝓤 (𝓣 .C #bounds·build-answer) (Tells 𝓤 H A mem run)) where
+    (known-tell : Triple 𝓤 (𝓣 .C #answers·trees·build-answer) (Tells 𝓤 H A mem run)) where
   build-walks : Walks 𝓤 H A f.ended stayed (WpFn 𝓤 H (𝓣 .C) (𝓣 .Λ) code.function) (f.clauses 𝓤 H A mem run)
   build-walks =
       walked 𝓤 H A f.ended stayed (f.clauses 𝓤 H A mem run) (WpFn 𝓤 H (𝓣 .C) (𝓣 .Λ) code.function)
@@ -301,5 +301,5 @@ bounds-build-bvh-spec 𝓤 H 𝓜 𝓖 𝓡 =
     (build-meets 𝓤 H (𝓖 .A) (givenOf 𝓤 H 𝓜 𝓖) (𝓜 .mem) (𝓡 .run) (tablesOf 𝓤 H 𝓜 (tables 𝓤 H 𝓜 𝓡 code.env))
     (cited 𝓤 H (Builds 𝓤 H (𝓖 .A) (𝓜 .mem) (𝓡 .run)) 𝓜 𝓡 code.env #bvh·entry·build-bvh g-def.routine code.calls-bvh·entry·build-bvh
     (g-thm.met 𝓤 H 𝓜 𝓖 𝓡))
-    (cited 𝓤 H (Tells 𝓤 H (𝓖 .A) (𝓜 .mem) (𝓡 .run)) 𝓜 𝓡 code.env #bounds·build-answer h-def.routine code.calls-bounds·build-answer
+    (cited 𝓤 H (Tells 𝓤 H (𝓖 .A) (𝓜 .mem) (𝓡 .run)) 𝓜 𝓡 code.env #answers·trees·build-answer h-def.routine code.calls-answers·trees·build-answer
     (h-thm.met 𝓤 H 𝓜 𝓖 𝓡)))

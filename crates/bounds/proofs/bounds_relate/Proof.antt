@@ -1,6 +1,6 @@
 -- `bounds_relate` meets its contract: the number of the relation that the call ensures.
 use mathlib.Core.Path.{ap, _∙_}
-use Rattle.bounds.specs.Numbers.{relationNumber}
+use Rattle.answers.specs.Numbers.{relationNumber}
 use borrow.Author.Needs.{needs}
 use Rattle.bounds.proofs.bounds_relate.Statement.{statement}
 use Rattle.bounds.proofs.bounds_relate.Tie as tie

@@ -1,6 +1,6 @@
 -- `bounds_build_materials` meets its contract: what the list's entry ensures, with the number for its answer (GeometryLaws).
 use borrow.Author.Needs.{needs}
-use Rattle.bounds.proofs.GeometryLaws.{materials-answered}
+use Rattle.polygon_answers.proofs.GeometryLaws.{materials-answered}
 use Rattle.bounds.proofs.geometry.bounds_build_materials.Statement.{statement}
 use Rattle.bounds.proofs.geometry.bounds_build_materials.Tie as tie
 

@@ -1,6 +1,6 @@
 -- `bounds_update_edge_indices` meets its contract: what the links' entry ensures, with the number for its answer (GeometryLaws).
 use borrow.Author.Needs.{needs}
-use Rattle.bounds.proofs.GeometryLaws.{edges-answered}
+use Rattle.polygon_answers.proofs.GeometryLaws.{edges-answered}
 use Rattle.bounds.proofs.geometry.bounds_update_edge_indices.Statement.{statement}
 use Rattle.bounds.proofs.geometry.bounds_update_edge_indices.Tie as tie
 

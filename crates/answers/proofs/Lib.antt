@@ -1,0 +1,2 @@
+pub mod BuildLaws
+pub mod WalkLaws
