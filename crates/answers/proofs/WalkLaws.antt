@@ -4,7 +4,7 @@ use Prim.Native.Nat.{ℕ}
 use mathlib.Core.Path.{_≡_, ap, subst, _∙_}
 use Rattle.walk.specs.declared.core.Counts.{Counts}
 use Rattle.walk.specs.declared.core.Walk.{Walk}
-use Rattle.walk.specs.declared.state.Sizes.{Sizes}
+use Rattle.walk_steps.specs.declared.state.Sizes.{Sizes}
 use Rattle.walk.specs.Walks.{Outcome, Promise, countsOf}
 use Rattle.answers.specs.declared.walks.WalkAnswer.{WalkAnswer}
 use Rattle.answers.specs.WalkAnswers.{counted, walkAnswer, WalkAnswered}

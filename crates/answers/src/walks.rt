@@ -1,8 +1,8 @@
 // What a walk answers.
 use walk::core::Counts;
 use walk::core::Walk;
-use walk::core::WalkRefusal;
-use walk::state::Sizes;
+use walk_steps::refusals::WalkRefusal;
+use walk_steps::state::Sizes;
 ghost use mathlib.Core.Path.{_≡_};
 ghost use Rattle.walk.specs.Walks.{refusalNumber as walkRefusal};
 ghost use Rattle.answers.specs.WalkAnswers.{sizesOf, counted, walkAnswer};

@@ -11,7 +11,7 @@ use Rattle.base.specs.Lists.{occurrences}
 use Rattle.math.specs.declared.aabb.Aabb.{Aabb}
 use Rattle.bvh.specs.Build.{Entries}
 use Rattle.bvh.specs.Entry.{Outputs}
-use Rattle.walk.specs.Boxes.{queryOf, meetsBox}
+use Rattle.walk_steps.specs.Boxes.{queryOf, meetsBox}
 use Rattle.walk.specs.Walks.{walkOf}
 use Rattle.tree.specs.Pair.{Ordinary, boxValues}
 use Rattle.tree.specs.WellFormed.{countFor, nodeNo, treeNo, itemsAt, itemsHeld, isLeaf, rangesWith, NodeNumbers, RangeNumbers, FromLeaf}

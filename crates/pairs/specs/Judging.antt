@@ -10,7 +10,7 @@ use Rattle.math.specs.declared.aabb.Aabb.{Aabb}
 use Rattle.entries.specs.Boxes.{boxAt}
 use Rattle.bvh.specs.Items.{isMarked}
 use Rattle.rows.specs.Positions.{itemAt}
-use Rattle.walk.specs.Boxes.{meetsBox}
+use Rattle.walk_steps.specs.Boxes.{meetsBox}
 use Rattle.tree.specs.Pair.{boxValues}
 use Rattle.pairs.specs.declared.judge.Met.{Met}
 

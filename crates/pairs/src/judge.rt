@@ -89,7 +89,7 @@ fn meets_at(list: &[u32; 4900], query: Aabb, place: Place) -> bool
     requires { ⌜ place .0 < 700 ⌝ }
     ensures { λ r. ⌜ r ≡ meetsAt (now (list .entry)) query (place .0) ⌝ }
 {
-    is_present(list, place) && walk::boxes::meets_box(box_of(list, place), query)
+    is_present(list, place) && walk_steps::boxes::meets_box(box_of(list, place), query)
 }
 
 fn is_seen(seen: &[u8; 700], place: Place) -> bool

@@ -26,14 +26,14 @@ use Rattle.rows.specs.Rows.{Row, rows}
 use Rattle.rows.specs.Tree.{Node, leaf, inner, boxOf, leafOrder, size}
 use Rattle.rows.proofs.RangeLaws.{size-some, parts-induction}
 use Rattle.rows.proofs.TreeLaws.{length-rows}
-use Rattle.walk.specs.Refusals.{badRange, badNode}
-use Rattle.walk.specs.Step.{Lent, Turn, more, stepOf, atNode, atTree, handing, quiet, onward, passing, strideOf, started}
+use Rattle.walk_steps.specs.Refusals.{badRange, badNode}
+use Rattle.walk_steps.specs.Step.{Lent, Turn, more, stepOf, atNode, atTree, handing, quiet, onward, passing, strideOf, started}
 use Rattle.walk.specs.Walks.{joined, walkFrom}
-use Rattle.walk.specs.declared.boxes.Query.{Query}
-use Rattle.walk.specs.declared.state.Sizes.{Sizes}
-use Rattle.walk.specs.declared.state.Status.the-variants.{Going}
-use Rattle.walk.specs.declared.state.WalkState.{WalkState}
-use Rattle.walk.proofs.StepLaws.{step-node, step-tree, node-handing, node-onward, tree-entered, tree-passed}
+use Rattle.walk_steps.specs.declared.boxes.Query.{Query}
+use Rattle.walk_steps.specs.declared.state.Sizes.{Sizes}
+use Rattle.walk_steps.specs.declared.state.Status.the-variants.{Going}
+use Rattle.walk_steps.specs.declared.state.WalkState.{WalkState}
+use Rattle.walk_steps.proofs.StepLaws.{step-node, step-tree, node-handing, node-onward, tree-entered, tree-passed}
 use Rattle.walk.proofs.WalkLaws.{walk-more, walk-none}
 use Rattle.tree.specs.Visit.{hitBy, visit, visitReads, visitParts, rangeReads, partReads}
 use Rattle.tree.proofs.ReadLaws.{node-read, tree-read}

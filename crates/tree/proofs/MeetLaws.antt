@@ -21,8 +21,8 @@ use Rattle.entries.specs.Folding.{foldBox}
 use Rattle.entries.specs.declared.boxes.BoxWords.{BoxWords}
 use Rattle.bvh.proofs.MeetLaws.{all-measured, part-below, part-above}
 use Rattle.bvh.specs.Build.{Entries}
-use Rattle.walk.specs.Boxes.{overlap, queryOf, meetsBox, meets}
-use Rattle.walk.specs.declared.boxes.Query.{Query}
+use Rattle.walk_steps.specs.Boxes.{overlap, queryOf, meetsBox, meets}
+use Rattle.walk_steps.specs.declared.boxes.Query.{Query}
 use Rattle.tree.specs.Pair.{Ordinary, boxValues}
 use Rattle.tree.specs.Visit.{hitIn}
 

@@ -39,11 +39,11 @@ use Rattle.rows.proofs.RangeLaws.{ranges-few}
 use Rattle.rows.proofs.SmallLaws.{small-rows}
 use Rattle.rows.proofs.TreeLaws.{AtMost, length-rows}
 use Rattle.growth.proofs.GrowLaws.{grow-induction, grow-at-most, grow-full, leaf-order-permutes, leaf-order-length, leaf-order-within}
-use Rattle.walk.specs.Boxes.{queryOf, meetsBox}
-use Rattle.walk.specs.Step.{Lent, started}
+use Rattle.walk_steps.specs.Boxes.{queryOf, meetsBox}
+use Rattle.walk_steps.specs.Step.{Lent, started}
 use Rattle.walk.specs.Walks.{Outcome, walkOf, walkFrom, ended, statusNumber, unread}
-use Rattle.walk.specs.declared.core.WalkRefusal.the-variants.{BufferTooShort}
-use Rattle.walk.specs.declared.state.Sizes.{Sizes}
+use Rattle.walk_steps.specs.declared.refusals.WalkRefusal.the-variants.{BufferTooShort}
+use Rattle.walk_steps.specs.declared.state.Sizes.{Sizes}
 use Rattle.tree.specs.Pair.{outcomeOf, Ordinary, boxValues}
 use Rattle.tree.specs.Visit.{hitIn, visitParts, partReads, Hits, FromHit}
 use Rattle.tree.specs.WellFormed.{countFor}

@@ -31,8 +31,8 @@ use Rattle.bvh.proofs.Promises.{well-grown}
 use Rattle.rows.proofs.PositionLaws.{rows-at-most}
 use Rattle.rows.proofs.RangeLaws.{range-is-subtree, range-size, subtree-within, small-held-once, numbers-are, subtree-rows}
 use Rattle.rows.proofs.TreeLaws.{length-rows}
-use Rattle.walk.specs.Boxes.{queryOf, meets}
-use Rattle.walk.specs.Refusals.{whole}
+use Rattle.walk_steps.specs.Boxes.{queryOf, meets}
+use Rattle.walk_steps.specs.Refusals.{whole}
 use Rattle.tree.specs.Pair.{outcomeOf, Delivered}
 use Rattle.tree.specs.Visit.{hitIn, FromHit}
 use Rattle.tree.specs.WellFormed.{nodeNo, treeNo, positionsIn, itemsAt, itemsHeld, isLeaf, holdsNode, rangesWith}

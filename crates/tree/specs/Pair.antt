@@ -20,7 +20,7 @@ use Rattle.bvh.specs.declared.core.Build.the-variants.{Built, Refused}
 use Rattle.bvh.specs.declared.core.BuiltTree.{BuiltTree}
 use Rattle.bvh.specs.Build.{Entries}
 use Rattle.bvh.specs.Entry.{Outputs, Lent, lengthsOf, Answered}
-use Rattle.walk.specs.Boxes.{queryOf, meetsBox}
+use Rattle.walk_steps.specs.Boxes.{queryOf, meetsBox}
 use Rattle.walk.specs.Walks.{Outcome, walkOf, Promise}
 use Rattle.tree.specs.declared.pair.Found.{Found}
 use Rattle.tree.specs.declared.pair.Found.the-variants.{Unbuilt, Walked}

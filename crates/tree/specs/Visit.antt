@@ -13,8 +13,8 @@ use Rattle.rows.specs.Output.{idOf}
 use Rattle.rows.specs.Ranges.{Subtree}
 use Rattle.rows.specs.Rows.{Row}
 use Rattle.rows.specs.Tree.{Node, leaf, inner, boxOf, leafOrder}
-use Rattle.walk.specs.Boxes.{queryOf, meets}
-use Rattle.walk.specs.declared.boxes.Query.{Query}
+use Rattle.walk_steps.specs.Boxes.{queryOf, meets}
+use Rattle.walk_steps.specs.declared.boxes.Query.{Query}
 
 -- Rule W2: whether a record with this box, in units of the scale, meets the quantised query.
 abbrev pub hitBy : Query → Scale → BoxWords → Bool

@@ -15,9 +15,9 @@ use Rattle.bvh.specs.Build.{Entries}
 use Rattle.bvh.specs.Entry.{Outputs}
 use Rattle.rows.specs.Positions.{itemAt}
 use Rattle.rows.specs.Ranges.{rangeLimit}
-use Rattle.walk.specs.Boxes.{meets}
-use Rattle.walk.specs.Refusals.{whole}
-use Rattle.walk.specs.declared.boxes.Query.{Query}
+use Rattle.walk_steps.specs.Boxes.{meets}
+use Rattle.walk_steps.specs.Refusals.{whole}
+use Rattle.walk_steps.specs.declared.boxes.Query.{Query}
 
 -- 01, Walk: as item count the entries at threshold 1, else the present items.
 abbrev pub countFor : ℕ → ℕ → ℕ → ℕ

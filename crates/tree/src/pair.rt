@@ -6,7 +6,7 @@ use bvh::core::BuildRefusal;
 use bvh::core::BuiltTree;
 use math::aabb::Aabb;
 use walk::core::Walk;
-use walk::state::Sizes;
+use walk_steps::state::Sizes;
 ghost use mathlib.Core.Path.{_≡_};
 ghost use Prim.Native.Nat.{_*_, _<_};
 ghost use lib.ListN.{length, take};

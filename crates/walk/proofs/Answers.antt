@@ -11,15 +11,15 @@ use Rattle.base.proofs.Truth.{neither}
 use Rattle.base.proofs.StoreLaws.{sets-over}
 use Rattle.math.specs.declared.aabb.Aabb.{Aabb}
 use Rattle.math.specs.declared.vec3.Vec3.{Vec3}
-use Rattle.walk.specs.Boxes.{queryOf}
-use Rattle.walk.specs.Step.{Lent, lentOf, started}
+use Rattle.walk_steps.specs.Boxes.{queryOf}
+use Rattle.walk_steps.specs.Step.{Lent, lentOf, started}
 use Rattle.walk.specs.Walks.{walkFrom, statusNumber, numberOf, countsOf, unread, ended, tooMany, tooShort, walkOf, Outcome, Promise}
-use Rattle.walk.specs.steps.Contracts.{Steppable, Ran}
-use Rattle.walk.specs.declared.boxes.Query.{Query}
+use Rattle.walk_steps.specs.steps.Contracts.{Steppable, Ran}
+use Rattle.walk_steps.specs.declared.boxes.Query.{Query}
 use Rattle.walk.specs.declared.core.Walk.{Walk}
-use Rattle.walk.specs.declared.core.WalkRefusal.the-variants.{TooMany, BufferTooShort}
-use Rattle.walk.specs.declared.state.Sizes.{Sizes}
-use Rattle.walk.specs.declared.state.WalkState.{WalkState}
+use Rattle.walk_steps.specs.declared.refusals.WalkRefusal.the-variants.{TooMany, BufferTooShort}
+use Rattle.walk_steps.specs.declared.state.Sizes.{Sizes}
+use Rattle.walk_steps.specs.declared.state.WalkState.{WalkState}
 use Rattle.walk.proofs.WalkLaws.{walk-handed, walk-within}
 
 -- ---- what the checks show

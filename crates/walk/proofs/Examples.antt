@@ -9,11 +9,11 @@ use Rattle.records.specs.Records.{vertexBytes, boxedBytes, nodeBytes, treeBytes
 use Rattle.records.specs.declared.BoundVertex.{BoundVertex}
 use Rattle.records.specs.declared.BvhNode.{BvhNode}
 use Rattle.records.specs.declared.BvhTree.{BvhTree}
-use Rattle.walk.specs.Boxes.{meets}
-use Rattle.walk.specs.Refusals.{badRange, badNode}
-use Rattle.walk.specs.Step.{lentOf, started, atTree, atNode, handing, stepOf}
+use Rattle.walk_steps.specs.Boxes.{meets}
+use Rattle.walk_steps.specs.Refusals.{badRange, badNode}
+use Rattle.walk_steps.specs.Step.{lentOf, started, atTree, atNode, handing, stepOf}
 use Rattle.walk.specs.Walks.{readOn, rangeNodes, walkFrom, ended, Outcome}
-use Rattle.walk.specs.declared.boxes.Query.{Query}
+use Rattle.walk_steps.specs.declared.boxes.Query.{Query}
 
 abbrev cube : ℤ → BoundVertex
 cube x = record { 0 = x; 1 = x; 2 = x }

@@ -17,16 +17,16 @@ use Rattle.base.specs.Lists.{Below, upFrom}
 use Rattle.math.specs.declared.aabb.Aabb.{Aabb}
 use Rattle.math.specs.declared.vec3.Vec3.{Vec3}
 use Rattle.records.specs.declared.BvhNode.{BvhNode}
-use Rattle.walk.specs.Boxes.{queryOf}
-use Rattle.walk.specs.Refusals.{whole, badNode}
-use Rattle.walk.specs.Step.{Lent, lentOf, Turn, started, more, handedOf, handing, stepOf}
+use Rattle.walk_steps.specs.Boxes.{queryOf}
+use Rattle.walk_steps.specs.Refusals.{whole, badNode}
+use Rattle.walk_steps.specs.Step.{Lent, lentOf, Turn, started, more, handedOf, handing, stepOf}
 use Rattle.walk.specs.Walks.{allowance, walkFrom, unread, ended, tooMany, tooShort, walkOf, Outcome, refusalNumber, statusNumber}
-use Rattle.walk.specs.declared.core.WalkRefusal.{WalkRefusal}
-use Rattle.walk.specs.declared.core.WalkRefusal.the-variants.{TooMany, BufferTooShort, TreeRange, NodeRecord, TooManyHandedOut}
-use Rattle.walk.specs.declared.state.Sizes.{Sizes}
-use Rattle.walk.specs.declared.state.Status.{Status}
-use Rattle.walk.specs.declared.state.Status.the-variants.{Going, Stopped}
-use Rattle.walk.specs.declared.state.WalkState.{WalkState}
+use Rattle.walk_steps.specs.declared.refusals.WalkRefusal.{WalkRefusal}
+use Rattle.walk_steps.specs.declared.refusals.WalkRefusal.the-variants.{TooMany, BufferTooShort, TreeRange, NodeRecord, TooManyHandedOut}
+use Rattle.walk_steps.specs.declared.state.Sizes.{Sizes}
+use Rattle.walk_steps.specs.declared.state.Status.{Status}
+use Rattle.walk_steps.specs.declared.state.Status.the-variants.{Going, Stopped}
+use Rattle.walk_steps.specs.declared.state.WalkState.{WalkState}
 use Rattle.walk.proofs.WalkLaws.{nodeOf, Reading, refused-tree, entered-tree, passed-tree, refused-node, met-node, missed-node, reading}
 use Rattle.walk.proofs.WalkLaws.{walk-reads, walk-handed, walk-within, walk-ends, walk-ind}
 

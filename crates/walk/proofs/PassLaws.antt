@@ -9,16 +9,17 @@ use borrow.Author.Tests.{lt-ltb, ltb-true, ltb-false}
 use Rattle.base.proofs.Truth.{and-yes, or-yes, both-yes}
 use Rattle.records.specs.Records.{treeAt}
 use Rattle.records.specs.declared.BvhTree.{BvhTree}
-use Rattle.walk.specs.Boxes.{meets}
-use Rattle.walk.specs.Refusals.{badRange}
-use Rattle.walk.specs.Step.{Lent, Turn, quiet, going, passing, more, stepOf}
+use Rattle.walk_steps.specs.Boxes.{meets}
+use Rattle.walk_steps.specs.Refusals.{badRange}
+use Rattle.walk_steps.specs.Step.{Lent, Turn, quiet, going, passing, more, stepOf}
 use Rattle.walk.specs.Walks.{joined, left, walkFrom}
-use Rattle.walk.specs.steps.Passing.{passesOver, PassedUpTo, aheadAt, insideRange}
-use Rattle.walk.specs.declared.boxes.Query.{Query}
-use Rattle.walk.specs.declared.state.Status.{Status}
-use Rattle.walk.specs.declared.state.Status.the-variants.{Going, Stopped}
-use Rattle.walk.specs.declared.state.WalkState.{WalkState}
-use Rattle.walk.proofs.StepLaws.{tree-passed, step-tree}
+use Rattle.walk.specs.steps.Passing.{passesOver, PassedUpTo}
+use Rattle.walk_steps.specs.steps.Contracts.{aheadAt, insideRange}
+use Rattle.walk_steps.specs.declared.boxes.Query.{Query}
+use Rattle.walk_steps.specs.declared.state.Status.{Status}
+use Rattle.walk_steps.specs.declared.state.Status.the-variants.{Going, Stopped}
+use Rattle.walk_steps.specs.declared.state.WalkState.{WalkState}
+use Rattle.walk_steps.proofs.StepLaws.{tree-passed, step-tree}
 use Rattle.walk.proofs.WalkLaws.{walk-more, step-falls}
 
 apart : true ≡ false → ⊥

@@ -11,17 +11,17 @@ use Rattle.base.proofs.StoreLaws.{sets-append}
 use Rattle.base.proofs.NumberLaws.{length-up}
 use Rattle.base.specs.Lists.{upFrom}
 use Rattle.records.specs.Records.{nodeAt, treeAt}
-use Rattle.walk.specs.Step.{Lent, lentOf, Turn, quiet, started, more, atTree, atNode, stepOf}
+use Rattle.walk_steps.specs.Step.{Lent, lentOf, Turn, quiet, started, more, atTree, atNode, stepOf}
 use Rattle.walk.specs.Walks.{joined, left, walkFrom}
-use Rattle.walk.specs.steps.Contracts.{Steppable, Stepped, Ran}
-use Rattle.walk.specs.steps.Passing.{PassedUpTo, aheadAt, insideRange, Ready, Came}
-use Rattle.walk.specs.declared.boxes.Query.{Query}
-use Rattle.walk.specs.declared.state.Sizes.{Sizes}
-use Rattle.walk.specs.declared.state.Step.{Step}
-use Rattle.walk.specs.declared.state.WalkState.{WalkState}
+use Rattle.walk_steps.specs.steps.Contracts.{Steppable, Stepped, Ran, aheadAt, insideRange}
+use Rattle.walk.specs.steps.Passing.{PassedUpTo, Ready, Came}
+use Rattle.walk_steps.specs.declared.boxes.Query.{Query}
+use Rattle.walk_steps.specs.declared.state.Sizes.{Sizes}
+use Rattle.walk_steps.specs.declared.state.Step.{Step}
+use Rattle.walk_steps.specs.declared.state.WalkState.{WalkState}
 use Rattle.walk.proofs.PassLaws.{is-going, inside-more, inside-at, outside-at, tree-more, walk-passes}
-use Rattle.walk.proofs.SameTurn.{stepped-as}
-use Rattle.walk.proofs.StepLaws.{step-node, step-tree, more-going, more-tree}
+use Rattle.walk_steps.proofs.SameTurn.{stepped-as}
+use Rattle.walk_steps.proofs.StepLaws.{step-node, step-tree, more-going, more-tree}
 use Rattle.walk.proofs.WalkLaws.{walk-more, walk-none, step-falls, step-reads, step-handed, step-handed-within, step-last-within, allowance-few}
 
 pub begun : (l : Lent) (out : List ℕ) → Steppable (l .sizes) (l .nodes) (l .trees) started → l .sizes .items ≤ length out → Ready l out started

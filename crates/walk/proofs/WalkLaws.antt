@@ -14,15 +14,15 @@ use Rattle.base.proofs.Truth.{neither}
 use Rattle.records.specs.Records.{nodeAt, treeAt}
 use Rattle.records.specs.declared.BvhNode.{BvhNode}
 use Rattle.records.specs.declared.BvhTree.{BvhTree}
-use Rattle.walk.specs.Boxes.{meets}
-use Rattle.walk.specs.Refusals.{whole, badRange, badNode}
-use Rattle.walk.specs.Step.{Lent, Turn, quiet, going, refused, entering, passing, atTree, strideOf, onward, handedOf, handing, atNode, more, stepOf}
+use Rattle.walk_steps.specs.Boxes.{meets}
+use Rattle.walk_steps.specs.Refusals.{whole, badRange, badNode}
+use Rattle.walk_steps.specs.Step.{Lent, Turn, quiet, going, refused, entering, passing, atTree, strideOf, onward, handedOf, handing, atNode, more, stepOf}
 use Rattle.walk.specs.Walks.{joined, readOn, rangeNodes, allowance, left, walkFrom}
-use Rattle.walk.specs.declared.core.WalkRefusal.the-variants.{TreeRange, NodeRecord, TooManyHandedOut}
-use Rattle.walk.specs.declared.state.Status.the-variants.{Going, Stopped}
-use Rattle.walk.specs.declared.state.WalkState.{WalkState}
-use Rattle.walk.proofs.StepLaws.{tree-refused, tree-entered, tree-passed, node-refused, node-handing, node-onward}
-use Rattle.walk.proofs.StepLaws.{step-node, step-tree, more-going, more-tree}
+use Rattle.walk_steps.specs.declared.refusals.WalkRefusal.the-variants.{TreeRange, NodeRecord, TooManyHandedOut}
+use Rattle.walk_steps.specs.declared.state.Status.the-variants.{Going, Stopped}
+use Rattle.walk_steps.specs.declared.state.WalkState.{WalkState}
+use Rattle.walk_steps.proofs.StepLaws.{tree-refused, tree-entered, tree-passed, node-refused, node-handing, node-onward}
+use Rattle.walk_steps.proofs.StepLaws.{step-node, step-tree, more-going, more-tree}
 
 -- the records that a state is at
 abbrev pub treeOf : Lent → WalkState → BvhTree

@@ -1,5 +1,2 @@
-pub mod Boxes
-pub mod Refusals
-pub mod Step
 pub mod steps
 pub mod Walks

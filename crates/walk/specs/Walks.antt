@@ -4,22 +4,23 @@ use mathlib.Core.Bool.{Bool, true, false, cond, _||_}
 use mathlib.Core.List.{List, [], _++_}
 use mathlib.Core.Path.{_≡_}
 use lib.Dec.{ltb}
-use lib.ListN.{length, drop}
+use lib.ListN.{length}
+use Rattle.base.specs.Lists.{over}
 use Rattle.math.specs.declared.aabb.Aabb.{Aabb}
 use Rattle.math.specs.declared.vec3.Vec3.{Vec3}
 use Rattle.records.specs.Records.{treeAt}
-use Rattle.walk.specs.Boxes.{queryOf}
-use Rattle.walk.specs.Refusals.{whole, badRange}
-use Rattle.walk.specs.Step.{Lent, lentOf, Turn, quiet, going, started, more, stepOf}
+use Rattle.walk_steps.specs.Boxes.{queryOf}
+use Rattle.walk_steps.specs.Refusals.{whole, badRange}
+use Rattle.walk_steps.specs.Step.{Lent, lentOf, Turn, quiet, going, started, more, stepOf}
 use Rattle.walk.specs.declared.core.Counts.{Counts}
 use Rattle.walk.specs.declared.core.Walk.{Walk}
 use Rattle.walk.specs.declared.core.Walk.the-variants.{Walked, Refused}
-use Rattle.walk.specs.declared.core.WalkRefusal.{WalkRefusal}
-use Rattle.walk.specs.declared.core.WalkRefusal.the-variants.{TooMany, BufferTooShort, TreeRange, NodeRecord, TooManyHandedOut}
-use Rattle.walk.specs.declared.state.Sizes.{Sizes}
-use Rattle.walk.specs.declared.state.Status.{Status}
-use Rattle.walk.specs.declared.state.Status.the-variants.{Going, Stopped}
-use Rattle.walk.specs.declared.state.WalkState.{WalkState}
+use Rattle.walk_steps.specs.declared.refusals.WalkRefusal.{WalkRefusal}
+use Rattle.walk_steps.specs.declared.refusals.WalkRefusal.the-variants.{TooMany, BufferTooShort, TreeRange, NodeRecord, TooManyHandedOut}
+use Rattle.walk_steps.specs.declared.state.Sizes.{Sizes}
+use Rattle.walk_steps.specs.declared.state.Status.{Status}
+use Rattle.walk_steps.specs.declared.state.Status.the-variants.{Going, Stopped}
+use Rattle.walk_steps.specs.declared.state.WalkState.{WalkState}
 
 -- one turn, and the next
 abbrev pub joined : Turn → Turn → Turn
@@ -114,4 +115,4 @@ walkOf box cen inverse z nodes trees room =
 pub record Promise (o : Outcome) (out out′ : List ℕ) (r : Walk) : Type 0 where
   pub number-is : numberOf r ≡ o .number
   pub counts-are : countsOf r ≡ o .counts
-  pub output-is : out′ ≡ o .given ++ drop (length (o .given)) out
+  pub output-is : out′ ≡ over (o .given) out

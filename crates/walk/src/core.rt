@@ -1,38 +1,30 @@
 // A whole walk over lent records, by plain slices.
-use crate::boxes::Lanes;
-use crate::boxes::Query;
-use crate::state::Sizes;
-use crate::state::Status;
-use crate::state::WalkState;
 use base::numbers::Position;
 use math::aabb::Aabb;
 use math::vec3::Vec3;
 use records::BvhTree;
+use walk_steps::boxes::Lanes;
+use walk_steps::boxes::Query;
+use walk_steps::refusals::WalkRefusal;
+use walk_steps::state::Sizes;
+use walk_steps::state::Status;
+use walk_steps::state::WalkState;
 ghost use mathlib.Core.Bool.{true, false};
 ghost use mathlib.Core.Path.{_≡_};
 ghost use Prim.Native.Nat.{_+_, _*_, _≤_, _<_};
 ghost use lib.ListN.{length, set};
 ghost use lib.Seq.{sets};
 ghost use Rattle.base.specs.Lists.{upFrom};
-ghost use Rattle.walk.specs.Step.{lentOf, started, more};
+ghost use Rattle.walk_steps.specs.Step.{lentOf, started, more};
 ghost use Rattle.walk.specs.Walks.{left, walkFrom, statusNumber, numberOf, countsOf, unread, tooMany, tooShort, walkOf, Promise};
-ghost use Rattle.walk.specs.steps.Contracts.{Steppable, Ran};
-ghost use Rattle.walk.specs.steps.Lanes.{plainOf, Topped};
-ghost use Rattle.walk.specs.steps.Passing.{passesOver, insideRange, PassedUpTo, Ready, Came};
+ghost use Rattle.walk_steps.specs.steps.Contracts.{Steppable, Ran, insideRange};
+ghost use Rattle.walk_steps.specs.steps.Lanes.{plainOf, Topped};
+ghost use Rattle.walk.specs.steps.Passing.{passesOver, PassedUpTo, Ready, Came};
 
 // Records read, and positions handed out.
 pub struct Counts {
     pub reads: usize,
     pub handed: usize,
-}
-
-// What a walk turns down: the first two before it reads, the others as it reads a record.
-pub enum WalkRefusal {
-    TooMany,
-    BufferTooShort,
-    TreeRange,
-    NodeRecord,
-    TooManyHandedOut,
 }
 
 pub enum Walk {
@@ -70,8 +62,8 @@ fn hand_few(out: &mut [u16], from: usize, first: Position, n: usize)
 {
     let last = n - 1;
     put_one(out, from, first, 0);
-    put_one(out, from, first, crate::state::lesser(1, last));
-    put_one(out, from, first, crate::state::lesser(2, last));
+    put_one(out, from, first, walk_steps::state::lesser(1, last));
+    put_one(out, from, first, walk_steps::state::lesser(2, last));
     put_one(out, from, first, last);
 }
 
@@ -108,10 +100,10 @@ fn passes(query: Lanes, nodes: usize, t: BvhTree) -> bool
     requires { ⌜ Topped query ⌝ }
     ensures { λ r. ⌜ r ≡ passesOver (plainOf query) nodes t ⌝ }
 {
-    if crate::boxes::meets(query, t.min, t.max, t.node_index1, t.node_index2) {
+    if walk_steps::boxes::meets(query, t.min, t.max, t.node_index1, t.node_index2) {
         return false;
     }
-    !crate::refusals::range_refused(t, nodes)
+    !walk_steps::refusals::range_refused(t, nodes)
 }
 
 // The first tree from `from` on that is refused or meets, or `upto`.
@@ -214,9 +206,9 @@ pub fn run(
     ensures { λ r. ⌜ Ran (walkFrom (lentOf query sizes (now («node_bytes» .entry)) (now («tree_bytes» .entry))) started)
         (now (out .entry)) (now (out .exit)) r ⌝ }
 {
-    let lanes = crate::boxes::lanes_of(query);
+    let lanes = walk_steps::boxes::lanes_of(query);
     let start = WalkState::start();
-    let few = crate::state::lesser(sizes.trees, 1024);
+    let few = walk_steps::state::lesser(sizes.trees, 1024);
     let s = read_trees(start, few, lanes, sizes, node_bytes, tree_bytes, out);
     if few < sizes.trees {
         return read_trees(s, sizes.trees, lanes, sizes, node_bytes, tree_bytes, out);
@@ -271,7 +263,7 @@ pub fn walk_core(
     if too_short(sizes, node_bytes.len(), tree_bytes.len(), out.len()) {
         return unread(WalkRefusal::BufferTooShort);
     }
-    let q = crate::boxes::quantise_box(query, cen, inverse);
+    let q = walk_steps::boxes::quantise_box(query, cen, inverse);
     let s = run(q, sizes, node_bytes, tree_bytes, out);
     answer(s)
 }

@@ -1,9 +1,9 @@
 // The entry point of a walk.
 use crate::core::Walk;
 use crate::reader::NodeReader;
-use crate::state::Sizes;
 use math::aabb::Aabb;
 use math::vec3::Vec3;
+use walk_steps::state::Sizes;
 ghost use lib.ListN.{length};
 ghost use Rattle.walk.specs.Walks.{walkOf, Promise};
 

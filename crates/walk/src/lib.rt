@@ -1,7 +1,4 @@
 // The query over a tree's records: which positions stand for items that may meet a box.
-pub mod boxes;
 pub mod core;
 pub mod entry;
 pub mod reader;
-pub mod refusals;
-pub mod state;

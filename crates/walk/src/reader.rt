@@ -1,25 +1,14 @@
 // The node records as the bytes that were lent: the struct is taken apart, and a function on the slice and the number is called.
 use crate::core::Walk;
-use crate::state::Sizes;
 use math::aabb::Aabb;
 use math::vec3::Vec3;
-use records::BvhNode;
+use walk_steps::state::Sizes;
 ghost use mathlib.Core.Path.{_≡_};
-ghost use Prim.Native.Nat.{_+_, _*_, _≤_};
 ghost use lib.ListN.{length};
-ghost use Rattle.records.specs.Records.{nodeAt};
 ghost use Rattle.walk.specs.Walks.{walkOf, Promise};
 
 pub struct NodeReader<'a> {
     pub node_bytes: &'a [u8],
-}
-
-// The node record of the number given.
-pub fn node_numbered(node_bytes: &[u8], number: usize) -> BvhNode
-    requires { ⌜ 16 * number + 16 ≤ length (now «node_bytes») ⌝ }
-    ensures { λ r. ⌜ r ≡ nodeAt (now («node_bytes» .entry)) (16 * number) ⌝ }
-{
-    records::node_at(node_bytes, 16 * number)
 }
 
 impl<'a> NodeReader<'a> {

@@ -1,7 +1,7 @@
 -- `bounds_walk` meets its contract: what the walk ensures, with the number for its answer (WalkLaws).
 use Rattle.answers.proofs.WalkLaws.{walk-answered-over}
 use lib.ListN.{length}
-use Rattle.walk.specs.declared.state.Sizes.{Sizes}
+use Rattle.walk_steps.specs.declared.state.Sizes.{Sizes}
 use Rattle.walk.specs.Walks.{walkOf}
 use borrow.Author.Needs.{needs}
 use Rattle.bounds.proofs.bounds_walk.Statement.{statement}

@@ -8,14 +8,14 @@ use lib.ListN.{length}
 use lib.Seq.{sets}
 use Rattle.records.specs.Records.{treeAt}
 use Rattle.records.specs.declared.BvhTree.{BvhTree}
-use Rattle.walk.specs.Boxes.{meets}
-use Rattle.walk.specs.Refusals.{badRange}
-use Rattle.walk.specs.Step.{Lent, going}
+use Rattle.walk_steps.specs.Boxes.{meets}
+use Rattle.walk_steps.specs.Refusals.{badRange}
+use Rattle.walk_steps.specs.Step.{Lent, going}
 use Rattle.walk.specs.Walks.{joined, left, walkFrom}
-use Rattle.walk.specs.steps.Contracts.{Steppable}
-use Rattle.walk.specs.declared.boxes.Query.{Query}
-use Rattle.walk.specs.declared.state.Status.the-variants.{Going}
-use Rattle.walk.specs.declared.state.WalkState.{WalkState}
+use Rattle.walk_steps.specs.steps.Contracts.{Steppable}
+use Rattle.walk_steps.specs.declared.boxes.Query.{Query}
+use Rattle.walk_steps.specs.declared.state.Status.the-variants.{Going}
+use Rattle.walk_steps.specs.declared.state.WalkState.{WalkState}
 
 -- Whether a tree is passed over: it misses, and its range is not refused.
 unfoldable pub passesOver : Query → ℕ → BvhTree → Bool
@@ -26,15 +26,6 @@ pub record PassedUpTo (q : Query) (nodes : ℕ) (trees : List ℕ) (from upto r 
   pub onward : from ≤ r
   pub in-bounds : r ≤ upto
   pub passed : (k : ℕ) → from ≤ k → k < r → passesOver q nodes (treeAt trees (16 * k)) ≡ true
-
--- The state at tree k, the trees before it passed over.
-abbrev pub aheadAt : ℕ → WalkState → WalkState
-aheadAt k s =
-    record { tree = k; at = s .at; last = s .last; reads = s .reads + (k - s .tree); handed = s .handed; status = Going }
-
--- Whether a node of the range is left to read.
-abbrev pub insideRange : WalkState → Bool
-insideRange s = going (s .status) && ltb (s .at) (s .last)
 
 -- What a run of readings asks: a step's needs, places for all items, and that its reads can be counted to the end.
 pub record Ready (l : Lent) (out : List ℕ) (s : WalkState) : Type 0 where

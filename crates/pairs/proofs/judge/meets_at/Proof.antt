@@ -4,7 +4,7 @@ use Rattle.pairs.proofs.judge.meets_at.Statement.{statement}
 use Rattle.pairs.proofs.judge.meets_at.Tie as tie
 use mathlib.Core.Path.{ap, sym, _∙_}
 use Rattle.math.specs.declared.aabb.Aabb.{Aabb}
-use Rattle.walk.specs.Boxes.{meetsBox}
+use Rattle.walk_steps.specs.Boxes.{meetsBox}
 use Rattle.pairs.specs.Judging.{meetsAt}
 use Rattle.pairs.proofs.CountLaws.{and-yes, and-no}
 

@@ -4,9 +4,9 @@ use Rattle.walk.proofs.core.advance.Statement.{statement}
 use Rattle.walk.proofs.core.advance.Tie as tie
 use native.Mathlib.Omega.{arith}
 use Prim.Native.Nat.{_<_}
-use Rattle.walk.specs.Step.{Lent, lentOf}
+use Rattle.walk_steps.specs.Step.{Lent, lentOf}
 use Rattle.walk.specs.Walks.{left}
-use Rattle.walk.specs.steps.Lanes.{plainOf}
+use Rattle.walk_steps.specs.steps.Lanes.{plainOf}
 use Rattle.walk.specs.steps.Passing.{Came}
 use Rattle.walk.proofs.Running as running
 

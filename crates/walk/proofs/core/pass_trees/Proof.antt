@@ -4,7 +4,7 @@ use Rattle.walk.proofs.core.pass_trees.Tie as tie
 use Prim.Native.Nat.{_-_}
 use mathlib.Core.Path.{sym, ap, _∙_}
 use native.Mathlib.Omega.{arith}
-use Rattle.walk.specs.steps.Lanes.{plainOf}
+use Rattle.walk_steps.specs.steps.Lanes.{plainOf}
 use Rattle.walk.specs.steps.Passing.{passesOver, PassedUpTo}
 use Rattle.walk.proofs.PassLaws.{none-passed, next-passed}
 

@@ -6,10 +6,11 @@ use native.Mathlib.Omega.{arith}
 use Prim.Native.Nat.{ℕ}
 use mathlib.Core.Bool.{false}
 use mathlib.Core.Path.{_≡_, refl, sym, ap, subst, _∙_}
-use Rattle.walk.specs.Step.{Lent, lentOf, more, started}
-use Rattle.walk.specs.steps.Lanes.{plainOf}
-use Rattle.walk.specs.steps.Passing.{insideRange, Ready}
-use Rattle.walk.specs.declared.state.WalkState.{WalkState}
+use Rattle.walk_steps.specs.Step.{Lent, lentOf, more, started}
+use Rattle.walk_steps.specs.steps.Lanes.{plainOf}
+use Rattle.walk.specs.steps.Passing.{Ready}
+use Rattle.walk_steps.specs.steps.Contracts.{insideRange}
+use Rattle.walk_steps.specs.declared.state.WalkState.{WalkState}
 use Rattle.walk.proofs.Running as running
 
 lanes-of-requires : tie.Need-lanes-of-requires

@@ -5,10 +5,11 @@ use Rattle.walk.proofs.core.through.Tie as tie
 use native.Mathlib.Omega.{arith}
 use mathlib.Core.Bool.{true}
 use mathlib.Core.Path.{_≡_, sym, _∙_}
-use Rattle.walk.specs.Step.{lentOf}
+use Rattle.walk_steps.specs.Step.{lentOf}
 use Rattle.walk.specs.Walks.{left}
-use Rattle.walk.specs.steps.Lanes.{plainOf}
-use Rattle.walk.specs.steps.Passing.{insideRange, Came}
+use Rattle.walk_steps.specs.steps.Lanes.{plainOf}
+use Rattle.walk.specs.steps.Passing.{Came}
+use Rattle.walk_steps.specs.steps.Contracts.{insideRange}
 use Rattle.walk.proofs.PassLaws.{inside-at}
 use Rattle.walk.proofs.Running as running
 

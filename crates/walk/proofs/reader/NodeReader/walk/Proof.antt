@@ -50,12 +50,12 @@ use Rattle.math.proofs.vec3.Vec3.Laws as Pt′
 use Rattle.walk.specs.Walks as walks
 use Rattle.walk.specs.declared.core.Walk.{Walk}
 use Rattle.walk.specs.declared.reader.NodeReader.{NodeReader}
-use Rattle.walk.specs.declared.state.Sizes.{Sizes}
+use Rattle.walk_steps.specs.declared.state.Sizes.{Sizes}
 use Rattle.records.proofs.HandWalk.{all-passed, all-go}
 use Rattle.walk.proofs.core.Walk as B
 use Rattle.walk.proofs.core.Walk.Laws as B′
-use Rattle.walk.proofs.state.Sizes as Z
-use Rattle.walk.proofs.state.Sizes.Laws as Z′
+use Rattle.walk_steps.proofs.state.Sizes as Z
+use Rattle.walk_steps.proofs.state.Sizes.Laws as Z′
 use Rattle.walk.proofs.reader.NodeReader as T
 use Rattle.walk.proofs.reader.NodeReader.Laws as T′
 use Rattle.walk.proofs.core.walk_core as g

@@ -1,0 +1,4 @@
+mod LaneLaws
+pub mod SameTurn
+mod Shorts
+pub mod StepLaws

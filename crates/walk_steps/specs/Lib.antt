@@ -1,0 +1,4 @@
+pub mod Boxes
+pub mod Refusals
+pub mod Step
+pub mod steps
