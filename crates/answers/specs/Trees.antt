@@ -7,8 +7,8 @@ use lib.Dec.{leb, ltb}
 use lib.Ieee.{binary32, ofBits}
 use Rattle.math.specs.declared.vec3.Vec3.{Vec3}
 use Rattle.math.specs.declared.words3.Words3.{Words3}
-use Rattle.records.specs.declared.header.Bvh.{Bvh}
-use Rattle.records.specs.Header.{headerAnswer, headerExit}
+use Rattle.header.specs.declared.Bvh.{Bvh}
+use Rattle.header.specs.Header.{headerAnswer, headerExit}
 use Rattle.bvh.specs.declared.core.Build.{Build}
 use Rattle.bvh.specs.declared.core.Build.the-variants.{Built, Refused}
 use Rattle.bvh.specs.declared.core.BuiltTree.{BuiltTree}

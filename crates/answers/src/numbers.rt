@@ -1,9 +1,9 @@
 // The numbers that stand for an enum's cases.
 use float32::compare::Relation;
 use float32::sorting::Ordering;
-use records::header::Header;
+use header::Header;
 ghost use mathlib.Core.Path.{_≡_};
-ghost use Rattle.records.specs.Header.{headerNumber};
+ghost use Rattle.header.specs.Header.{headerNumber};
 ghost use Rattle.answers.specs.Numbers.{relationNumber, orderingNumber};
 
 pub fn relation_number(r: Relation) -> u32

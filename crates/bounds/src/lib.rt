@@ -4,12 +4,12 @@ pub mod geometry;
 use answers::trees::BuildAnswer;
 use answers::walks::WalkAnswer;
 use bvh::items::BvhItem;
+use header::Bvh;
 use math::aabb::Aabb;
 use math::mat4::Mat4;
 use math::mat4::Vec4;
 use math::vec3::Vec3;
 use math::words3::Words3;
-use records::header::Bvh;
 ghost use mathlib.Core.Path.{_≡_};
 ghost use Prim.Native.Nat.{_+_, _*_};
 ghost use lib.Ieee.{binary32, ofBits, toBits};
@@ -360,7 +360,7 @@ pub extern "C" fn bounds_build_bvh(
 pub extern "C" fn bounds_tree_header(out: &mut [u8], bvh: Bvh) -> u32
     ensures { λ r. ⌜ HeaderWritten bvh (now (out .entry)) (now (out .exit)) r ⌝ }
 {
-    answers::numbers::header_number(records::header::tree_header(out, bvh))
+    answers::numbers::header_number(header::tree_header(out, bvh))
 }
 
 // ---- walks

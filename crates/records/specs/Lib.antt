@@ -1,5 +1,4 @@
 pub mod Axis
-pub mod Header
 pub mod Quantise
 pub mod Records
 pub mod Scale

@@ -1,5 +1,4 @@
 // The records of a tree, as the source keeps them: a box in units of the quantum, then two numbers, 16 bytes in all.
-pub mod header;
 pub mod quantise;
 pub mod scale;
 pub mod shorts;

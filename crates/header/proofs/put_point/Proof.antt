@@ -1,11 +1,11 @@
--- `header::put_point` meets its contract: four runs of four stores, each from where the last one ended, are one run.
+-- `put_point` meets its contract: four runs of four stores, each from where the last one ended, are one run.
 use Rattle.base.specs.LittleEndian.{littleEndian}
-use Rattle.records.specs.Header.{pointBytes}
+use Rattle.header.specs.Header.{pointBytes}
 use Rattle.base.proofs.LittleEndian.{joined, number-bytes}
 use Rattle.base.proofs.StoreLaws.{four-stores}
 use borrow.Author.Needs.{needs}
-use Rattle.records.proofs.header.put_point.Statement.{statement}
-use Rattle.records.proofs.header.put_point.Tie as tie
+use Rattle.header.proofs.put_point.Statement.{statement}
+use Rattle.header.proofs.put_point.Tie as tie
 
 cast-put-le : tie.Need-cast-put-le
 cast-put-le c = search needs

@@ -9,9 +9,9 @@ use Rattle.math.specs.Stored.{bitsOf}
 use Rattle.math.specs.declared.words3.Words3.{Words3}
 use Rattle.base.specs.Lists.{over}
 use Rattle.base.specs.LittleEndian.{littleEndian}
-use Rattle.records.specs.declared.header.Bvh.{Bvh}
-use Rattle.records.specs.declared.header.Header.{Header}
-use Rattle.records.specs.declared.header.Header.the-variants.{Written, TooManyTrees, BufferTooShort}
+use Rattle.header.specs.declared.Bvh.{Bvh}
+use Rattle.header.specs.declared.Header.{Header}
+use Rattle.header.specs.declared.Header.the-variants.{Written, TooManyTrees, BufferTooShort}
 
 -- Rule R6 (01: address, count, capacity (u64, u32, u32); 16 zeros; base.rs, write_simple_list64b).
 unfoldable pub nodeListBytes : Bvh → List ℕ

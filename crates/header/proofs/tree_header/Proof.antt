@@ -1,4 +1,4 @@
--- `header::tree_header` meets its contract: by the checks' outcomes, and where both pass three runs of stores are the 128 bytes.
+-- `tree_header` meets its contract: by the checks' outcomes, and where both pass three runs of stores are the 128 bytes.
 use mathlib.Core.Path.{_≡_, refl, sym, ap, ap₂, _∙_}
 use mathlib.Core.Bool.{Bool, cond}
 use mathlib.Core.List.{List, _++_}
@@ -6,15 +6,15 @@ use Prim.Native.Nat.{ℕ}
 use lib.Dec.{ltb, eqb}
 use lib.ListN.{length}
 use borrow.Author.Tests.{lt-ltb, le-ltb}
-use Rattle.records.specs.Header.{nodeListBytes, pointsBytes, treeListBytes, headerBytes, headerAnswer, headerExit}
-use Rattle.records.specs.declared.header.Bvh.{Bvh}
+use Rattle.header.specs.Header.{nodeListBytes, pointsBytes, treeListBytes, headerBytes, headerAnswer, headerExit}
+use Rattle.header.specs.declared.Bvh.{Bvh}
 use Rattle.base.specs.Lists.{over}
 use Rattle.base.proofs.LittleEndian.{joined}
-use Rattle.records.proofs.Sizes.{node-list-bytes, points-bytes, header-bytes}
+use Rattle.header.proofs.Sizes.{node-list-bytes, points-bytes, header-bytes}
 use Rattle.base.proofs.StoreLaws.{store-next, sets-over}
 use borrow.Author.Needs.{needs}
-use Rattle.records.proofs.header.tree_header.Statement.{statement}
-use Rattle.records.proofs.header.tree_header.Tie as tie
+use Rattle.header.proofs.tree_header.Statement.{statement}
+use Rattle.header.proofs.tree_header.Tie as tie
 
 -- the answer, by the outcomes of the two checks
 answer : (h : Bvh) (out : List ℕ) {many short : Bool} → ltb 65535 (h .«trees_count») ≡ many → ltb (length out) 128 ≡ short

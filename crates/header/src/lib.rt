@@ -1,12 +1,12 @@
 // The header of a tree: where its nodes and ranges are, the box around its items, and the units of its records.
-use crate::scale::Scale;
 use base::little_endian::put_le;
 use math::words3::Words3;
+use records::scale::Scale;
 ghost use mathlib.Core.Path.{_≡_};
 ghost use Prim.Native.Nat.{_+_, _≤_};
 ghost use lib.ListN.{length};
 ghost use lib.Seq.{sets};
-ghost use Rattle.records.specs.Header.{nodeListBytes, pointBytes, pointsBytes, treeListBytes, Headed};
+ghost use Rattle.header.specs.Header.{nodeListBytes, pointBytes, pointsBytes, treeListBytes, Headed};
 
 // The box is copied, so that a NaN in it keeps its bits; the scale was computed.
 #[repr(C)]

@@ -1,16 +1,16 @@
--- `header::put_points` meets its contract: five runs of 16 stores, each from where the last one ended, are one run.
+-- `put_points` meets its contract: five runs of 16 stores, each from where the last one ended, are one run.
 use mathlib.Core.Path.{ap, _∙_}
 use mathlib.Core.List.{_++_}
 use lib.Seq.{sets}
 use Rattle.math.specs.Stored.{bitsOf}
 use Rattle.math.specs.declared.words3.Words3.{Words3}
-use Rattle.records.specs.Header.{pointBytes, pointsBytes}
+use Rattle.header.specs.Header.{pointBytes, pointsBytes}
 use Rattle.base.proofs.LittleEndian.{joined}
-use Rattle.records.proofs.Sizes.{point-bytes}
+use Rattle.header.proofs.Sizes.{point-bytes}
 use Rattle.base.proofs.StoreLaws.{store-next, four-stores}
 use borrow.Author.Needs.{needs}
-use Rattle.records.proofs.header.put_points.Statement.{statement}
-use Rattle.records.proofs.header.put_points.Tie as tie
+use Rattle.header.proofs.put_points.Statement.{statement}
+use Rattle.header.proofs.put_points.Tie as tie
 
 put-point-requires : tie.Need-put-point-requires
 put-point-requires c κs = search needs

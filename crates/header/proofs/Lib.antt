@@ -1,0 +1,2 @@
+pub mod Examples
+mod Sizes
