@@ -13,7 +13,7 @@ use lib.Ieee.{Float, nan, inf, fin, up, down, lt, le, neg, isNan, ofBits, binary
 use lib.Ieee.Fits.{down-pos}
 use lib.Ieee.Nearest.{div-mono}
 use Rattle.float32.specs.Casts.{castI32, shortOf, clampOf, limit, truncatedOf}
-use Rattle.float32.specs.CastStandard.{lowest, highest}
+use Rattle.float32.specs.Signed.{lowest, highest}
 use Rattle.float32.proofs.Order.{Ordered, from-lowest, to-highest, numbers, le→ordered, lt→strict}
 use Rattle.float32.proofs.OrderLaws.{le-no-nan, le-or-lt, lt-le}
 use Rattle.base.proofs.IntegerOrder.{leZ-refl, leZ-antisym, leZ-neg, leZ-across}

@@ -16,7 +16,7 @@ use lib.Ieee.Exact.{HasValue, round-exact}
 use lib.Ieee.Nearest.{div-same}
 use lib.Ieee.Scale.{finite}
 use lib.Ieee.Positive.{den}
-use Rattle.float32.specs.ArithmeticStandard.{over, under}
+use Rattle.float32.specs.Signed.{over, under}
 use Rattle.float32.proofs.Rounding.{Rounded, above, below}
 
 -- ---- of each number and sign a format holds one value

@@ -12,7 +12,7 @@ use lib.Ieee.Scale.{finite}
 use lib.Ieee.Positive.{num, den, den-pos}
 use mir.Facts.{or-yes}
 use Rattle.base.proofs.Truth.{T-ext}
-use Rattle.float32.specs.ArithmeticStandard.{over, under}
+use Rattle.float32.specs.Signed.{over, under}
 use Rattle.float32.proofs.Order.{Ordered, from-lowest, to-highest, numbers, le→ordered}
 use Rattle.float32.proofs.Order.{ordered→le, le→cross, cross→le, lt→strict, strict→lt}
 

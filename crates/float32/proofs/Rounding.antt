@@ -14,8 +14,8 @@ use lib.Ieee.Scale.{finite, round-same}
 use lib.Ieee.Positive.{num, den, positive}
 use borrow.Author.Tests.{ltb-true, ltb-false, eqb-true, eqb-false, lt-ltb, le-ltb, ne-eqb}
 use Rattle.base.proofs.NumberLaws.{no-factor}
-use Rattle.float32.specs.RoundStandard.{negative, apart}
-use Rattle.float32.specs.ArithmeticStandard.{over, under, signOf}
+use Rattle.float32.specs.Signed.{negative, apart}
+use Rattle.float32.specs.Signed.{over, under, signOf}
 use Rattle.float32.proofs.OrderLaws.{le-no-nan, le-trans, neg-neg, neg-le, neg-finite, neg-over, neg-under, neg-den}
 
 -- ---- the sign goes through `round`

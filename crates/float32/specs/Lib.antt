@@ -1,13 +1,10 @@
-pub mod ArithmeticStandard
 pub mod Casts
 pub mod CastSteps
-pub mod CastStandard
 pub mod Comparison
 pub mod Counts
 pub mod Extremes
-pub mod RootStandard
 pub mod RootSteps
-pub mod RoundStandard
+pub mod Signed
 pub mod Signs
 pub mod SortOrder
 pub mod SquareRoot

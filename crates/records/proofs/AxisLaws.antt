@@ -20,11 +20,11 @@ use Rattle.float32.specs.Casts.{limit}
 use Rattle.float32.specs.Signs.{absOf}
 use Rattle.float32.proofs.CastLaws.{truncatedOf-in}
 use Rattle.float32.proofs.ExtremeLaws.{vmaxOf-both, vmaxOf-ge, vmaxOf-least}
-use Rattle.float32.proofs.Monotone.{add-mono-both, add-no-nan, sub-mono, sub-anti, sub-no-nan, mul-mono}
+use Rattle.float_laws.proofs.Monotone.{add-mono-both, add-no-nan, sub-mono, sub-anti, sub-no-nan, mul-mono}
 use Rattle.float32.proofs.Order.{le→cross}
 use Rattle.float32.proofs.OrderLaws.{le-trans, finite-no-nan, finite-between, eq→le, neg-le}
 use Rattle.float32.proofs.Rounding.{round-zero}
-use Rattle.float32.proofs.ScaledCasts.{truncatedOf-scaled, truncatedOf-infinite, node-is-truncated-infinite}
+use Rattle.float_laws.proofs.ScaledCasts.{truncatedOf-scaled, truncatedOf-infinite, node-is-truncated-infinite}
 use Rattle.float32.proofs.SignLaws.{abs-no-nan, abs-bounds, abs-le}
 use Rattle.math.specs.declared.axis.Axis.{Axis}
 use Rattle.math.specs.declared.axis.Axis.the-variants.{X, Y, Z}

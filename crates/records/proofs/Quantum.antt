@@ -14,8 +14,8 @@ use Rattle.float32.proofs.Order.{num-pos, positive-over, positive-under}
 use Rattle.float32.proofs.OrderLaws.{le-trans, le-lt-trans, neg-neg, neg-le, neg-lt}
 use Rattle.float32.proofs.Rounding.{Rounded, rounded-mono, div-rounded, mul-rounded, mul-neg}
 use Rattle.float32.proofs.Exactness.{self-rounded}
-use Rattle.float32.proofs.RoundError.{Relative, div-relative}
-use Rattle.float32.proofs.Monotone.{div-mono, mul-mono}
+use Rattle.float_laws.proofs.RoundError.{Relative, div-relative}
+use Rattle.float_laws.proofs.Monotone.{div-mono, mul-mono}
 use Rattle.float32.proofs.CastLaws.{edge, shortOf-is-truncatedOf}
 use Rattle.math.specs.Vec3s.{_⊗_, one}
 use Rattle.records.specs.Axis.{quantumOf, inverseOf, smallest}

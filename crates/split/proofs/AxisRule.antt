@@ -12,7 +12,7 @@ use lib.Ieee.{Float, le}
 use lib.Ieee.Exact.{HasValue}
 use Rattle.float32.specs.Counts.{ofCount}
 use Rattle.float32.specs.Signs.{absOf}
-use Rattle.float32.proofs.CountLaws.{two, of-count-value, half-value, distance-value, le-is}
+use Rattle.float_laws.proofs.CountLaws.{two, of-count-value, half-value, distance-value, le-is}
 use Rattle.math.specs.declared.axis.Axis.{Axis}
 use Rattle.math.specs.declared.axis.Axis.the-variants.{X, Y, Z}
 use Rattle.math.specs.declared.vec3.Vec3.{Vec3}

@@ -1,0 +1,4 @@
+pub mod ArithmeticStandard
+pub mod CastStandard
+pub mod RootStandard
+pub mod RoundStandard
