@@ -3,10 +3,11 @@
 -- places of the output.
 use Prim.Native.Nat.{ℕ}
 use native.Mathlib.Omega.{arith}
-use mathlib.Core.List.{List, _++_, List·Memᴰ}
+use mathlib.Core.List.{List, List·Memᴰ}
 use mathlib.Core.Path.{_≡_, refl, sym, ap, ap₂, _∙_, subst}
 use lib.ListN.{length, take, drop}
 use lib.Seq.{take-append-seam}
+use Rattle.base.specs.Lists.{over}
 use Rattle.math.specs.declared.aabb.Aabb.{Aabb}
 use Rattle.bvh.specs.declared.core.Build.{Build}
 use Rattle.bvh.specs.declared.core.Build.the-variants.{Built, Refused}
@@ -93,7 +94,7 @@ module _ (e : Entries) (th : ℕ) (query : Aabb) (b : BuiltTree) (after : Output
         none-from-a-leaf-that-misses = λ i m. d .from-leaves-that-meet i (subst (List·Memᴰ i) out-is m);
         positions-below-the-item-count = λ i m. d .positions-below i (subst (List·Memᴰ i) out-is m);
         as-many-as-it-says = ap length out-is ∙ sym handed-is;
-        rest-as-it-was = a .output-is ∙ ap₂ (λ (xs : List ℕ) (n : ℕ). xs ++ drop n out) (sym out-is) (sym handed-is);
+        rest-as-it-was = a .output-is ∙ ap (λ (xs : List ℕ). over xs out) (sym out-is);
         reads-at-most-nodes-plus-trees = omega (arith, reads-are, d .reads-at-most);
       }
 

@@ -3,11 +3,11 @@
 -- their bytes by `nodeNo` and `treeNo`, and the item at a position is the position itself at threshold 1, else what the order list has there (`itemsAt`).
 use Prim.Native.Nat.{ℕ, _+_, _≤_, _<_}
 use mathlib.Core.Bool.{true, cond}
-use mathlib.Core.List.{List, _++_, List·Memᴰ}
+use mathlib.Core.List.{List, List·Memᴰ}
 use mathlib.Core.Path.{_≡_}
 use lib.Dec.{ltb}
-use lib.ListN.{length, take, drop}
-use Rattle.base.specs.Lists.{occurrences}
+use lib.ListN.{length, take}
+use Rattle.base.specs.Lists.{occurrences, over}
 use Rattle.math.specs.declared.aabb.Aabb.{Aabb}
 use Rattle.bvh.specs.Build.{Entries}
 use Rattle.bvh.specs.Entry.{Outputs}
@@ -60,6 +60,6 @@ pub record PointThree (e : Entries) (th : ℕ) (query : Aabb) (r : BuildAnswer) 
   pub positions-below-the-item-count : (i : ℕ) → List·Memᴰ i (handedOut out′ w) → i < countFor th (e .number) (r .present)
   -- as many as the answer says, and the rest of the output is as it was
   pub as-many-as-it-says : length (handedOut out′ w) ≡ w .handed
-  pub rest-as-it-was : out′ ≡ handedOut out′ w ++ drop (w .handed) out
+  pub rest-as-it-was : out′ ≡ over (handedOut out′ w) out
   -- "Its result's count of records read is at most the build's nodes plus its trees."
   pub reads-at-most-nodes-plus-trees : w .reads ≤ r .nodes + r .trees
