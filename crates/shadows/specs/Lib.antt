@@ -1,0 +1,7 @@
+pub mod Ends
+pub mod Keys
+pub mod Kept
+pub mod Maxima
+pub mod Nearness
+pub mod Octants
+pub mod Shadows
