@@ -5,5 +5,6 @@ pub mod Differences
 pub mod MaximaLaws
 pub mod NearnessLaws
 pub mod OctantLaws
+pub mod RankLaws
 pub mod ShadowKeys
 pub mod ShadowLaws

@@ -5,9 +5,11 @@ use mathlib.Core.Bool.{Bool, true, false, not, cond, _&&_, _||_}
 use mathlib.Core.List.{List, [], _∷_, _++_}
 use Prim.Native.Nat.{ℕ, zero, suc, _+_, _≤_, _<_}
 use native.Mathlib.Omega.{arith}
-use borrow.Author.Tests.{le-ltb, lt-ltb, ltb-false}
+use borrow.Author.Tests.{le-ltb, lt-ltb, ltb-true, ltb-false}
 use lib.Dec.{ltb}
-use Rattle.base.specs.Lists.{sift}
+use Rattle.base.specs.Lists.{sift, Below}
+use Rattle.base.proofs.EveryLaws.{every-append, every-sift}
+use Rattle.base.proofs.NumberLaws.{below-wider}
 use Rattle.shadows.specs.Kept.{some, admit, keptOf}
 use Rattle.shadows.specs.Maxima.{Transitive, numbers, noneBelow, displaced, listed, maximaOf}
 use Rattle.shadows.proofs.Truth.{decide, never, first-true, second-true, both-true}
@@ -231,3 +233,69 @@ pub maxima-alike : (shadowed shadowed' : ℕ → ℕ → Bool) (n : ℕ) → ((i
 maxima-alike shadowed shadowed' n h =
     sift-alike (listed shadowed n) (listed shadowed' n) n
     (λ i l. none-alike n (displaced shadowed i) (displaced shadowed' i) (λ j m. unfold displaced in rw (h i j l m, h j i m l)))
+
+-- ---- two relations that agree on the n vertices keep the same
+
+admit-below : (shadowed : ℕ → ℕ → Bool) (n : ℕ) (kept : List ℕ) → Below (suc n) kept → Below (suc n) (admit shadowed kept n)
+unfolding admit
+admit-below shadowed n kept w = go (some (shadowed n) kept)
+  where
+    spared : List ℕ
+    spared = sift (λ k. not (shadowed k n)) kept
+
+    go : (b : Bool) → Below (suc n) (cond b kept (spared ++ (n ∷ [])))
+    go true = w
+    go false =
+        every-append (λ x. x < suc n) spared (n ∷ []) (every-sift (λ x. x < suc n) (λ k. not (shadowed k n)) kept w) (omega arith, tt)
+
+pub kept-below : (shadowed : ℕ → ℕ → Bool) (n : ℕ) → Below n (keptOf shadowed n)
+kept-below shadowed zero = tt
+kept-below shadowed (suc n) =
+    admit-below shadowed n (keptOf shadowed n) (below-wider n (suc n) (keptOf shadowed n) (omega arith) (kept-below shadowed n))
+
+module _ (s t : ℕ → ℕ → Bool) (n i : ℕ) (l : i < n) (same : (i j : ℕ) → i < n → j < n → s i j ≡ t i j) where
+  some-same : (ks : List ℕ) → Below n ks → some (s i) ks ≡ some (t i) ks
+  some-same [] w = refl
+  some-same (k ∷ ks) w = rw (same i k l (w .0), some-same ks (w .1))
+
+  spared-same : (ks : List ℕ) → Below n ks → sift (λ k. not (s k i)) ks ≡ sift (λ k. not (t k i)) ks
+  spared-same [] w = refl
+  spared-same (k ∷ ks) w = rw (same k i (w .0) l, spared-same ks (w .1))
+
+  admit-same : (ks : List ℕ) → Below n ks → admit s ks i ≡ admit t ks i
+  unfolding admit
+  admit-same ks w = rw (some-same ks w, spared-same ks w)
+
+pub kept-alike : (s t : ℕ → ℕ → Bool) (n : ℕ) → ((i j : ℕ) → i < n → j < n → s i j ≡ t i j) → keptOf s n ≡ keptOf t n
+kept-alike s t zero h = refl
+kept-alike s t (suc n) h =
+    admit-same s t (suc n) n (omega arith) h (keptOf s n) (below-wider n (suc n) (keptOf s n) (omega arith) (kept-below s n))
+    ∙ ap (λ (ks : List ℕ). admit t ks n) (kept-alike s t n (λ i j k l. h i j (omega arith) (omega arith)))
+
+-- ---- a relation that is transitive among the n vertices
+
+abbrev pub TransitiveBelow : (ℕ → ℕ → Bool) → ℕ → Type 0
+TransitiveBelow shadowed n =
+    (i j k : ℕ) → i < n → j < n → k < n → shadowed i j ≡ true → shadowed j k ≡ true → shadowed i k ≡ true
+
+module _ (shadowed : ℕ → ℕ → Bool) (n : ℕ) where
+  -- it, of the n vertices alone
+  abbrev guarded : ℕ → ℕ → Bool
+  guarded i j = ltb i n && (ltb j n && shadowed i j)
+
+  guarded-is : (i j : ℕ) → i < n → j < n → guarded i j ≡ shadowed i j
+  guarded-is i j k l = rw (lt-ltb i n k, lt-ltb j n l)
+
+  pub kept-are-maxima : TransitiveBelow shadowed n → keptOf shadowed n ≡ maximaOf shadowed n
+  kept-are-maxima trans =
+      kept-alike shadowed guarded n (λ i j k l. sym (guarded-is i j k l)) ∙ kept-is-maxima guarded all n ∙ maxima-alike guarded shadowed n guarded-is
+    where
+      all : Transitive guarded
+      all i j k h h' =
+          let a = first-true (ltb i n) (ltb j n && shadowed i j) h in
+          let b = second-true (ltb i n) (ltb j n && shadowed i j) h in
+          let c = second-true (ltb j n) (ltb k n && shadowed j k) h' in
+          let d = first-true (ltb k n) (shadowed j k) c in
+          rw (a, d)
+          (trans i j k (ltb-true i n a) (ltb-true j n (first-true (ltb j n) (shadowed i j) b)) (ltb-true k n d) (second-true (ltb j n) (shadowed i j) b)
+          (second-true (ltb k n) (shadowed j k) c))

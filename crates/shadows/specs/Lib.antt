@@ -4,4 +4,5 @@ pub mod Kept
 pub mod Maxima
 pub mod Nearness
 pub mod Octants
+pub mod Ranks
 pub mod Shadows
