@@ -1,4 +1,4 @@
-mod Truth
+pub mod Truth
 pub mod AxisLaws
 pub mod Below
 pub mod Differences
