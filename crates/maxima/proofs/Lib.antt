@@ -1,0 +1,6 @@
+mod Keeping
+mod Casting
+mod ListingLaws
+mod MarkingLaws
+mod OrderLaws
+mod SweepLaws

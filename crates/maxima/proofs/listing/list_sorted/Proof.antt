@@ -1,0 +1,91 @@
+-- `list_sorted` meets its contract: what each call leaves is what the next asks (ListingLaws).
+use borrow.Author.Needs.{needs}
+use Rattle.maxima.proofs.listing.list_sorted.Statement.{statement}
+use Rattle.maxima.proofs.listing.list_sorted.Tie as tie
+use Rattle.maxima.proofs.listing.list_sorted.Reads as reads
+use Rattle.maxima.proofs.listing.list_sorted.Lts as lts
+use Rattle.maxima.proofs.listing.clear.Reads as clear-reads
+use Rattle.maxima.proofs.listing.count_up.Reads as count-up-reads
+use Rattle.maxima.proofs.listing.list_unmarked.Reads as list-unmarked-reads
+use Rattle.maxima.proofs.marking.mark_halves.Reads as mark-halves-reads
+use Rattle.maxima.proofs.sorting.sort.Reads as sort-reads
+use mathlib.Core.Path.{_≡_, sym, ap, _∙_, subst}
+use Rattle.base.specs.Lists.{Below}
+use Rattle.shadows.specs.Maxima.{numbers}
+use Rattle.maxima.proofs.ListingLaws.{numbers-below, sorted-below, all-kept}
+use native.Mathlib.Omega.{arith}
+
+-- src/listing.rt:66:5
+count-up-requires : tie.Need-count-up-requires
+count-up-requires c κs = search needs
+
+-- src/listing.rt:67:5
+sort-requires : tie.Need-sort-requires
+sort-requires c κs =
+    let p = c .before .before .before .before .before .before .before .before .before .before .before .pre in
+    let k = c .before .before .before .before .count-up in (
+      omega (arith, k .kept .0, p .1, p .0 .for-temp),
+      p .0 .table .size,
+      subst (Below (c .before .before .before .before .before .before .before .before .before .before .before .args .n)) (sym (k .ensures ∙ ap numbers (p .1))) (numbers-below (c .before .before .before .before .before .before .before .before .before .before .before .args .n)),
+    )
+
+-- src/listing.rt:68:5
+clear-requires : tie.Need-clear-requires
+clear-requires c κs = search needs
+
+-- src/listing.rt:69:5
+mark-halves-requires : tie.Need-mark-halves-requires
+mark-halves-requires c κs =
+    let p = c .before .before .before .before .before .before .before .before .before .before .before .before .before .before .before .before .before .before .before .before .before .before .before .pre in
+    let k = c .before .before .before .before .before .before .before .before .before .before .before .before .before .before .before .before .count-up in
+    let s = c .before .before .before .before .before .before .before .before .before .before .before .sort in
+    record {
+      table = p .0 .table;
+      mark = c .before .before .before .before .before .clear .ensures .size;
+      below = sorted-below _ _ _ _ _ (k .ensures ∙ ap numbers (p .1)) (s .ensures);
+      room = omega (arith, s .kept .0, s .kept .1 .0, k .kept .0, p .1, p .0 .for-temp);
+    }
+
+-- src/listing.rt:70:5
+list-unmarked-requires : tie.Need-list-unmarked-requires
+list-unmarked-requires c κs =
+    let p = c .before .before .before .before .before .before .before .before .before .before .before .before .before .before .before .before .before .before .before .before .before .before .before .before .before .before .before .before .before .before .before .before .pre .0 in
+    (omega (arith, c .before .before .before .before .before .before .before .before .mark-halves .kept .1 .1 .1 .1 .0, c .before .before .before .before .before .before .before .before .before .before .before .before .before .before .clear .ensures .size), p .for-list, p .table .few)
+
+-- src/listing.rt:62:1
+same-length : tie.Need-same-length
+same-length c = search needs
+
+-- src/listing.rt:62:1
+same-length-2 : tie.Need-same-length-2
+same-length-2 c = search needs
+
+-- src/listing.rt:62:1
+same-length-3 : tie.Need-same-length-3
+same-length-3 c = search needs
+
+-- src/listing.rt:62:1
+same-length-4 : tie.Need-same-length-4
+same-length-4 c = search needs
+
+-- src/listing.rt:62:1
+returns : tie.Need-returns
+returns c =
+    let p = c .before .before .before .before .before .before .before .before .before .before .before .before .before .before .before .before .before .before .before .before .before .before .before .before .before .before .before .before .before .before .before .before .before .before .before .pre in
+    all-kept _ _ _ _ _ _ _ _ _ _ (p .0 .table) (c .before .before .before .before .before .before .before .before .before .before .before .before .before .before .before .before .before .before .before .before .before .before .before .before .before .before .before .before .count-up .ensures ∙ ap numbers (p .1)) (c .before .before .before .before .before .before .before .before .before .before .before .before .before .before .before .before .before .before .before .before .before .before .before .sort .ensures) (c .before .before .before .before .before .before .before .before .before .before .before .before .before .before .before .before .before .clear .ensures)
+    (c .before .before .before .before .before .before .before .before .before .before .before .mark-halves .ensures) (c .before .before .list-unmarked .ensures)
+
+pub list-sorted-spec : {M : Type 1} → statement M
+list-sorted-spec =
+    tie.close
+    (tie.spec
+    count-up-requires
+    sort-requires
+    clear-requires
+    mark-halves-requires
+    list-unmarked-requires
+    same-length
+    same-length-2
+    same-length-3
+    same-length-4
+    returns)
