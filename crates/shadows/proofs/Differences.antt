@@ -11,7 +11,7 @@ use lib.Ieee.{Float, nan, inf, fin, Format, binary32, binary64, low, up, down, u
 use lib.Ieee.Order.{round-mono}
 use lib.Ieee.Scale.{finite}
 use lib.Ieee.Positive.{den, den-pos}
-use Rattle.float32.specs.ArithmeticStandard.{over, under}
+use Rattle.float32.specs.Signed.{over, under}
 use Rattle.float32.proofs.Order.{Strict, lt→strict, le→cross}
 use Rattle.float32.proofs.OrderLaws.{lt-le-trans, neg-lt}
 use Rattle.float32.proofs.Rounding.{Rounded, above, below, round-neg, round-zero, rounded-mono, sub-rounded}
