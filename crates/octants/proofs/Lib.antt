@@ -1,0 +1,4 @@
+mod EndLaws
+mod ListLaws
+mod PartLaws
+pub mod WorkLaws

@@ -1,0 +1,94 @@
+-- `put_axis` meets its contract. The invariant is `Filling`.
+use Rattle.octants.proofs.keys.put_axis.Statement.{statement}
+use Rattle.octants.proofs.keys.put_axis.Tie as tie
+use Rattle.octants.proofs.keys.put_axis.Reads as reads
+use Rattle.octants.proofs.keys.put_axis.Lts as lts
+use Rattle.float32.proofs.sorting.order_key.Reads as order-key-reads
+use Prim.Native.Nat.{_+_, _*_, _-_}
+use lib.ListN.{getD}
+use Rattle.float32.specs.SortOrder.{keyOf}
+use Rattle.octants.proofs.PartLaws.{Filling, unfilled, fill-more, filled}
+use borrow.Author.Needs.{needs}
+
+abbrev Inv-loop : tie.InvT-loop
+Inv-loop n vertices axis keys₀ at p₀ keys p = Filling (λ q. keyOf (getD vertices (3 * q + axis) 0)) n at keys₀ keys p
+
+abbrev μ-loop : tie.MeasureT-loop
+μ-loop n vertices axis keys₀ at p₀ keys p = n - p
+
+-- src/keys.rt:15:5
+loop-holds : tie.Need-loop-holds Inv-loop μ-loop
+loop-holds c = unfilled _ _ _ _
+
+-- src/keys.rt:16:43
+mul-order-key : tie.Need-mul-order-key Inv-loop μ-loop
+mul-order-key c = search needs
+
+-- src/keys.rt:16:43
+add-order-key : tie.Need-add-order-key Inv-loop μ-loop
+add-order-key c = search needs
+
+-- src/keys.rt:16:34
+mul-order-key-2 : tie.Need-mul-order-key-2 Inv-loop μ-loop
+mul-order-key-2 c = search needs
+
+-- src/keys.rt:16:34
+shared-slice-read-order-key : tie.Need-shared-slice-read-order-key Inv-loop μ-loop
+shared-slice-read-order-key c = search needs
+
+-- src/keys.rt:16:24
+order-key-requires : tie.Need-order-key-requires Inv-loop μ-loop
+order-key-requires c κs = search needs
+
+-- src/keys.rt:16:14
+add-keys : tie.Need-add-keys Inv-loop μ-loop
+add-keys c = search needs
+
+-- src/keys.rt:16:9
+mul-keys : tie.Need-mul-keys Inv-loop μ-loop
+mul-keys c = search needs
+
+-- src/keys.rt:16:9
+slice-write-keys : tie.Need-slice-write-keys Inv-loop μ-loop
+slice-write-keys c = search needs
+
+-- src/keys.rt:17:9
+add-p : tie.Need-add-p Inv-loop μ-loop
+add-p c = search needs
+
+-- src/keys.rt:15:5
+loop-less : tie.Need-loop-less Inv-loop μ-loop
+loop-less c = search needs
+
+-- src/keys.rt:15:5
+loop-again : tie.Need-loop-again Inv-loop μ-loop
+loop-again c = fill-more _ _ _ _ _ _ _ (c .before .before .before .loop .inv) (c .before .before .loop-test .taken) (c .before .before .before .before .before .before .pre .2) (c .order-key .ensures)
+
+-- src/keys.rt:10:1
+same-length : tie.Need-same-length Inv-loop μ-loop
+same-length c = c .before .loop .inv .len
+
+-- src/keys.rt:10:1
+returns : tie.Need-returns Inv-loop μ-loop
+returns c = filled _ _ _ _ _ _ (c .before .loop .inv) (c .loop-test .left)
+
+pub put-axis-spec : {M : Type 1} → statement M
+put-axis-spec =
+    tie.close
+    (tie.spec
+    Inv-loop
+    μ-loop
+    loop-holds
+    mul-order-key
+    add-order-key
+    mul-order-key-2
+    shared-slice-read-order-key
+    order-key-requires
+    add-keys
+    mul-keys
+    slice-write-keys
+    add-p
+    loop-less
+    loop-again
+    same-length
+    returns)

@@ -1,0 +1,2 @@
+pub mod Octants
+pub mod steps
