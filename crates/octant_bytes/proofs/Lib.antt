@@ -1,0 +1,3 @@
+pub mod Examples
+mod Judging
+mod Laying
