@@ -46,3 +46,8 @@ kept (Refused why) written before = before
 pub record Answered (address : ℕ) (ls : List (List ℕ)) (before after : List ℕ) (r : OctantBytes) : Type 0 where
   pub answer : r ≡ answerOf address (lengthsOf ls) (length before)
   pub bytes : after ≡ kept r (octantBytes address ls) before
+
+-- Rule O5, of the answer's number.
+pub record Numbered (address : ℕ) (ls : List (List ℕ)) (before after : List ℕ) (r : ℕ) : Type 0 where
+  pub number : r ≡ numberOf (answerOf address (lengthsOf ls) (length before))
+  pub bytes : after ≡ kept (answerOf address (lengthsOf ls) (length before)) (octantBytes address ls) before

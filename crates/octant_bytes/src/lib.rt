@@ -6,7 +6,7 @@ ghost use Prim.Native.Nat.{_+_, _*_, _≤_, _<_};
 ghost use lib.ListN.{length, replicate};
 ghost use lib.Seq.{sets};
 ghost use Rattle.base.specs.LittleEndian.{littleEndian};
-ghost use Rattle.octant_bytes.specs.Answers.{many, answerOf, Answered};
+ghost use Rattle.octant_bytes.specs.Answers.{many, answerOf, refusalNumber, numberOf, Answered};
 ghost use Rattle.octant_bytes.specs.Bytes.{allOf, lengthsOf, countsBytes, pointersBytes, listsBytes};
 ghost use Rattle.octant_bytes.specs.steps.Counts.{Few, listed, eight, fourBytes, ListPut};
 
@@ -221,5 +221,25 @@ pub fn write_octants(
             put_lists(out, l0, l1, l2, l3, l4, l5, l6, l7);
             OctantBytes::Written
         }
+    }
+}
+
+fn refusal_number(why: OctantBytesRefusal) -> u32
+    ensures { λ r. ⌜ r ≡ refusalNumber why ⌝ }
+{
+    match why {
+        OctantBytesRefusal::TooManyIndices => 1,
+        OctantBytesRefusal::BufferTooShort => 2,
+        OctantBytesRefusal::AddressTooHigh => 12,
+    }
+}
+
+// An answer's number, for a caller that no enum can be given to.
+pub fn number(answer: OctantBytes) -> u32
+    ensures { λ r. ⌜ r ≡ numberOf answer ⌝ }
+{
+    match answer {
+        OctantBytes::Written => 0,
+        OctantBytes::Refused(why) => refusal_number(why),
     }
 }
