@@ -1,0 +1,3 @@
+// Composites: the boxes of their children as bytes, and the tree over their computed boxes.
+pub mod boxes;
+pub mod children;
