@@ -1,1 +1,3 @@
 pub mod BoxLaws
+pub mod ItemLaws
+pub mod TreeLaws
