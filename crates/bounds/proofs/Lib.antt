@@ -1,4 +1,5 @@
 pub mod BuildLaws
+pub mod CompositeLaws
 pub mod GeometryLaws
 pub mod PointThree
 mod Read

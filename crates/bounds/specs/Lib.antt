@@ -1,3 +1,4 @@
+pub mod Composites
 pub mod Geometry
 pub mod Numbers
 pub mod PointThree

@@ -17,7 +17,7 @@ abbrev pub many : List ℕ → Bool
 many [] = false
 many (n ∷ ns) = ltb 32768 n || many ns
 
--- Rule O5 (01, octants): the checks in the order written, for lists of these lengths and an output of so many bytes.
+-- Rule O4 (01, octants): the checks in the order written, for lists of these lengths and an output of so many bytes.
 -- 2: under 128 + 4 · all indices; 12: the address of what stands behind the lists exceeds 2^64 − 1.
 unfoldable pub answerOf : ℕ → List ℕ → ℕ → OctantBytes
 answerOf address counts room =
@@ -42,12 +42,12 @@ abbrev pub kept : OctantBytes → List ℕ → List ℕ → List ℕ
 kept Written written before = over written before
 kept (Refused why) written before = before
 
--- Rule O5: the answer, and every byte of the output.
+-- Rule O4: the answer, and every byte of the output.
 pub record Answered (address : ℕ) (ls : List (List ℕ)) (before after : List ℕ) (r : OctantBytes) : Type 0 where
   pub answer : r ≡ answerOf address (lengthsOf ls) (length before)
   pub bytes : after ≡ kept r (octantBytes address ls) before
 
--- Rule O5, of the answer's number.
+-- Rule O4, of the answer's number.
 pub record Numbered (address : ℕ) (ls : List (List ℕ)) (before after : List ℕ) (r : ℕ) : Type 0 where
   pub number : r ≡ numberOf (answerOf address (lengthsOf ls) (length before))
   pub bytes : after ≡ kept (answerOf address (lengthsOf ls) (length before)) (octantBytes address ls) before
