@@ -22,7 +22,7 @@ pub struct BuildAnswer {
     pub scale: Scale,
 }
 
-fn refused(number: u32) -> BuildAnswer
+pub fn refused(number: u32) -> BuildAnswer
     ensures { λ r. ⌜ r ≡ refusedBy number ⌝ }
 {
     let zero = Vec3 {

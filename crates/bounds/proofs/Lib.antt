@@ -1,2 +1,3 @@
+pub mod CompositeLaws
 pub mod PointThree
 mod Read

@@ -1,1 +1,2 @@
+pub mod Composites
 pub mod PointThree

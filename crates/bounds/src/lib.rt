@@ -1,5 +1,7 @@
 // The C interface: one function an operation, none of which asks anything of its caller.
+pub mod composites;
 pub mod geometry;
+pub mod octant_writing;
 
 use answers::trees::BuildAnswer;
 use answers::walks::WalkAnswer;

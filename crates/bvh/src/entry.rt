@@ -10,7 +10,7 @@ ghost use Rattle.bvh.specs.Entry.{entriesOf, takenOf, outputs, lent, len
 ghost use Rattle.bvh.specs.Items.{itemWords};
 
 // How many entries are taken apart: all n, or none where the build is refused before it reads one.
-fn taken(n: usize, room: usize) -> usize
+pub fn taken(n: usize, room: usize) -> usize
     ensures { λ r. ⌜ r ≡ takenOf n room ⌝ }
 {
     if n > 32767 {
@@ -21,7 +21,7 @@ fn taken(n: usize, room: usize) -> usize
 }
 
 // An entry's seven words, from word 7 · i on.
-fn put_item(entries: &mut [u32], i: usize, item: BvhItem)
+pub fn put_item(entries: &mut [u32], i: usize, item: BvhItem)
     requires { ⌜ 7 * i + 7 ≤ length (now entries) ⌝ }
     ensures { λ _. ⌜ now (entries .exit) ≡ sets (now (entries .entry)) (7 * i) (itemWords item) ⌝ }
 {

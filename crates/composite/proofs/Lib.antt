@@ -1,0 +1,4 @@
+pub mod BoxLaws
+pub mod Delivers
+pub mod ItemLaws
+pub mod TreeLaws

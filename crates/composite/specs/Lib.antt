@@ -1,0 +1,4 @@
+pub mod Boxes
+pub mod Children
+pub mod Delivers
+pub mod Trees

@@ -1,0 +1,144 @@
+// The tree of a composite, over the computed boxes of its children.
+use crate::children::computed_box;
+use bvh::core::Build;
+use bvh::core::BuildRefusal;
+use bvh::items::BvhItem;
+use math::words3::Words3;
+ghost use mathlib.Core.Path.{_≡_};
+ghost use Prim.Native.Nat.{_+_, _*_, _≤_};
+ghost use lib.ListN.{length};
+ghost use Rattle.bvh.specs.Entry.{outputs, lent, lengthsOf};
+ghost use Rattle.bvh.specs.Items.{absent};
+ghost use Rattle.bvh.proofs.ItemWords.{apart};
+ghost use Rattle.composite.specs.Trees.{childLimit, childItem, childItems, Answered};
+
+// Rule C3: a composite has a tree above so many children.
+pub const CHILD_LIMIT: usize = 5;
+
+// No tree, or what the build of one answers.
+pub enum CompositeTree {
+    NoTree,
+    Tree(Build),
+}
+
+fn absent() -> BvhItem
+    ensures { λ r. ⌜ r ≡ absent ⌝ }
+{
+    let zero = Words3 { x: 0, y: 0, z: 0 };
+    BvhItem {
+        present: 0,
+        min: zero,
+        max: zero,
+    }
+}
+
+// A child as an item of the build.
+fn item_of(children: &[u32], k: usize) -> BvhItem
+    requires { ⌜ 24 * k + 24 ≤ length (now children) ⌝ }
+    ensures { λ r. ⌜ r ≡ childItem (now (children .entry)) k ⌝ }
+{
+    let mark = children[24 * k];
+    if mark == 0 {
+        return absent();
+    }
+    let b = computed_box(children, k);
+    BvhItem {
+        present: mark,
+        min: math::words3::bits(b.min),
+        max: math::words3::bits(b.max),
+    }
+}
+
+// The words of the first k children's items.
+fn put_items(children: &[u32], n: usize, k: usize, entries: &mut [u32])
+    requires { ⌜ (24 * n ≤ length (now children)) × (k ≤ n) × (7 * k ≤ length (now entries)) ⌝ }
+    ensures { λ _. ⌜ now (entries .exit) ≡ apart (childItems (now (children .entry)) 0 n) (now (entries .entry)) k ⌝ }
+{
+    let mut i = 0;
+    while i < k {
+        bvh::entry::put_item(entries, i, item_of(children, i));
+        i += 1;
+    }
+}
+
+// The tree above so many children; else none, and no buffer is looked at. The work is lent in a build's six parts.
+fn tree_above(
+    limit: usize,
+    n: usize,
+    children: &[u32],
+    node_bytes: &mut [u8],
+    tree_bytes: &mut [u8],
+    order: &mut [u16],
+    entries: &mut [u32],
+    places: &mut [u32],
+    temp: &mut [u32],
+    stack: &mut [u32],
+    rows: &mut [u32],
+    centres: &mut [f32],
+) -> CompositeTree
+    ensures { λ r. ⌜ Answered limit n (now (children .entry))
+        (lengthsOf (outputs (now («node_bytes» .entry)) (now («tree_bytes» .entry)) (now (order .entry)))
+        (lent (now (entries .entry)) (now (places .entry)) (now (temp .entry)) (now (stack .entry)) (now (rows .entry)) (now (centres .entry)))) r
+        (outputs (now («node_bytes» .entry)) (now («tree_bytes» .entry)) (now (order .entry)))
+        (outputs (now («node_bytes» .exit)) (now («tree_bytes» .exit)) (now (order .exit))) ⌝ }
+{
+    if n <= limit {
+        return CompositeTree::NoTree;
+    }
+    if n > 32767 {
+        return CompositeTree::Tree(Build::Refused(BuildRefusal::TooManyEntries));
+    }
+    if children.len() < 24 * n {
+        return CompositeTree::Tree(Build::Refused(BuildRefusal::BufferTooShort));
+    }
+    put_items(children, n, bvh::entry::taken(n, entries.len()), entries);
+    CompositeTree::Tree(bvh::core::build_core(
+        n,
+        1,
+        entries,
+        node_bytes,
+        tree_bytes,
+        order,
+        places,
+        temp,
+        stack,
+        rows,
+        centres,
+    ))
+}
+
+// The tree of a composite of n children.
+pub fn composite_tree(
+    n: usize,
+    children: &[u32],
+    node_bytes: &mut [u8],
+    tree_bytes: &mut [u8],
+    order: &mut [u16],
+    entries: &mut [u32],
+    places: &mut [u32],
+    temp: &mut [u32],
+    stack: &mut [u32],
+    rows: &mut [u32],
+    centres: &mut [f32],
+) -> CompositeTree
+    ensures { λ r. ⌜ Answered childLimit n (now (children .entry))
+        (lengthsOf (outputs (now («node_bytes» .entry)) (now («tree_bytes» .entry)) (now (order .entry)))
+        (lent (now (entries .entry)) (now (places .entry)) (now (temp .entry)) (now (stack .entry)) (now (rows .entry)) (now (centres .entry)))) r
+        (outputs (now («node_bytes» .entry)) (now («tree_bytes» .entry)) (now (order .entry)))
+        (outputs (now («node_bytes» .exit)) (now («tree_bytes» .exit)) (now (order .exit))) ⌝ }
+{
+    tree_above(
+        CHILD_LIMIT,
+        n,
+        children,
+        node_bytes,
+        tree_bytes,
+        order,
+        entries,
+        places,
+        temp,
+        stack,
+        rows,
+        centres,
+    )
+}

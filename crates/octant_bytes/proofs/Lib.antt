@@ -1,0 +1,4 @@
+pub mod Examples
+mod Judging
+mod Laying
+pub mod Numbering
