@@ -55,13 +55,13 @@ rowWords n = 4 * n
 abbrev pub workWords : ℕ → ℕ
 workWords n = keyWords n + rowWords n + n + n + n
 
--- 01, octants, 2: three words a vertex, a word a vertex for each of eight lists, and the words to work in
+-- Rule O3 (01, octants, 2): three words a vertex, a word a vertex for each of eight lists, and the words to work in
 abbrev pub short : ℕ → Lengths → Bool
 short n l =
     ltb (l .vertices) (3 * n) || ltb (l .lists) (8 * n) || ltb (l .keys) (keyWords n) || ltb (l .rows) (rowWords n)
     || ltb (l .order) n || ltb (l .temp) n || ltb (l .marks) n
 
--- 01, octants: the checks in the order written.
+-- Rule O3 (01, octants): the checks in the order written.
 unfoldable pub answerOf : ℕ → Lengths → List ℕ → Octants
 answerOf n l ws =
     cond (ltb 32768 n) (Refused TooManyVertices)

@@ -94,7 +94,7 @@ sub-fits : (f : Format) (x y : Float) → T (fits f (sub f x y))
 unfolding sub
 sub-fits f x y = add-fits f x (neg y)
 
--- Rule O3 on one axis: the rounded test is one of order.
+-- Rule O1 on one axis: the rounded test is one of order.
 pub reaches-by-order : (falls : Bool) (a b : Float) → T (fits binary32 a) → T (fits binary32 b) → reaches (sign falls) a b ≡ orderReaches falls a b
 unfolding reaches ofBits neg
 reaches-by-order false a b A B = ap (le naught) (mul-one-self binary32 (sub binary32 b a) (sub-fits binary32 b a)) ∙ rising-all binary32 a b A B

@@ -1,4 +1,4 @@
--- Shadowing by three comparisons (rule O3), since a nearness is 0 or lies between the infinities'; and what can be said of the two
+-- Shadowing by three comparisons (rule O1), since a nearness is 0 or lies between the infinities'; and what can be said of the two
 -- numbers that a vertex has in z.
 use mathlib.Core.Path.{_≡_, refl, sym, ap, _∙_}
 use mathlib.Core.Bool.{Bool, true, false, not, cond, _&&_}
@@ -82,7 +82,7 @@ near-by-ranks a b k =
     turn false c true false z = refl
     turn false c false y z = refl
 
--- Rule O3: vertex i is shadowed by vertex j.
+-- Rule O1: vertex i is shadowed by vertex j.
 pub shadowed-by-ranks : (o : ℕ) (ws : List ℕ) (i j : ℕ)
     → shadowedIn (flipOf o) ws i j ≡ (leb (nearnessAt o ws j .x) (nearnessAt o ws i .x)
     && (leb (nearnessAt o ws j .y) (nearnessAt o ws i .y) && leb (castOf (nearnessAt o ws j)) (hideOf (nearnessAt o ws i))))

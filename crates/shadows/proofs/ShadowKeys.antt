@@ -1,4 +1,4 @@
--- Shadowing is a plain order of whole numbers (rule O3): the rounded test on an axis is one of the words' keys. By the order of floats, and by how keys stand to it.
+-- Shadowing is a plain order of whole numbers (rule O1): the rounded test on an axis is one of the words' keys. By the order of floats, and by how keys stand to it.
 use mathlib.Core.Path.{_≡_, refl, sym, ap, _∙_, subst}
 use mathlib.Core.Bool.{Bool, true, false, not, _&&_, _||_}
 use mathlib.Core.List.{List}
@@ -115,7 +115,7 @@ reaches-by-keys falls a b =
 
 -- ---- all three
 
--- Rule O3: a vertex shadows another exactly where its keys say so.
+-- Rule O1: a vertex shadows another exactly where its keys say so.
 pub shadowed-by-keys : (o : ℕ) (a b : Words3) → shadowedBy (flipOf o) (valuesOf a) (valuesOf b) ≡ shadowedByKeys o a b
 unfolding shadowedBy flipOf shadowedByKeys
 shadowed-by-keys o a b =

@@ -16,18 +16,18 @@ abbrev pub asFar : Bool → ℕ → ℕ → Bool
 asFar false k l = leb k l
 asFar true k l = leb l k
 
--- Rule O3: what can be shadowed is no NaN (key 0) and not at the far end; what can shadow is no NaN and not at the near end.
+-- Rule O1: what can be shadowed is no NaN (key 0) and not at the far end; what can shadow is no NaN and not at the near end.
 abbrev pub hideable : Bool → ℕ → Bool
 hideable falls k = not (eqb k 0) && not (eqb k (farEnd falls))
 
 abbrev pub caster : Bool → ℕ → Bool
 caster falls l = not (eqb l 0) && not (eqb l (farEnd (not falls)))
 
--- Rule O3 on one axis, of two keys
+-- Rule O1 on one axis, of two keys
 unfoldable pub keyReaches : Bool → ℕ → ℕ → Bool
 keyReaches falls k l = hideable falls k && (caster falls l && asFar falls k l)
 
--- Rule O3: shadowing, by keys alone.
+-- Rule O1: shadowing, by keys alone.
 unfoldable pub shadowedByKeys : ℕ → Words3 → Words3 → Bool
 unfolding keyReaches
 shadowedByKeys o a b =

@@ -35,14 +35,14 @@ hides t = insideOf t furthest
 abbrev pub casts : ℕ → Bool
 casts t = insideOf t nearest
 
--- Rule O3: what can be shadowed, and what can shadow.
+-- Rule O1: what can be shadowed, and what can shadow.
 unfoldable pub hideable : Words3 → Bool
 hideable a = hides (a .x) && (hides (a .y) && hides (a .z))
 
 unfoldable pub caster : Words3 → Bool
 caster b = casts (b .x) && (casts (b .y) && casts (b .z))
 
--- Rule O3, in one order: a is shadowed by b.
+-- Rule O1, in one order: a is shadowed by b.
 unfoldable pub nearShadowed : Words3 → Words3 → Bool
 unfolding hideable caster
 nearShadowed a b = hideable a && (caster b && (leb (b .x) (a .x) && (leb (b .y) (a .y) && leb (b .z) (a .z))))

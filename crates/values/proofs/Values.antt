@@ -4,7 +4,7 @@ use mathlib.Core.Bool.{false}
 use mathlib.Core.List.{List, [], _∷_}
 use Prim.Native.Nat.{ℕ}
 use lib.IntN.{pos, negsuc}
-use lib.Ieee.{nan, inf, neg, lt, isNan, toSigned, binary32, ofBits, toBits}
+use lib.Ieee.{nan, inf, neg, sub, mul, lt, le, isNan, toSigned, binary32, ofBits, toBits}
 use Rattle.base.specs.LittleEndian.{littleEndian}
 use Rattle.float32.specs.Casts.{shortOf, clampOf, truncatedOf, vertexOf}
 use Rattle.float32.specs.SquareRoot.{sqrtOf}
@@ -15,6 +15,9 @@ use Rattle.corners.specs.Corners.{none, nextOf}
 use Rattle.polygon.specs.Halves.{fourBytes, halvesBytes}
 use Rattle.polygon.specs.Polygons.{wordOr, triangleHalves, polygonBytes}
 use Rattle.polygon.specs.declared.Polygon.the-variants.{Triangle}
+use Rattle.shadows.specs.Shadows.{flipOf, reaches, shadowedBy}
+use Rattle.shadows.specs.Kept.{admit as keep}
+use Rattle.shadows.specs.Octants.{shadowedIn, octantOf}
 
 -- to_short of 40000 is -25536
 pub short-40000 : shortOf (ofBits binary32 0x471c_4000) ≡ negsuc 25535
@@ -82,3 +85,22 @@ list-4 = refl
 pub indices-4 : indicesOf materials-4 ≡ 0 ∷ 0 ∷ 0 ∷ 1 ∷ []
 unfolding valueAt admit
 indices-4 = refl
+
+-- vertices (0,0,0), (1,1,1), (1,1,1) as words
+abbrev vertices-3 : List ℕ
+vertices-3 = 0 ∷ 0 ∷ 0 ∷ 0x3f80_0000 ∷ 0x3f80_0000 ∷ 0x3f80_0000 ∷ 0x3f80_0000 ∷ 0x3f80_0000 ∷ 0x3f80_0000 ∷ []
+
+-- octant 0 holds 1
+pub octant-0 : octantOf 0 vertices-3 3 ≡ 1 ∷ []
+unfolding keep shadowedIn shadowedBy reaches flipOf ofBits sub mul neg le
+octant-0 = refl
+
+-- octant 7 holds 0
+pub octant-7 : octantOf 7 vertices-3 3 ≡ 0 ∷ []
+unfolding keep shadowedIn shadowedBy reaches flipOf ofBits sub mul neg le
+octant-7 = refl
+
+-- octant 1 holds 0, 1
+pub octant-1 : octantOf 1 vertices-3 3 ≡ 0 ∷ 1 ∷ []
+unfolding keep shadowedIn shadowedBy reaches flipOf ofBits sub mul neg le
+octant-1 = refl
