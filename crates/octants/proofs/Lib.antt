@@ -1,3 +1,4 @@
+pub mod AnswerLaws
 mod EndLaws
 mod ListLaws
 mod PartLaws

@@ -1,2 +1,3 @@
+pub mod Answers
 pub mod Octants
 pub mod steps
