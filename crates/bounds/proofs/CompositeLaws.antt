@@ -20,7 +20,7 @@ use Rattle.answers.specs.declared.trees.BuildAnswer.{BuildAnswer}
 use Rattle.answers.specs.declared.walks.WalkAnswer.{WalkAnswer}
 use Rattle.bounds.specs.Composites.{compositeAnswer, CompositeAnswered}
 use Rattle.bounds.specs.PointThree.{WalkedOver, PointThree}
-use Rattle.answers.specs.Trees.{refusedBy, treeValues, buildAnswer, Answers}
+use Rattle.answers.specs.Trees.{refusedBy, buildAnswer, Answers}
 use Rattle.bounds.proofs.PointThree.{point-three}
 
 module _ (n : ℕ) (ws : List ℕ) (l : Lengths) (r : BuildAnswer) (before after : Outputs) where

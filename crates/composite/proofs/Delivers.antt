@@ -1,9 +1,9 @@
 -- Point 3 of the request for a composite's tree, from the contracts of `composite_tree` and of a walk alone: a composite's tree is a build at threshold 1
 -- over its children's items, so tree's PointThree speaks of it, and a position is a child's place.
-use Prim.Native.Nat.{ℕ, _*_, _≤_, _<_}
+use Prim.Native.Nat.{ℕ, _*_, _<_}
 use native.Mathlib.Omega.{arith}
 use mathlib.Core.Bool.{Bool, true, false, cond}
-use mathlib.Core.List.{List, [], _∷_, _++_, List·Memᴰ}
+use mathlib.Core.List.{List, [], _∷_, List·Memᴰ}
 use mathlib.Core.Path.{_≡_, refl, sym, ap, ap₂, _∙_, subst}
 use lib.Dec.{ltb}
 use lib.ListN.{length, take, drop}
@@ -12,7 +12,7 @@ use Rattle.base.specs.Lists.{occurrences}
 use Rattle.math.specs.declared.aabb.Aabb.{Aabb}
 use Rattle.bvh.specs.Build as B
 use Rattle.bvh.specs.Entry as E
-use Rattle.bvh.specs.Build.{Entries, refusalNumber}
+use Rattle.bvh.specs.Build.{refusalNumber}
 use Rattle.bvh.specs.Entry.{Outputs, entriesOf}
 use Rattle.bvh.specs.declared.core.Build.{Build}
 use Rattle.bvh.specs.declared.core.Build.the-variants.{Built, Refused}

@@ -5,7 +5,7 @@ use native.Mathlib.Nat.{add-zero}
 use native.Mathlib.Decide.{decLe}
 use native.Mathlib.Omega.{arith}
 use mathlib.Core.Bool.{Bool, true, false, cond, false≢true}
-use mathlib.Core.List.{List, [], _∷_, _++_, List·Memᴰ, List·Memᴰ·head, List·Memᴰ·tail}
+use mathlib.Core.List.{List, _∷_, List·Memᴰ, List·Memᴰ·head, List·Memᴰ·tail}
 use mathlib.Core.Logic.{⊎-elim}
 use mathlib.Core.Path.{_≡_, refl, sym, ap, _∙_, subst}
 use lib.Ieee.{binary32}
@@ -79,7 +79,8 @@ module _ (ws : List ℕ) where
   mark-kept k = by (isPresent ws k) refl
     where
       by : (q : Bool) → isPresent ws k ≡ q
-          → isMarked ((cond q (record { present = markOf ws k; min = bitsOf (computedBox ws k .min); max = bitsOf (computedBox ws k .max) }) absent) .present) ≡ q
+          → isMarked
+          ((cond q (record { present = markOf ws k; min = bitsOf (computedBox ws k .min); max = bitsOf (computedBox ws k .max) }) absent) .present) ≡ q
       by true e = e
       by false e = refl
 

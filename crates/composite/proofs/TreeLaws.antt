@@ -1,5 +1,5 @@
 -- What `tree_above` answers, case by case. Where the children are put into words, the build over the words is the build over their items (bvh EntryWords).
-use Prim.Native.Nat.{ℕ, _+_, _*_, _≤_, _<_}
+use Prim.Native.Nat.{ℕ, _*_, _≤_, _<_}
 use mathlib.Core.List.{List}
 use mathlib.Core.Path.{_≡_, refl, sym, ap, _∙_, subst}
 use borrow.Author.Tests.{lt-ltb, le-ltb}
@@ -7,7 +7,7 @@ use lib.Ieee.{Float}
 use lib.ListN.{length, take}
 use Rattle.bvh.specs.Build.{answerOf}
 use Rattle.bvh.specs.Entry as E
-use Rattle.bvh.specs.Entry.{Outputs, entriesIn, entriesOf, takenOf, lent, lengthsOf}
+use Rattle.bvh.specs.Entry.{Outputs, entriesIn, takenOf, lent, lengthsOf}
 use Rattle.bvh.specs.declared.core.Build.{Build}
 use Rattle.bvh.specs.declared.core.Build.the-variants.{Refused}
 use Rattle.bvh.specs.declared.core.BuildRefusal.the-variants.{TooManyEntries, BufferTooShort}

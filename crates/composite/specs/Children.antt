@@ -7,7 +7,7 @@ use lib.Dec.{ltb}
 use lib.Ieee.{binary32, ofBits}
 use lib.ListN.{length, getD}
 use Rattle.bvh.specs.Items.{isMarked}
-use Rattle.entries.specs.Boxes.{pointAt, boxFrom}
+use Rattle.entries.specs.Boxes.{boxFrom}
 use Rattle.entries.specs.declared.boxes.BoxWords.{BoxWords}
 use Rattle.math.specs.declared.aabb.Aabb.{Aabb}
 use Rattle.math.specs.declared.mat4.Mat4.{Mat4}

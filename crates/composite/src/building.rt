@@ -6,10 +6,10 @@ use bvh::items::BvhItem;
 use math::words3::Words3;
 ghost use mathlib.Core.Path.{_≡_};
 ghost use Prim.Native.Nat.{_+_, _*_, _≤_};
-ghost use lib.ListN.{length};
+ghost use lib.ListN.{length, take};
+ghost use Rattle.base.specs.Lists.{over};
 ghost use Rattle.bvh.specs.Entry.{outputs, lent, lengthsOf};
-ghost use Rattle.bvh.specs.Items.{absent};
-ghost use Rattle.bvh.proofs.ItemWords.{apart};
+ghost use Rattle.bvh.specs.Items.{absent, wordsOf};
 ghost use Rattle.composite.specs.Trees.{childLimit, childItem, childItems, Answered};
 
 // Rule C3: a composite has a tree above so many children.
@@ -52,7 +52,7 @@ fn item_of(children: &[u32], k: usize) -> BvhItem
 // The words of the first k children's items.
 fn put_items(children: &[u32], n: usize, k: usize, entries: &mut [u32])
     requires { ⌜ (24 * n ≤ length (now children)) × (k ≤ n) × (7 * k ≤ length (now entries)) ⌝ }
-    ensures { λ _. ⌜ now (entries .exit) ≡ apart (childItems (now (children .entry)) 0 n) (now (entries .entry)) k ⌝ }
+    ensures { λ _. ⌜ now (entries .exit) ≡ over (wordsOf (take k (childItems (now (children .entry)) 0 n))) (now (entries .entry)) ⌝ }
 {
     let mut i = 0;
     while i < k {

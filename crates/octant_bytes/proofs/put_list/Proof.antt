@@ -1,9 +1,6 @@
 -- `put_list`, by the invariant `Putting`.
 use Rattle.octant_bytes.proofs.put_list.Statement.{statement}
 use Rattle.octant_bytes.proofs.put_list.Tie as tie
-use Rattle.octant_bytes.proofs.put_list.Reads as reads
-use Rattle.octant_bytes.proofs.put_list.Lts as lts
-use Rattle.octant_bytes.proofs.put_word.Reads as put-word-reads
 use Prim.Native.Nat.{_-_, _≤_}
 use lib.ListN.{length}
 use Rattle.octant_bytes.proofs.Laying.{Putting, start, one-more, all-put}
@@ -15,55 +12,48 @@ Inv-loop out₀ at list n i₀ out i = (Putting list out₀ out at i) × (i ≤ 
 abbrev μ-loop : tie.MeasureT-loop
 μ-loop out₀ at list n i₀ out i = length list - i
 
--- src/lib.rt:141:5
 loop-holds : tie.Need-loop-holds Inv-loop μ-loop
 loop-holds c = (start _ _ _, omega arith)
 
--- src/lib.rt:142:28
 mul-put-word : tie.Need-mul-put-word Inv-loop μ-loop
 mul-put-word c = omega arith
 
--- src/lib.rt:142:23
 add-put-word : tie.Need-add-put-word Inv-loop μ-loop
 add-put-word c = omega arith
 
--- src/lib.rt:142:35
 mul-put-word-2 : tie.Need-mul-put-word-2 Inv-loop μ-loop
 mul-put-word-2 c = omega arith
 
--- src/lib.rt:142:35
 shared-slice-read-put-word : tie.Need-shared-slice-read-put-word Inv-loop μ-loop
 shared-slice-read-put-word c = omega arith
 
--- src/lib.rt:142:9
 put-word-requires : tie.Need-put-word-requires Inv-loop μ-loop
-put-word-requires c κs = omega (arith, c .before .before .before .loop .inv .0 .len, c .before .before .before .before .before .before .pre)
+put-word-requires c κs =
+    let at-loop = c .before .before .before in
+    let at-start = at-loop .before .before .before in
+    omega (arith, at-loop .loop .inv .0 .len, at-start .pre)
 
--- src/lib.rt:143:9
 add-i : tie.Need-add-i Inv-loop μ-loop
 add-i c = omega arith
 
--- src/lib.rt:141:5
 loop-less : tie.Need-loop-less Inv-loop μ-loop
 loop-less c = omega arith
 
--- src/lib.rt:141:5
 loop-again : tie.Need-loop-again Inv-loop μ-loop
-loop-again c = (one-more _ _ _ _ _ _ (c .before .before .before .before .before .before .loop .inv .0) (c .before .before .before .before .before .loop-test .taken) (c .before .before .put-word .ensures), omega arith)
+loop-again c =
+    let at-loop-test = c .before .before .before .before .before in
+    let at-loop = at-loop-test .before in
+    (one-more _ _ _ _ _ _ (at-loop .loop .inv .0) (at-loop-test .loop-test .taken) (c .before .before .put-word .ensures), omega arith)
 
--- src/lib.rt:145:10
 mul-result : tie.Need-mul-result Inv-loop μ-loop
 mul-result c = omega arith
 
--- src/lib.rt:145:5
 add-result : tie.Need-add-result Inv-loop μ-loop
 add-result c = omega arith
 
--- src/lib.rt:135:1
 same-length : tie.Need-same-length Inv-loop μ-loop
 same-length c = c .before .loop .inv .0 .len
 
--- src/lib.rt:135:1
 returns : tie.Need-returns Inv-loop μ-loop
 returns c = all-put _ _ _ _ _ (c .before .loop .inv .0) (omega arith)
 

@@ -1,30 +1,24 @@
 -- `too_many`: the tests are the definition's, in its order.
 use Rattle.octant_bytes.proofs.too_many.Statement.{statement}
 use Rattle.octant_bytes.proofs.too_many.Tie as tie
-use Rattle.octant_bytes.proofs.too_many.Reads as reads
-use Rattle.octant_bytes.proofs.too_many.Lts as lts
 use mathlib.Core.Path.{sym}
 use mathlib.Core.Bool.{or-false}
 use borrow.Author.Tests.{lt-ltb, le-ltb}
 
--- src/lib.rt:42:9
 returns : tie.Need-returns
 returns c = rw (lt-ltb _ _ (c .if1 .taken))
 
--- src/lib.rt:45:9
 returns-2 : tie.Need-returns-2
 returns-2 c =
     let c1 = c .before .before in
     rw (le-ltb _ _ (c1 .if1 .left), lt-ltb _ _ (c .if2 .taken))
 
--- src/lib.rt:48:9
 returns-3 : tie.Need-returns-3
 returns-3 c =
     let c2 = c .before .before in
     let c1 = c2 .before .before in
     rw (le-ltb _ _ (c1 .if1 .left), le-ltb _ _ (c2 .if2 .left), lt-ltb _ _ (c .if3 .taken))
 
--- src/lib.rt:51:9
 returns-4 : tie.Need-returns-4
 returns-4 c =
     let c3 = c .before .before in
@@ -32,7 +26,6 @@ returns-4 c =
     let c1 = c2 .before .before in
     rw (le-ltb _ _ (c1 .if1 .left), le-ltb _ _ (c2 .if2 .left), le-ltb _ _ (c3 .if3 .left), lt-ltb _ _ (c .if4 .taken))
 
--- src/lib.rt:54:9
 returns-5 : tie.Need-returns-5
 returns-5 c =
     let c4 = c .before .before in
@@ -41,7 +34,6 @@ returns-5 c =
     let c1 = c2 .before .before in
     rw (le-ltb _ _ (c1 .if1 .left), le-ltb _ _ (c2 .if2 .left), le-ltb _ _ (c3 .if3 .left), le-ltb _ _ (c4 .if4 .left), lt-ltb _ _ (c .if5 .taken))
 
--- src/lib.rt:57:9
 returns-6 : tie.Need-returns-6
 returns-6 c =
     let c5 = c .before .before in
@@ -49,9 +41,16 @@ returns-6 c =
     let c3 = c4 .before .before in
     let c2 = c3 .before .before in
     let c1 = c2 .before .before in
-    rw (le-ltb _ _ (c1 .if1 .left), le-ltb _ _ (c2 .if2 .left), le-ltb _ _ (c3 .if3 .left), le-ltb _ _ (c4 .if4 .left), le-ltb _ _ (c5 .if5 .left), lt-ltb _ _ (c .if6 .taken))
+    rw (
+      le-ltb _ _ (c1 .if1 .left),
+      le-ltb _ _ (c2 .if2 .left),
+      le-ltb _ _ (c3 .if3 .left),
+      le-ltb _ _ (c4 .if4 .left),
+      le-ltb _ _ (c5 .if5 .left),
+      lt-ltb
+          _ _ (c .if6 .taken),
+    )
 
--- src/lib.rt:60:9
 returns-7 : tie.Need-returns-7
 returns-7 c =
     let c6 = c .before .before in
@@ -60,9 +59,17 @@ returns-7 c =
     let c3 = c4 .before .before in
     let c2 = c3 .before .before in
     let c1 = c2 .before .before in
-    rw (le-ltb _ _ (c1 .if1 .left), le-ltb _ _ (c2 .if2 .left), le-ltb _ _ (c3 .if3 .left), le-ltb _ _ (c4 .if4 .left), le-ltb _ _ (c5 .if5 .left), le-ltb _ _ (c6 .if6 .left), lt-ltb _ _ (c .if7 .taken))
+    rw (
+      le-ltb _ _ (c1 .if1 .left),
+      le-ltb _ _ (c2 .if2 .left),
+      le-ltb _ _ (c3 .if3 .left),
+      le-ltb _ _ (c4 .if4 .left),
+      le-ltb _ _ (c5 .if5 .left),
+      le-ltb
+          _ _ (c6 .if6 .left),
+      lt-ltb _ _ (c .if7 .taken),
+    )
 
--- src/lib.rt:38:1
 returns-8 : tie.Need-returns-8
 returns-8 c =
     let c7 = c .before in
@@ -72,7 +79,16 @@ returns-8 c =
     let c3 = c4 .before .before in
     let c2 = c3 .before .before in
     let c1 = c2 .before .before in
-    rw (le-ltb _ _ (c1 .if1 .left), le-ltb _ _ (c2 .if2 .left), le-ltb _ _ (c3 .if3 .left), le-ltb _ _ (c4 .if4 .left), le-ltb _ _ (c5 .if5 .left), le-ltb _ _ (c6 .if6 .left), le-ltb _ _ (c7 .if7 .left)) (sym (or-false _))
+    rw (
+      le-ltb _ _ (c1 .if1 .left),
+      le-ltb _ _ (c2 .if2 .left),
+      le-ltb _ _ (c3 .if3 .left),
+      le-ltb _ _ (c4 .if4 .left),
+      le-ltb _ _ (c5 .if5 .left),
+      le-ltb
+          _ _ (c6 .if6 .left),
+      le-ltb _ _ (c7 .if7 .left),
+    ) (sym (or-false _))
 
 pub too-many-spec : {M : Type 1} → statement M
 too-many-spec =

@@ -5,7 +5,7 @@ use mathlib.Core.Path.{_≡_}
 use lib.ListN.{length}
 use lib.Seq.{sets}
 use Rattle.octant_bytes.specs.declared.Counts.{Counts}
-use Rattle.octant_bytes.specs.Bytes.{allOf, listBytes, listsBytes}
+use Rattle.octant_bytes.specs.Bytes.{listBytes}
 use Rattle.base.specs.Every.{Every}
 use Rattle.base.specs.LittleEndian.{littleEndian}
 

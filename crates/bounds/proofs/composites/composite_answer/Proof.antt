@@ -2,32 +2,22 @@
 use borrow.Author.Needs.{needs}
 use Rattle.bounds.proofs.composites.composite_answer.Statement.{statement}
 use Rattle.bounds.proofs.composites.composite_answer.Tie as tie
-use Rattle.bounds.proofs.composites.composite_answer.Reads as reads
-use Rattle.bounds.proofs.composites.composite_answer.Lts as lts
-use Rattle.bounds.proofs.build_answer.Reads as build-answer-reads
-use Rattle.bounds.proofs.refused.Reads as refused-reads
 
--- src/composites.rt:35:34
 enum-told : tie.Need-enum-told
 enum-told c = search needs
 
--- src/composites.rt:35:34
 refused-requires : tie.Need-refused-requires
 refused-requires c κs = search needs
 
--- src/composites.rt:36:29
 enum-known-t : tie.Need-enum-known-t
 enum-known-t c = search needs
 
--- src/composites.rt:36:35
 build-answer-requires : tie.Need-build-answer-requires
 build-answer-requires c κs = search needs
 
--- src/composites.rt:31:1
 returns : tie.Need-returns
 returns c = rw (c .before .enum-told .given .1) (c .refused .ensures)
 
--- src/composites.rt:31:1
 returns-2 : tie.Need-returns-2
 returns-2 c = rw (c .before .before .t .given .1) (c .build-answer .ensures)
 

@@ -2,31 +2,22 @@
 use borrow.Author.Needs.{needs}
 use Rattle.composite.proofs.children.box_of.Statement.{statement}
 use Rattle.composite.proofs.children.box_of.Tie as tie
-use Rattle.composite.proofs.children.box_of.Reads as reads
-use Rattle.composite.proofs.children.box_of.Lts as lts
-use Rattle.composite.proofs.children.point_at.Reads as point-at-reads
 
--- src/children.rt:30:14
 mul-at : tie.Need-mul-at
 mul-at c = search needs
 
--- src/children.rt:30:14
 add-at : tie.Need-add-at
 add-at c = search needs
 
--- src/children.rt:32:14
 point-at-requires : tie.Need-point-at-requires
 point-at-requires c κs = search needs
 
--- src/children.rt:33:33
 add-point-at : tie.Need-add-point-at
 add-point-at c = search needs
 
--- src/children.rt:33:14
 point-at-requires-2 : tie.Need-point-at-requires-2
 point-at-requires-2 c κs = search needs
 
--- src/children.rt:26:1
 returns : tie.Need-returns
 returns c = λ i. record { min = c .before .point-at .ensures i; max = c .point-at2 .ensures i }
 
