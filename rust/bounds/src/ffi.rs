@@ -19,8 +19,8 @@ pub struct Aabb {
     pub max: Vec3,
 }
 
-/// `bounds_aabb` as an answer, by its six floats. Corners are copied eight bytes and four: a copy that crosses two of the callee's
-/// stores waits for both.
+/// `bounds_aabb` as an answer, by its six floats: as two corners it is copied by eight bytes and four, and a copy that
+/// crosses two of the callee's stores waits for both.
 #[repr(C)]
 pub struct Corners(pub [f32; 6]);
 
