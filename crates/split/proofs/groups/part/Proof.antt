@@ -10,6 +10,10 @@ use Rattle.entries.specs.Boxes.{boxAt}
 use Rattle.split.specs.Rule.{above}
 use Rattle.split.proofs.Steps.{parted-united, nowhere-united}
 
+-- the function's entry, from after the partition
+abbrev entry : tie.After-partition → tie.Start
+entry c = c .before .before .before .before .before .before .before .before .before .before
+
 -- the test of the groups
 abbrev test-of : tie.Start → ℕ → Bool
 test-of g = above (boxAt (g .args .entries .now)) (g .args .avg) (g .args .axis)
@@ -30,8 +34,9 @@ partition-requires c κs = search needs
 
 unite-requires : tie.Need-unite-requires
 unite-requires c κs =
-    let p = c .before .before .before .before .before .before .partition in
-    let g = c .before .before .before .before .before .before .before .before .before .before .before .before .before .before .before .before in
+    let a = c .before .before .before .before .before .before in
+    let p = a .partition in
+    let g = entry a in
     let few = length-sift (test-of g) (g .args .places .now) in (
       omega (arith, p .kept .0, p .kept .1 .0, g .pre .1),
       omega (arith, p .kept .0, p .ensures .count, few),
@@ -46,8 +51,9 @@ same-length-3 c = search needs
 returns-2 : tie.Need-returns-2
 returns-2 c =
     let u = c .before .before .before .before .unite in
-    let p = c .before .before .before .before .before .before .before .before .before .before .before .partition in
-    let g = c .before .before .before .before .before .before .before .before .before .before .before .before .before .before .before .before .before .before .before .before .before in
+    let a = c .before .before .before .before .before .before .before .before .before .before .before in
+    let p = a .partition in
+    let g = entry a in
     let at = boxAt (g .args .entries .now) in
     parted-united at (g .args .places .now) (test-of g) (p .last .0) (p .last .1 .0) (u .last .0) (p .result) (u .result) (p .kept .0) (p .ensures)
     (u .ensures at)
