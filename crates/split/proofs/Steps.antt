@@ -1,13 +1,13 @@
 -- The steps of `divide_by` lead to the rule: the partition, the groups united, and the sort where a group is empty.
-use Prim.Native.Nat.{ℕ, _+_, _-_, _/_, _≤_, _<_}
+use Prim.Native.Nat.{ℕ, suc, _+_, _-_, _/_, _≤_, _<_}
 use native.Mathlib.Omega.{arith}
 use mathlib.Core.Path.{_≡_, refl, sym, ap, subst, _∙_}
-use mathlib.Core.Bool.{Bool, true, false, cond, _||_}
+use mathlib.Core.Bool.{Bool, true, false, not, cond, _||_}
 use mathlib.Core.List.{List, [], _∷_, _++_, append-nil}
 use lib.Dec.{eqb}
 use lib.ListN.{length, take, drop, length-append}
 use borrow.Author.Tests.{lt-ltb, le-ltb, eqb-true, eqb-false, ne-eqb}
-use Rattle.base.specs.Lists.{Within}
+use Rattle.base.specs.Lists.{sift, Within}
 use Rattle.base.proofs.ListLaws.{length-both}
 use Rattle.base.proofs.Truth.{neither, either-second, cond-both, cond-through}
 use Rattle.base.proofs.WithinLaws.{within-append}
@@ -18,8 +18,16 @@ use Rattle.entries.specs.Average.{averageOf}
 use Rattle.box_sort.specs.Sorted.{sortBoxes}
 use Rattle.split.specs.declared.groups.Counts.{Counts}
 use Rattle.split.specs.Rule.{above, axisOf, chosen, one, two, stuck, groupOne, groupTwo, twoLeads, firstOf, secondOf, Divided}
-use Rattle.split.specs.steps.Groups.{countsOf, axisBy, Parted, LeaderFirst, Settled}
+use Rattle.split.specs.steps.Groups.{countsOf, axisBy, Nowhere, Parted, LeaderFirst, Settled}
 use Rattle.split.proofs.DivideLaws.{divide-total, divide-some-first, divide-some-second}
+
+-- a list of which none passes
+nowhere : (test : ℕ → Bool) (ps : List ℕ) → Nowhere test ps → (sift test ps ≡ []) × (sift (λ p. not (test p)) ps ≡ ps)
+nowhere test [] w = (refl, refl)
+nowhere test (p ∷ ps) w =
+    let e = w .fails 0 (omega arith) in
+    let n = nowhere test ps (record { fails = λ k h. w .fails (suc k) (omega arith) }) in
+    (rw e (n .0), rw e (ap (λ (l : List ℕ). p ∷ l) (n .1)))
 
 module _ (at : ℕ → BoxWords) where
   -- ---- two groups united
@@ -75,11 +83,20 @@ module _ (at : ℕ → BoxWords) where
     unfolding chosen axisOf
     chosen-by avg c a e f g = rw (g, f, e)
 
-    pub parted-united : (u v w : List ℕ) (k r : ℕ) → length u ≡ length ps → Parted (chosen at ps) ps u v k
-        → LeaderFirst at (take k u) (take (length u - k) v) w r → LeaderFirst at (one at ps) (two at ps) w r
-    parted-united u v w k r e p l =
-        subst (λ (g : List ℕ). LeaderFirst at (one at ps) g w r) (ap (λ (n : ℕ). take (n - k) v) e ∙ p .others)
+    pub parted-united : (test : ℕ → Bool) (u v w : List ℕ) (k r : ℕ) → length u ≡ length ps → Parted test ps u v k
+        → LeaderFirst at (take k u) (take (length u - k) v) w r → LeaderFirst at (sift test ps) (sift (λ p. not (test p)) ps) w r
+    parted-united test u v w k r e p l =
+        subst (λ (g : List ℕ). LeaderFirst at (sift test ps) g w r) (ap (λ (n : ℕ). take (n - k) v) e ∙ p .others)
         (subst (λ (g : List ℕ). LeaderFirst at g (take (length u - k) v) w r) (p .passed) l)
+
+    -- where none passes, all are in the second group, which leads
+    pub nowhere-united : (test : ℕ → Bool) → 0 < length ps → Nowhere test ps
+        → LeaderFirst at (sift test ps) (sift (λ p. not (test p)) ps) ps (length ps)
+    unfolding twoLeads
+    nowhere-united test h w =
+        let n = nowhere test ps w in
+        let b = lt-ltb 0 (length ps) h in
+        rw (n .0, n .1) (record { list = rw (b, append-nil); count = rw b })
 
     leads-divided : (w : List ℕ) (r : ℕ) → 2 ≤ length ps → LeaderFirst at (groupOne at ps) (groupTwo at ps) w r → Divided at ps w r
     unfolding firstOf secondOf

@@ -56,8 +56,7 @@ fn divide_by(
 {
     let counts = crate::groups::count_below(entries, centres, places, avg);
     let axis = crate::groups::choose_axis(counts);
-    let k = crate::groups::partition(places, temp, entries, centres, avg, axis);
-    let first = crate::groups::unite(places, temp, k);
+    let first = crate::groups::part(places, temp, entries, centres, avg, axis, counts);
     settle(places, temp, entries, first)
 }
 

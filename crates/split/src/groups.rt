@@ -2,6 +2,7 @@
 use base::numbers::Place;
 use math::axis::Axis;
 use math::vec3::Vec3;
+ghost use mathlib.Core.Bool.{true, not};
 ghost use mathlib.Core.Path.{_≡_};
 ghost use mathlib.Core.List.{List};
 ghost use Prim.Native.Nat.{ℕ, _+_, _-_, _*_, _≤_, _<_};
@@ -10,10 +11,10 @@ ghost use lib.Seq.{paste};
 ghost use lib.Ieee.{lt};
 ghost use Rattle.entries.specs.declared.boxes.BoxWords.{BoxWords};
 ghost use Rattle.entries.specs.Boxes.{boxAt};
-ghost use Rattle.base.specs.Lists.{oneIf, Within};
+ghost use Rattle.base.specs.Lists.{oneIf, sift, Within};
 ghost use Rattle.entries.specs.Kept.{Kept};
 ghost use Rattle.split.specs.Rule.{above, offset, twoLeads};
-ghost use Rattle.split.specs.steps.Groups.{countsOf, axisBy, stepOf, passes, Parted, LeaderFirst};
+ghost use Rattle.split.specs.steps.Groups.{countsOf, axisBy, stepOf, passes, Nowhere, Parted, LeaderFirst};
 
 // How many centres are below the average, on each axis, and how many there are.
 pub struct Counts {
@@ -164,4 +165,64 @@ pub fn unite(places: &mut [u32], temp: &mut [u32], k: usize) -> usize
     }
     paste(places, k, temp, m);
     k
+}
+
+// Whether no place's centre is above the average on the axis.
+fn none_above(places: &[u32], entries: &[u32], centres: &[f32], avg: Vec3, axis: Axis) -> bool
+    requires { ⌜ (Within (length (now entries)) (now places)) × (Kept (now entries) (now centres)) ⌝ }
+    ensures { λ r. ⌜ (r ≡ true → Nowhere (above (boxAt (now (entries .entry))) avg axis) (now (places .entry))) ⌝ }
+{
+    let step = step_of(axis);
+    let cut = math::axis::coordinate(axis, avg);
+    let mut i = 0;
+    while i < places.len() {
+        if one_if_above(entries, centres, Place(places[i]), step, cut) > 0 {
+            return false;
+        }
+        i += 1;
+    }
+    true
+}
+
+// Whether it is seen that no centre is above the average. Where some of x, and not all, are below it, nobody looks: such a list is
+// hardly ever without one above.
+fn seen_none_above(
+    places: &[u32],
+    entries: &[u32],
+    centres: &[f32],
+    avg: Vec3,
+    axis: Axis,
+    counts: Counts,
+) -> bool
+    requires { ⌜ (Within (length (now entries)) (now places)) × (Kept (now entries) (now centres)) ⌝ }
+    ensures { λ r. ⌜ (r ≡ true → Nowhere (above (boxAt (now (entries .entry))) avg axis) (now (places .entry))) ⌝ }
+{
+    if counts.x > 0 && counts.x < counts.all {
+        return false;
+    }
+    none_above(places, entries, centres, avg, axis)
+}
+
+// The group above the average and the others, the group that leads first, with `temp` to work in; how many it has. Where none is
+// above, as of equal and of nested boxes, all stay where they are.
+pub fn part(
+    places: &mut [u32],
+    temp: &mut [u32],
+    entries: &[u32],
+    centres: &[f32],
+    avg: Vec3,
+    axis: Axis,
+    counts: Counts,
+) -> usize
+    requires { ⌜ (0 < length (now places)) × (length (now places) ≤ length (now temp)) × (Within (length (now entries)) (now places))
+        × (Kept (now entries) (now centres)) ⌝ }
+    ensures { λ r. ⌜ LeaderFirst (boxAt (now (entries .entry)))
+        (sift (above (boxAt (now (entries .entry))) avg axis) (now (places .entry)))
+        (sift (λ p. not (above (boxAt (now (entries .entry))) avg axis p)) (now (places .entry))) (now (places .exit)) r ⌝ }
+{
+    if seen_none_above(places, entries, centres, avg, axis, counts) {
+        return places.len();
+    }
+    let k = partition(places, temp, entries, centres, avg, axis);
+    unite(places, temp, k)
 }

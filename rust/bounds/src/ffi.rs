@@ -19,6 +19,11 @@ pub struct Aabb {
     pub max: Vec3,
 }
 
+/// `bounds_aabb` as an answer, by its six floats: as two corners it is copied by eight bytes and four, and a copy that
+/// crosses two of the callee's stores waits for both.
+#[repr(C)]
+pub struct Corners(pub [f32; 6]);
+
 /// `bounds_words3`.
 #[derive(Clone, Copy)]
 #[repr(C)]
@@ -125,7 +130,7 @@ unsafe extern "C" {
     pub safe fn bounds_cmp_vec3(a: Vec3, b: Vec3) -> i32; // cmp_f32 on each axis
     pub safe fn bounds_transform_point(m: Mat4, p: Vec3) -> Vec4; // sixteen floats are the header's four rows of four
     pub safe fn bounds_transform_vector(m: Mat4, v: Vec3) -> Vec3; // likewise
-    pub safe fn bounds_transform_box(b: Aabb, m: Mat4) -> Aabb; // likewise; a fourth coordinate of 0 gives infinities
+    pub safe fn bounds_transform_box(b: Aabb, m: Mat4) -> Corners; // likewise; a fourth coordinate of 0 gives infinities
 
     pub safe fn bounds_work_len(entries: u32) -> u64; // any number; 30 of them and 8 more stay below 2^64
 

@@ -303,5 +303,5 @@ pub fn cmp_vec3(a: Vec3, b: Vec3) -> Ordering {
 #[inline]
 pub fn transform_box(min: Vec3, max: Vec3, m: &Mat4) -> (Vec3, Vec3) {
     let b = ffi::bounds_transform_box(Aabb { min, max }, *m);
-    (b.min, b.max)
+    (Vec3::new(b.0[0], b.0[1], b.0[2]), Vec3::new(b.0[3], b.0[4], b.0[5]))
 }
