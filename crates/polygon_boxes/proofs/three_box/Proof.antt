@@ -1,38 +1,34 @@
--- `three_box` meets its contract: what its calls ensure, one after the other.
+-- `three_box`: both ways give the box.
 use borrow.Author.Needs.{needs}
 use Rattle.polygon_boxes.proofs.three_box.Statement.{statement}
 use Rattle.polygon_boxes.proofs.three_box.Tie as tie
-use mathlib.Core.Path.{ap, _∙_}
-use Rattle.math.specs.Stored.{vminWordsOf, vmaxWordsOf}
-use Rattle.math.specs.declared.words3.Words3.{Words3}
-use Rattle.polygon_boxes.specs.Boxes.{threeBox}
+use Rattle.polygon_boxes.proofs.three_box.Reads as reads
+use Rattle.polygon_boxes.proofs.three_box.Lts as lts
+use Rattle.polygon_boxes.proofs.all_three.Reads as all-three-reads
+use Rattle.polygon_boxes.proofs.numbers.three_numbers.Reads as three-numbers-reads
+use Rattle.polygon_boxes.proofs.three_words.Reads as three-words-reads
 
-vmin-words-requires : tie.Need-vmin-words-requires
-vmin-words-requires c κs = search needs
+-- src/lib.rt:80:8
+all-three-requires : tie.Need-all-three-requires
+all-three-requires c κs = search needs
 
-vmin-words-requires-2 : tie.Need-vmin-words-requires-2
-vmin-words-requires-2 c κs = search needs
+-- src/lib.rt:81:9
+three-numbers-requires : tie.Need-three-numbers-requires
+three-numbers-requires c κs = c .before .all-three .ensures (c .if1 .taken)
 
-vmax-words-requires : tie.Need-vmax-words-requires
-vmax-words-requires c κs = search needs
+-- src/lib.rt:83:9
+three-words-requires : tie.Need-three-words-requires
+three-words-requires c κs = search needs
 
-vmax-words-requires-2 : tie.Need-vmax-words-requires-2
-vmax-words-requires-2 c κs = search needs
-
+-- src/lib.rt:76:1
 returns : tie.Need-returns
-unfolding threeBox
-returns c =
-    let third = c .before .before .before .before .args .c in
-    let low = c .before .before .vmin-words2 .ensures ∙ ap (λ (w : Words3). vminWordsOf w third) (c .before .before .before .vmin-words .ensures) in
-    let high = c .vmax-words2 .ensures ∙ ap (λ (w : Words3). vmaxWordsOf w third) (c .before .vmax-words .ensures) in
-    λ i. record { min = low i; max = high i }
+returns c = search needs
+
+-- src/lib.rt:76:1
+returns-2 : tie.Need-returns-2
+returns-2 c = search needs
 
 pub three-box-spec : {M : Type 1} → statement M
 three-box-spec =
     tie.close
-    (tie.spec
-    vmin-words-requires
-    vmin-words-requires-2
-    vmax-words-requires
-    vmax-words-requires-2
-    returns)
+    (tie.spec all-three-requires three-numbers-requires three-words-requires returns returns-2)
