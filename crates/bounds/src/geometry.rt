@@ -13,6 +13,8 @@ use polygon::Write;
 use polygon::halves::half_of;
 use polygon::halves::short_of;
 use polygon_boxes::PolygonBox;
+use polygon_items::Items;
+use polygon_items::polygon_items;
 use records::BoundVertex;
 ghost use mathlib.Core.Path.{_≡_};
 ghost use lib.ListN.{length};
@@ -20,9 +22,10 @@ ghost use Rattle.edges.specs.Edges.{numberOf as edgesNumber};
 ghost use Rattle.materials.specs.Materials.{valuesOf};
 ghost use Rattle.polygon.specs.Answers.{refusalNumber as readRefusal, readOf, writeNumber};
 ghost use Rattle.polygon.specs.Polygons.{wordOr};
+ghost use Rattle.polygon_items.specs.Items.{numberOf as itemsNumber};
 ghost use Rattle.vertices.specs.Vertices.{quantumOfBox, storedOf, readBackOf};
 ghost use Rattle.bounds.specs.Geometry.{triangleStruct, roundStruct, boxStruct, structOf, triangleIn, boxIn, polygonIn};
-ghost use Rattle.bounds.specs.Geometry.{unread, readAnswer, WroteStruct, unboxed, boxed, boxAnswer};
+ghost use Rattle.bounds.specs.Geometry.{unread, readAnswer, WroteStruct, unboxed, boxed, boxAnswer, ItemsAnswered};
 ghost use Rattle.bounds.specs.Geometry.{edgesWorkLen, EdgesAnswered, materialsWith, materialsAnswer, MaterialsAnswered};
 
 // A polygon by its kind, 0 to 4. `word` is the area or the radius, of any bits; a box's is 0. The halves, of which the unused are 0:
@@ -305,6 +308,32 @@ pub extern "C" fn bounds_polygon_bbox(polygon: PolygonC, vertices: &[u32]) -> Bo
         return unboxed(6);
     }
     boxed(polygon_boxes::bbox(polygon_in(polygon), vertices))
+}
+
+// ---- the boxes of a list
+
+fn items_number(i: Items) -> u32
+    ensures { λ r. ⌜ r ≡ itemsNumber i ⌝ }
+{
+    match i {
+        Items::Boxed => 0,
+        Items::TooManyPolygons => 1,
+        Items::BufferTooShort => 2,
+        Items::UnknownKind => 6,
+    }
+}
+
+// The boxes of n records over their vertices, three words each, as the entries that a build takes: the mark 1 and six words.
+#[no_mangle]
+pub extern "C" fn bounds_polygon_items(
+    polygons: &[u8],
+    polygon_count: usize,
+    vertices: &[u32],
+    items: &mut [u32],
+) -> u32
+    ensures { λ r. ⌜ ItemsAnswered «polygon_count» (now (polygons .entry)) (now (vertices .entry)) (now (items .entry)) (now (items .exit)) r ⌝ }
+{
+    items_number(polygon_items(polygon_count, polygons, vertices, items))
 }
 
 // ---- links

@@ -1,0 +1,89 @@
+// The boxes of a list of polygon records, as the entries that a build takes: seven words each, the mark and the box.
+use corners::kinds_known;
+use entries::boxes::all_numbers;
+use polygon::reading::polygon_at;
+use polygon_boxes::PolygonBox;
+use polygon_boxes::bbox_with;
+ghost use mathlib.Core.Path.{_≡_};
+ghost use Prim.Native.Nat.{_+_, _*_, _≤_};
+ghost use lib.ListN.{length};
+ghost use lib.Seq.{sets};
+ghost use Rattle.base.specs.Lists.{over};
+ghost use Rattle.entries.specs.Plain.{Plain};
+ghost use Rattle.polygon_items.specs.Items.{itemWords, itemsOf, short, Answered};
+
+// The entries are written, or why not.
+pub enum Items {
+    Boxed,
+    TooManyPolygons,
+    BufferTooShort,
+    UnknownKind,
+}
+
+// A present entry with this box, from `at` on.
+fn put_item(items: &mut [u32], at: usize, b: PolygonBox)
+    requires { ⌜ at + 7 ≤ length (now items) ⌝ }
+    ensures { λ _. ⌜ now (items .exit) ≡ sets (now (items .entry)) at (itemWords b) ⌝ }
+{
+    items[at] = 1;
+    items[at + 1] = b.min.x;
+    items[at + 2] = b.min.y;
+    items[at + 3] = b.min.z;
+    items[at + 4] = b.max.x;
+    items[at + 5] = b.max.y;
+    items[at + 6] = b.max.z;
+}
+
+// The entries of the first n records.
+fn put_items(n: usize, polygons: &[u8], vertices: &[u32], plain: bool, items: &mut [u32])
+    requires { ⌜ (16 * n ≤ length (now polygons)) × (7 * n ≤ length (now items)) × (Plain plain (now vertices)) ⌝ }
+    ensures { λ _. ⌜ now (items .exit) ≡ over (itemsOf n (now (polygons .entry)) (now (vertices .entry))) (now (items .entry)) ⌝ }
+{
+    let mut i = 0;
+    while i < n {
+        put_item(
+            items,
+            7 * i,
+            bbox_with(polygon_at(polygons, 16 * i), vertices, plain),
+        );
+        i += 1;
+    }
+}
+
+// Whether no vertex has a NaN. Of many vertices and few polygons the polygons' own are tested instead.
+fn all_plain(n: usize, vertices: &[u32]) -> bool
+    ensures { λ r. ⌜ Plain r (now (vertices .entry)) ⌝ }
+{
+    if vertices.len() / 8 > n {
+        return false;
+    }
+    all_numbers(vertices)
+}
+
+// Whether a buffer is too short for n polygons.
+fn too_short(n: usize, polygons: usize, items: usize) -> bool
+    requires { ⌜ n ≤ 32767 ⌝ }
+    ensures { λ r. ⌜ r ≡ short n polygons items ⌝ }
+{
+    if polygons < 16 * n {
+        return true;
+    }
+    items < 7 * n
+}
+
+// The entries of n records over their vertices, three words each.
+pub fn polygon_items(n: usize, polygons: &[u8], vertices: &[u32], items: &mut [u32]) -> Items
+    ensures { λ r. ⌜ Answered n (now (polygons .entry)) (now (vertices .entry)) (now (items .entry)) (now (items .exit)) r ⌝ }
+{
+    if n > 32767 {
+        return Items::TooManyPolygons;
+    }
+    if too_short(n, polygons.len(), items.len()) {
+        return Items::BufferTooShort;
+    }
+    if !kinds_known(polygons, n) {
+        return Items::UnknownKind;
+    }
+    put_items(n, polygons, vertices, all_plain(n, vertices), items);
+    Items::Boxed
+}
