@@ -28,7 +28,8 @@ pub struct PolygonBox {
     pub max: Words3,
 }
 
-fn vertex_words(vertices: &[u32], i: u16) -> Words3
+// The words of vertex i; zero where it is not there.
+pub fn vertex_words(vertices: &[u32], i: u16) -> Words3
     ensures { λ r. ⌜ r ≡ vertexWords (now (vertices .entry)) i ⌝ }
 {
     let at = 3 * (i as usize);
@@ -63,7 +64,7 @@ fn four_words(a: Words3, b: Words3, c: Words3, d: Words3) -> PolygonBox
 }
 
 // Whether no word is a NaN's. Where `plain` says so, no word is tested.
-fn all_three(a: Words3, b: Words3, c: Words3, plain: bool) -> bool
+pub fn all_three(a: Words3, b: Words3, c: Words3, plain: bool) -> bool
     requires { ⌜ (plain ≡ true → Numbers a × Numbers b × Numbers c) ⌝ }
     ensures { λ r. ⌜ (r ≡ true → Numbers a × Numbers b × Numbers c) ⌝ }
 {

@@ -22,7 +22,7 @@ pub fn are_numbers(w: Words3) -> bool
     is_number(w.x) & is_number(w.y) & is_number(w.z)
 }
 
-fn low3(a: u32, b: u32, c: u32) -> u32
+pub fn low3(a: u32, b: u32, c: u32) -> u32
     requires { ⌜ Number a × Number b × Number c ⌝ }
     ensures { λ r. ⌜ r ≡ vminWord (vminWord a b) c ⌝ }
 {
@@ -32,7 +32,7 @@ fn low3(a: u32, b: u32, c: u32) -> u32
     ))
 }
 
-fn high3(a: u32, b: u32, c: u32) -> u32
+pub fn high3(a: u32, b: u32, c: u32) -> u32
     requires { ⌜ Number a × Number b × Number c ⌝ }
     ensures { λ r. ⌜ r ≡ vmaxWord (vmaxWord a b) c ⌝ }
 {

@@ -1,12 +1,12 @@
 -- One more entry, and what the function answers, case by case.
-use Prim.Native.Nat.{ℕ, _+_, _*_, _≤_, _<_}
+use Prim.Native.Nat.{ℕ, _+_, _*_, _%_, _≤_, _<_}
 use native.Mathlib.Omega.{arith}
-use native.Mathlib.Numerals.{add-one}
+use native.Mathlib.Numerals.{add-one, towards-suc}
 use mathlib.Core.Path.{_≡_, refl, sym, ap, _∙_}
 use mathlib.Core.Bool.{true, false}
-use mathlib.Core.List.{List}
+use mathlib.Core.List.{List, [], _∷_}
 use lib.Dec.{ltb}
-use lib.ListN.{length}
+use lib.ListN.{length, set}
 use lib.Seq.{sets}
 use borrow.Author.Tests.{lt-ltb, le-ltb, ltb-false}
 use Rattle.base.specs.Lists.{over}
@@ -15,10 +15,30 @@ use Rattle.base.proofs.Truth.{neither}
 use Rattle.corners.specs.Corners.{inTurn, kindsKnown}
 use Rattle.corners.proofs.CornerLaws.{length-in-turn}
 use Rattle.polygon.specs.Polygons.{polygonAt}
-use Rattle.polygon_boxes.specs.Boxes.{bboxOf}
+use Rattle.polygon.specs.Polygons.{triangleOf}
+use Rattle.polygon.specs.Halves.{halvesAt}
+use Rattle.polygon.proofs.KindLaws.{triangle-by-kind}
+use Rattle.polygon.specs.declared.Polygon.{Polygon}
+use Rattle.base.specs.LittleEndian.{leAt}
+use Rattle.math.specs.declared.words3.Words3.{Words3}
+use Rattle.float32.specs.Extremes.{vminWord, vmaxWord}
+use Rattle.polygon_boxes.specs.Boxes.{vertexWords, threeBox, bboxOf}
 use Rattle.polygon_boxes.specs.declared.PolygonBox.{PolygonBox}
 use Rattle.polygon_items.specs.declared.Items.the-variants.{Boxed, TooManyPolygons, BufferTooShort, UnknownKind}
 use Rattle.polygon_items.specs.Items.{itemWords, itemAt, itemsOf, short, answerOf, Answered}
+
+pub seven-stores : (l : List ℕ) (at a b c d e f g : ℕ)
+    → set (set (set (set (set (set (set l at a) (at + 1) b) (at + 2) c) (at + 3) d) (at + 4) e) (at + 5) f) (at + 6) g
+    ≡ sets l at (a ∷ b ∷ c ∷ d ∷ e ∷ f ∷ g ∷ [])
+seven-stores l at a b c d e f g = simp towards-suc
+
+-- the words of a triangle's entry
+pub three-words : (l : List ℕ) (at : ℕ) (a b c : Words3) {p q r s t u : ℕ} → p ≡ vminWord (vminWord (a .x) (b .x)) (c .x)
+    → q ≡ vminWord (vminWord (a .y) (b .y)) (c .y) → r ≡ vminWord (vminWord (a .z) (b .z)) (c .z) → s ≡ vmaxWord (vmaxWord (a .x) (b .x)) (c .x)
+    → t ≡ vmaxWord (vmaxWord (a .y) (b .y)) (c .y) → u ≡ vmaxWord (vmaxWord (a .z) (b .z)) (c .z)
+    → sets l at (1 ∷ p ∷ q ∷ r ∷ s ∷ t ∷ u ∷ []) ≡ sets l at (itemWords (threeBox a b c))
+unfolding itemWords threeBox
+three-words l at a b c ep eq er es et eu = λ i. sets l at (1 ∷ ep i ∷ eq i ∷ er i ∷ es i ∷ et i ∷ eu i ∷ [])
 
 length-item : (b : PolygonBox) → length (itemWords b) ≡ 7
 unfolding itemWords
@@ -32,6 +52,26 @@ items-next bytes ws before i h e f =
     ∙ ap (λ (l : List ℕ). sets l (7 * i) (itemAt bytes ws i)) e
     ∙ over-next (itemsOf i bytes ws) (itemAt bytes ws i) before (7 * i) many (omega (arith, h, many, length-item (bboxOf (polygonAt bytes (16 * i)) ws)))
     ∙ ap (λ (k : ℕ). over (itemsOf k bytes ws) before) (sym (add-one i))
+
+-- ---- a triangle's
+
+module _ (bytes ws : List ℕ) (from : ℕ) (k : leAt 2 bytes from % 8 ≡ 0) where
+  triangle-at : polygonAt bytes from ≡ triangleOf (halvesAt bytes from)
+  unfolding polygonAt halvesAt
+  triangle-at = triangle-by-kind (halvesAt bytes from) k
+
+  triangle-box : bboxOf (triangleOf (halvesAt bytes from)) ws
+      ≡ threeBox (vertexWords ws (leAt 2 bytes (from + 4) % 32768)) (vertexWords ws (leAt 2 bytes (from + 6) % 32768))
+      (vertexWords ws (leAt 2 bytes (from + 8) % 32768))
+  unfolding halvesAt triangleOf
+  triangle-box = refl
+
+  -- as the code has it
+  pub three-at : (i j l : ℕ) (a b c : Words3) → i ≡ leAt 2 bytes (from + 4) → j ≡ leAt 2 bytes (from + 6) → l ≡ leAt 2 bytes (from + 8)
+      → a ≡ vertexWords ws (i % 32768) → b ≡ vertexWords ws (j % 32768) → c ≡ vertexWords ws (l % 32768)
+      → threeBox a b c ≡ bboxOf (polygonAt bytes from) ws
+  three-at i j l a b c ei ej el ea eb ec =
+      rw (ea, eb, ec, ei, ej, el) (sym (ap (λ (p : Polygon). bboxOf p ws) triangle-at ∙ triangle-box))
 
 -- ---- the answers
 

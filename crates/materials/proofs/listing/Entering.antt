@@ -76,8 +76,11 @@ module _ (b x : ℕ) (table list : List ℕ) (count : ℕ) (f : Fits x list coun
           go : (p : Bool) → eqb (bucketOf y) u ≡ p → (q : Bool) → eqb y x ≡ q → ⊥
           go true p q r =
               let s : 256 + bucketOf y ≡ 256 + u = ap (λ (n : ℕ). 256 + n) (eqb-true (bucketOf y) u p) in
-              omega (arith, getD-set-same table₁ (256 + u) 1 0 (omega (arith, w, v, length-set table b (at + 1))),
-              sym (ap (λ (n : ℕ). getD table₂ n 0) s) ∙ z)
+              omega (
+                arith,
+                getD-set-same table₁ (256 + u) 1 0 (omega (arith, w, v, length-set table b (at + 1))),
+                sym (ap (λ (n : ℕ). getD table₂ n 0) s) ∙ z,
+              )
           go false p true r = eqb-false (bucketOf y) u p (ap bucketOf (eqb-true y x r) ∙ sym v)
           go false p false r =
               let ne : bucketOf y ≡ u → ⊥ = eqb-false (bucketOf y) u p in

@@ -4,19 +4,10 @@ use Rattle.polygon_items.proofs.put_item.Statement.{statement}
 use Rattle.polygon_items.proofs.put_item.Tie as tie
 use Rattle.polygon_items.proofs.put_item.Reads as reads
 use Rattle.polygon_items.proofs.put_item.Lts as lts
-use Prim.Native.Nat.{ℕ, _+_}
-use mathlib.Core.Path.{_≡_}
-use mathlib.Core.List.{List, [], _∷_}
-use lib.ListN.{set, length-set}
-use lib.Seq.{sets}
-use native.Mathlib.Numerals.{towards-suc}
+use lib.ListN.{length-set}
 use Rattle.polygon_items.specs.Items.{itemWords}
+use Rattle.polygon_items.proofs.ItemLaws.{seven-stores}
 use native.Mathlib.Omega.{arith}
-
-seven-stores : (l : List ℕ) (at a b c d e f g : ℕ)
-    → set (set (set (set (set (set (set l at a) (at + 1) b) (at + 2) c) (at + 3) d) (at + 4) e) (at + 5) f) (at + 6) g
-    ≡ sets l at (a ∷ b ∷ c ∷ d ∷ e ∷ f ∷ g ∷ [])
-seven-stores l at a b c d e f g = simp towards-suc
 
 -- src/lib.rt:28:5
 mul-items : tie.Need-mul-items

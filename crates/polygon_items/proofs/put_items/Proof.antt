@@ -3,20 +3,13 @@ use Rattle.polygon_items.proofs.put_items.Statement.{statement}
 use Rattle.polygon_items.proofs.put_items.Tie as tie
 use Rattle.polygon_items.proofs.put_items.Reads as reads
 use Rattle.polygon_items.proofs.put_items.Lts as lts
-use Rattle.polygon.proofs.reading.polygon_at.Reads as polygon-at-reads
-use Rattle.polygon_boxes.proofs.bbox_with.Reads as bbox-with-reads
-use Rattle.polygon_items.proofs.put_item.Reads as put-item-reads
+use Rattle.polygon_items.proofs.put_one.Reads as put-one-reads
 use mathlib.Core.Path.{_≡_, refl, ap, _∙_}
 use Prim.Native.Nat.{ℕ, _-_, _*_, _≤_}
-use mathlib.Core.List.{List}
 use lib.ListN.{length}
-use lib.Seq.{sets}
 use Rattle.base.specs.Lists.{over}
 use Rattle.entries.specs.Plain.{Plain}
-use Rattle.polygon_boxes.specs.Boxes.{bboxOf}
-use Rattle.polygon_boxes.specs.declared.PolygonBox.{PolygonBox}
-use Rattle.polygon.specs.declared.Polygon.{Polygon}
-use Rattle.polygon_items.specs.Items.{itemWords, itemsOf}
+use Rattle.polygon_items.specs.Items.{itemsOf}
 use Rattle.polygon_items.proofs.ItemLaws.{items-next}
 use native.Mathlib.Omega.{arith}
 
@@ -28,58 +21,54 @@ Inv-loop n polygons vertices plain items₀ i₀ items i =
 abbrev μ-loop : tie.MeasureT-loop
 μ-loop n polygons vertices plain items₀ i₀ items i = n - i
 
--- src/lib.rt:43:5
+-- src/lib.rt:83:5
 loop-holds : tie.Need-loop-holds Inv-loop μ-loop
 loop-holds c = let p = c .before .before .before .pre in (omega arith, refl, refl, p .0, p .1, p .2)
 
--- src/lib.rt:44:25
-mul-put-item : tie.Need-mul-put-item Inv-loop μ-loop
-mul-put-item c = omega arith
+-- src/lib.rt:84:27
+mul-put-one : tie.Need-mul-put-one Inv-loop μ-loop
+mul-put-one c = omega arith
 
--- src/lib.rt:44:63
-mul-polygon-at : tie.Need-mul-polygon-at Inv-loop μ-loop
-mul-polygon-at c = omega arith
+-- src/lib.rt:84:59
+mul-put-one-2 : tie.Need-mul-put-one-2 Inv-loop μ-loop
+mul-put-one-2 c = omega arith
 
--- src/lib.rt:44:42
-polygon-at-requires : tie.Need-polygon-at-requires Inv-loop μ-loop
-polygon-at-requires c κs = let l = c .before .before .loop in omega (arith, c .before .loop-test .taken, l .inv .3)
+-- src/lib.rt:84:9
+put-one-requires : tie.Need-put-one-requires Inv-loop μ-loop
+put-one-requires c κs =
+    let l = c .before .before .loop in (
+      omega (arith, c .before .loop-test .taken, l .inv .3),
+      omega (arith, c .before .loop-test .taken, l .inv .4, l .inv .1),
+      l .inv .5,
+    )
 
--- src/lib.rt:44:32
-bbox-with-requires : tie.Need-bbox-with-requires Inv-loop μ-loop
-bbox-with-requires c κs = c .before .before .before .loop .inv .5
-
--- src/lib.rt:44:9
-put-item-requires : tie.Need-put-item-requires Inv-loop μ-loop
-put-item-requires c κs = let l = c .before .before .before .before .loop in omega (arith, c .before .before .before .loop-test .taken, l .inv .4, l .inv .1)
-
--- src/lib.rt:45:9
+-- src/lib.rt:85:9
 add-i : tie.Need-add-i Inv-loop μ-loop
 add-i c = omega arith
 
--- src/lib.rt:43:5
+-- src/lib.rt:83:5
 loop-less : tie.Need-loop-less Inv-loop μ-loop
 loop-less c = omega arith
 
--- src/lib.rt:43:5
+-- src/lib.rt:83:5
 loop-again : tie.Need-loop-again Inv-loop μ-loop
 loop-again c =
-    let l = c .before .before .before .before .before .before .before .loop in
-    let a = c .before .before .before .before .before .before .before .before .before .before .before .args in
-    let w = c .before .before .before .bbox-with .ensures ∙ ap (λ (p : Polygon). bboxOf p (a .vertices .now)) (c .before .before .before .before .polygon-at .ensures) in (
+    let l = c .before .before .before .before .before .loop in
+    let a = c .before .before .before .before .before .before .before .before .before .args in (
       omega arith,
-      c .before .before .put-item .kept .0 ∙ l .inv .1,
-      items-next (a .polygons .now) (a .vertices .now) (a .items .now) (l .i) (omega (arith, c .before .before .before .before .before .before .loop-test .taken, l .inv .4)) (l .inv .2)
-          (c .before .before .put-item .ensures ∙ ap (λ (b : PolygonBox). sets (l .items) (7 * l .i) (itemWords b)) w),
+      c .before .before .put-one .kept .1 .1 .1 .1 .0 ∙ l .inv .1,
+      items-next (a .polygons .now) (a .vertices .now) (a .items .now) (l .i) (omega (arith, c .before .before .before .before .loop-test .taken, l .inv .4)) (l .inv .2)
+          (c .before .before .put-one .ensures),
       l .inv .3,
       l .inv .4,
       l .inv .5,
     )
 
--- src/lib.rt:38:1
+-- src/lib.rt:78:1
 same-length : tie.Need-same-length Inv-loop μ-loop
 same-length c = c .before .loop .inv .1
 
--- src/lib.rt:38:1
+-- src/lib.rt:78:1
 returns : tie.Need-returns Inv-loop μ-loop
 returns c =
     let l = c .before .loop in
@@ -94,11 +83,9 @@ put-items-spec =
     Inv-loop
     μ-loop
     loop-holds
-    mul-put-item
-    mul-polygon-at
-    polygon-at-requires
-    bbox-with-requires
-    put-item-requires
+    mul-put-one
+    mul-put-one-2
+    put-one-requires
     add-i
     loop-less
     loop-again
