@@ -1,7 +1,8 @@
 -- The polygon of a C struct, by its kind; and what the answers of writing, of a box, of links and of materials say of the C interface's. Assumes nothing.
-use Prim.Native.Nat.{ℕ, _<_, _≤_}
+use Prim.Native.Nat.{ℕ, _%_, _<_, _≤_}
+use native.Mathlib.Omega.{arith}
 use mathlib.Core.List.{List}
-use mathlib.Core.Path.{_≡_, refl, ap, _∙_}
+use mathlib.Core.Path.{_≡_, refl, sym, ap, _∙_}
 use lib.Dec.{ltb}
 use mathlib.Core.Bool.{true, false}
 use borrow.Author.Tests.{ne-eqb, lt-ltb, le-ltb}
@@ -13,7 +14,7 @@ use Rattle.materials.specs.declared.building.Materials.{Materials}
 use Rattle.materials.specs.Answers as M
 use Rattle.materials.specs.Materials.{listOf, indicesOf, materialsBytes}
 use Rattle.polygon.specs.Answers.{Wrote, writeExit, writeNumber}
-use Rattle.polygon_boxes.specs.Boxes.{bboxOf}
+use Rattle.polygon_boxes.specs.Boxes.{vertexWords, threeBox, bboxOf}
 use Rattle.polygon_items.specs.Items as I
 use Rattle.polygon_items.specs.declared.Items.{Items}
 use Rattle.polygon.specs.declared.Polygon.{Polygon}
@@ -69,6 +70,18 @@ module _ (c : PolygonC) where
       → r ≡ boxed b → r ≡ boxAnswer c vertices
   boxed-answer p vertices b r known same found given =
       rw (le-ltb 4 (c .kind) known) (given ∙ ap boxed (found ∙ ap (λ (x : Polygon). bboxOf x vertices) same))
+
+  triangle-of : (vertices : List ℕ) → bboxOf (triangleIn c) vertices
+      ≡ threeBox (vertexWords vertices (c .h0 % 32768)) (vertexWords vertices (c .h1 % 32768)) (vertexWords vertices (c .h2 % 32768))
+  unfolding triangleIn
+  triangle-of vertices = refl
+
+  pub triangle-boxed : (vertices : List ℕ) (b : PolygonBox) (r : BoxAnswer) → c .kind ≡ 0
+      → b ≡ threeBox (vertexWords vertices (c .h0 % 32768)) (vertexWords vertices (c .h1 % 32768)) (vertexWords vertices (c .h2 % 32768))
+      → r ≡ boxed b → r ≡ boxAnswer c vertices
+  triangle-boxed vertices b r zero found given =
+      boxed-answer (polygonIn c) vertices b r (omega (arith, zero)) refl
+      (found ∙ sym (ap (λ (x : Polygon). bboxOf x vertices) (triangle-by-kind zero) ∙ triangle-of vertices)) given
 
 pub items-answered : (n : ℕ) (bytes ws before after : List ℕ) (i : Items) (r : ℕ) → I.Answered n bytes ws before after i → r ≡ I.numberOf i
     → ItemsAnswered n bytes ws before after r

@@ -13,6 +13,7 @@ use polygon::Write;
 use polygon::halves::half_of;
 use polygon::halves::short_of;
 use polygon_boxes::PolygonBox;
+use polygon_boxes::triangle_box;
 use polygon_items::Items;
 use polygon_items::polygon_items;
 use records::BoundVertex;
@@ -306,6 +307,9 @@ pub extern "C" fn bounds_polygon_bbox(polygon: PolygonC, vertices: &[u32]) -> Bo
 {
     if polygon.kind > 4 {
         return unboxed(6);
+    }
+    if polygon.kind == 0 {
+        return boxed(triangle_box(vertices, polygon.h0, polygon.h1, polygon.h2));
     }
     boxed(polygon_boxes::bbox(polygon_in(polygon), vertices))
 }

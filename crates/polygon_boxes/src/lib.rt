@@ -15,6 +15,7 @@ use polygon::Polygon;
 use polygon::halves::half_of;
 ghost use mathlib.Core.Bool.{true};
 ghost use mathlib.Core.Path.{_≡_};
+ghost use Prim.Native.Nat.{_%_};
 ghost use Rattle.entries.specs.Plain.{Plain};
 ghost use Rattle.polygon_boxes.specs.Boxes.{vertexWords, threeBox, fourBox, grownBox, pairBox, bboxOf};
 ghost use Rattle.polygon_boxes.specs.Numbers.{Numbers};
@@ -83,6 +84,17 @@ fn three_box(a: Words3, b: Words3, c: Words3, plain: bool) -> PolygonBox
     } else {
         three_words(a, b, c)
     }
+}
+
+// The box of a triangle by its vertex numbers.
+pub fn triangle_box(vertices: &[u32], v1: u16, v2: u16, v3: u16) -> PolygonBox
+    ensures { λ r. ⌜ r ≡ threeBox (vertexWords (now (vertices .entry)) (v1 % 32768)) (vertexWords (now (vertices .entry)) (v2 % 32768))
+        (vertexWords (now (vertices .entry)) (v3 % 32768)) ⌝ }
+{
+    let a = vertex_words(vertices, v1 % 32768);
+    let b = vertex_words(vertices, v2 % 32768);
+    let c = vertex_words(vertices, v3 % 32768);
+    three_box(a, b, c, false)
 }
 
 fn four_box(a: Words3, b: Words3, c: Words3, d: Words3, plain: bool) -> PolygonBox
