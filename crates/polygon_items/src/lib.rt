@@ -1,6 +1,5 @@
 // The boxes of a list of polygon records, as the entries that a build takes: seven words each, the mark and the box.
 use corners::kinds_known;
-use entries::boxes::all_numbers;
 use math::words3::Words3;
 use polygon::halves::half_at;
 use polygon::reading::polygon_at;
@@ -97,16 +96,6 @@ fn put_items(n: usize, polygons: &[u8], vertices: &[u32], plain: bool, items: &m
     }
 }
 
-// Whether no vertex has a NaN. Of many vertices and few polygons the polygons' own are tested instead.
-fn all_plain(n: usize, vertices: &[u32]) -> bool
-    ensures { λ r. ⌜ Plain r (now (vertices .entry)) ⌝ }
-{
-    if vertices.len() / 8 > n {
-        return false;
-    }
-    all_numbers(vertices)
-}
-
 // Whether a buffer is too short for n polygons.
 fn too_short(n: usize, polygons: usize, items: usize) -> bool
     requires { ⌜ n ≤ 32767 ⌝ }
@@ -131,6 +120,6 @@ pub fn polygon_items(n: usize, polygons: &[u8], vertices: &[u32], items: &mut [u
     if !kinds_known(polygons, n) {
         return Items::UnknownKind;
     }
-    put_items(n, polygons, vertices, all_plain(n, vertices), items);
+    put_items(n, polygons, vertices, false, items);
     Items::Boxed
 }
