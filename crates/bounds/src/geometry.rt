@@ -7,13 +7,14 @@ use polygon_answers::BoxAnswer;
 use polygon_answers::MaterialsAnswer;
 use polygon_answers::PolygonC;
 use polygon_answers::ReadAnswer;
+use polygon_items::polygon_items;
 use records::BoundVertex;
 ghost use mathlib.Core.Path.{_≡_};
 ghost use lib.ListN.{length};
 ghost use Rattle.materials.specs.Materials.{valuesOf};
 ghost use Rattle.polygon.specs.Answers.{readOf};
 ghost use Rattle.vertices.specs.Vertices.{quantumOfBox, storedOf, readBackOf};
-ghost use Rattle.polygon_answers.specs.Geometry.{readAnswer, WroteStruct, boxAnswer, edgesWorkLen, EdgesAnswered, MaterialsAnswered};
+ghost use Rattle.polygon_answers.specs.Geometry.{readAnswer, WroteStruct, boxAnswer, ItemsAnswered, edgesWorkLen, EdgesAnswered, MaterialsAnswered};
 
 // The polygon of a record's first 16 bytes.
 #[no_mangle]
@@ -41,6 +42,21 @@ pub extern "C" fn bounds_polygon_bbox(polygon: PolygonC, vertices: &[u32]) -> Bo
     ensures { λ r. ⌜ r ≡ boxAnswer polygon (now (vertices .entry)) ⌝ }
 {
     polygon_answers::struct_box(polygon, vertices)
+}
+
+// ---- the boxes of a list
+
+// The boxes of n records over their vertices, three words each, as the entries that a build takes: the mark 1 and six words.
+#[no_mangle]
+pub extern "C" fn bounds_polygon_items(
+    polygons: &[u8],
+    polygon_count: usize,
+    vertices: &[u32],
+    items: &mut [u32],
+) -> u32
+    ensures { λ r. ⌜ ItemsAnswered «polygon_count» (now (polygons .entry)) (now (vertices .entry)) (now (items .entry)) (now (items .exit)) r ⌝ }
+{
+    polygon_answers::items_number(polygon_items(polygon_count, polygons, vertices, items))
 }
 
 // ---- links

@@ -1,3 +1,4 @@
+pub mod ChainLaws
 pub mod DigitLaws
 pub mod EveryOf
 pub mod KeyedLaws

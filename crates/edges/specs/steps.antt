@@ -1,3 +1,4 @@
+pub mod Chains
 pub mod Digits
 pub mod Grouped
 pub mod Linked

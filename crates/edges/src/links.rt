@@ -1,16 +1,21 @@
 // The links of all sides.
+use crate::chains::clear;
+use crate::chains::enter_sides;
+use crate::chains::past_corners;
 use crate::grouping::group;
 use crate::runs::link_runs;
 use crate::sides::clear_links;
 use crate::sides::put_keys;
 use crate::sides::put_sides;
+use crate::walk::link_chains;
 ghost use mathlib.Core.Path.{_≡_};
-ghost use Prim.Native.Nat.{_<_};
+ghost use Prim.Native.Nat.{_≤_, _<_};
 ghost use lib.ListN.{length, take};
 ghost use Rattle.base.specs.Every.{Every};
 ghost use Rattle.edges.specs.Lists.{RisingBy};
 ghost use Rattle.edges.specs.steps.Grouped.{keyIn, Sides};
 ghost use Rattle.edges.specs.Links.{linksOf, Room};
+ghost use Rattle.edges.specs.steps.Chains.{Enterable};
 ghost use Rattle.edges.specs.steps.Linked.{Linked};
 ghost use Rattle.corners.specs.Corners.{Corners};
 
@@ -24,8 +29,8 @@ fn link_sides(keys: &[u32], sides: &mut [u32], spare: &mut [u32], links: &mut [u
     link_runs(keys, spare, links);
 }
 
-// The links of the sides of triangles, as many as there are corners. `keys`, `sides` and `spare` are to work in.
-pub fn links_of(
+// The links by the order of the sides' keys: of many vertices, and few triangles. `keys`, `sides` and `spare` are to work in.
+fn links_by_order(
     corners: &[u32],
     keys: &mut [u32],
     sides: &mut [u32],
@@ -39,4 +44,42 @@ pub fn links_of(
     let k = put_sides(corners, sides);
     clear_links(links, corners.len());
     link_sides(keys, &mut sides[..k], &mut spare[..k], links);
+}
+
+// The links by chains of sides, one for each vertex: `heads` and `firsts` have a word for each.
+fn links_by_chains(
+    corners: &[u32],
+    heads: &mut [u32],
+    nexts: &mut [u32],
+    firsts: &mut [u32],
+    links: &mut [u32],
+)
+    requires { ⌜ (Enterable (now corners) (now heads) (now nexts)) × (length (now firsts) ≡ length (now heads)) × (length (now heads) ≤ 32768)
+        × (length (now corners) ≤ length (now links)) ⌝ }
+    ensures { λ _. ⌜ take (length (now (corners .entry))) (now (links .exit)) ≡ linksOf (now (corners .entry)) ⌝ }
+{
+    clear(heads);
+    clear(firsts);
+    clear_links(links, corners.len());
+    enter_sides(corners, heads, nexts);
+    link_chains(heads, nexts, firsts, links);
+}
+
+// The links of the sides of triangles, as many as there are corners. `keys`, `sides` and `spare` are to work in.
+pub fn links_of(
+    corners: &[u32],
+    keys: &mut [u32],
+    sides: &mut [u32],
+    spare: &mut [u32],
+    links: &mut [u32],
+)
+    requires { ⌜ (Corners (now corners)) × (Room (now corners) (now keys) (now sides) (now spare) (now links)) ⌝ }
+    ensures { λ _. ⌜ take (length (now (corners .entry))) (now (links .exit)) ≡ linksOf (now (corners .entry)) ⌝ }
+{
+    let m = past_corners(corners) as usize;
+    if m <= corners.len() {
+        links_by_chains(corners, &mut keys[..m], sides, &mut spare[..m], links);
+    } else {
+        links_by_order(corners, keys, sides, spare, links);
+    }
 }

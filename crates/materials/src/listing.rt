@@ -5,7 +5,7 @@ ghost use Prim.Native.Nat.{_+_, _*_, _≤_, _<_};
 ghost use lib.ListN.{length, take, getD};
 ghost use Rattle.base.specs.Lists.{over};
 ghost use Rattle.materials.specs.Materials.{valueAt, valuesOf, placeIn, materialsBytes};
-ghost use Rattle.materials.specs.steps.Listing.{Placed, Fits, Entered, Given, Empty, Indexed};
+ghost use Rattle.materials.specs.steps.Listing.{Placed, Fits, bucketOf, Marked, Entered, Given, Empty, Indexed};
 
 fn wide(byte: u8) -> usize
     ensures { λ r. ⌜ (r ≡ byte) × (r < 256) ⌝ }
@@ -53,19 +53,39 @@ fn place_in(list: &[u64], count: usize, x: u64) -> usize
     count
 }
 
+// A mark for materials that leave the same remainder.
+fn bucket(x: u64) -> usize
+    ensures { λ r. ⌜ (r ≡ bucketOf x) × (r < 1024) ⌝ }
+{
+    (x % 1021) as usize
+}
+
+// The same as `place_in`: without a search where no material of the list has x's mark.
+fn place_by(table: &[u32], list: &[u64], count: usize, x: u64) -> usize
+    requires { ⌜ (length (now table) ≡ 1280) × (count ≤ length (now list)) × (Marked (now table) (take count (now list))) ⌝ }
+    ensures { λ r. ⌜ r ≡ placeIn (take count (now (list .entry))) x ⌝ }
+{
+    if table[256 + bucket(x)] == 0 {
+        return count;
+    }
+    place_in(list, count, x)
+}
+
 // Sees to it that the table has the place of number b's material, which is x, and the list the material. How many the list then has.
 fn enter(table: &mut [u32], b: usize, x: u64, list: &mut [u64], count: usize) -> usize
-    requires { ⌜ (b < length (now table)) × (Fits x (now list) count) × (Placed x (take count (now list)) (getD (now table) b 0)) ⌝ }
+    requires { ⌜ (b < 256) × (Fits x (now list) count) × (Placed x (take count (now list)) (getD (now table) b 0))
+        × (length (now table) ≡ 1280) × (Marked (now table) (take count (now list))) ⌝ }
     ensures { λ r. ⌜ Entered b x (now (table .entry)) (now (table .exit)) (take count (now (list .entry))) (now (list .exit)) r ⌝ }
 {
     if table[b] != 0 {
         return count;
     }
-    let at = place_in(list, count, x);
+    let at = place_by(table, list, count, x);
     table[b] = at as u32 + 1;
     if at < count {
         return count;
     }
+    table[256 + bucket(x)] = 1;
     list[at] = x;
     count + 1
 }
@@ -94,7 +114,7 @@ fn index_all(
     count
 }
 
-// The same, with a table of its own: by a number's byte, 1 and the place of its material, 0 until it comes.
+// The same, with a table of its own: by a number's byte, 1 and the place of its material, 0 until it comes; and behind them the marks.
 pub fn dedupe(
     numbers: &[u8],
     n: usize,
@@ -106,7 +126,7 @@ pub fn dedupe(
     requires { ⌜ Given n m (now numbers) (now mats) (now list) (now indices) ⌝ }
     ensures { λ r. ⌜ Indexed (valuesOf m (now (mats .entry)) n (now (numbers .entry))) (now (list .exit)) (now (indices .entry)) (now (indices .exit)) r ⌝ }
 {
-    let mut table = [0u32; 256];
+    let mut table = [0u32; 1280];
     index_all(numbers, n, mats, m, &mut table, list, indices)
 }
 

@@ -14,11 +14,13 @@ use Rattle.materials.specs.Answers as M
 use Rattle.materials.specs.Materials.{listOf, indicesOf, materialsBytes}
 use Rattle.polygon.specs.Answers.{Wrote, writeExit, writeNumber}
 use Rattle.polygon_boxes.specs.Boxes.{bboxOf}
+use Rattle.polygon_items.specs.Items as I
+use Rattle.polygon_items.specs.declared.Items.{Items}
 use Rattle.polygon.specs.declared.Polygon.{Polygon}
 use Rattle.polygon.specs.declared.Write.{Write}
 use Rattle.polygon_boxes.specs.declared.PolygonBox.{PolygonBox}
 use Rattle.polygon_answers.specs.Geometry.{triangleIn, sphereIn, capsuleIn, boxIn, cylinderIn, polygonIn, WroteStruct, unboxed, boxed, boxAnswer}
-use Rattle.polygon_answers.specs.Geometry.{EdgesAnswered, materialsAnswer, MaterialsAnswered}
+use Rattle.polygon_answers.specs.Geometry.{ItemsAnswered, EdgesAnswered, materialsAnswer, MaterialsAnswered}
 use Rattle.polygon_answers.specs.declared.BoxAnswer.{BoxAnswer}
 use Rattle.polygon_answers.specs.declared.MaterialsAnswer.{MaterialsAnswer}
 use Rattle.polygon_answers.specs.declared.PolygonC.{PolygonC}
@@ -67,6 +69,14 @@ module _ (c : PolygonC) where
       → r ≡ boxed b → r ≡ boxAnswer c vertices
   boxed-answer p vertices b r known same found given =
       rw (le-ltb 4 (c .kind) known) (given ∙ ap boxed (found ∙ ap (λ (x : Polygon). bboxOf x vertices) same))
+
+pub items-answered : (n : ℕ) (bytes ws before after : List ℕ) (i : Items) (r : ℕ) → I.Answered n bytes ws before after i → r ≡ I.numberOf i
+    → ItemsAnswered n bytes ws before after r
+items-answered n bytes ws before after i r a given =
+    record {
+      number = given ∙ ap I.numberOf (a .answer);
+      words = a .words ∙ ap (λ (x : Items). I.kept x (I.itemsOf n bytes ws) before) (a .answer);
+    }
 
 pub edges-answered : (n : ℕ) (l : Lengths) (before after : List ℕ) (e : Edges) (r : ℕ) → Answered n l before after e → r ≡ numberOf e
     → EdgesAnswered n l before after r

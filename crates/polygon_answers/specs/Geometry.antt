@@ -16,6 +16,7 @@ use Rattle.materials.specs.Answers as M
 use Rattle.materials.specs.Materials.{listOf, indicesOf, materialsBytes}
 use Rattle.polygon.specs.Answers.{refusalNumber, writeNumber, writeOf, writeExit}
 use Rattle.polygon_boxes.specs.Boxes.{bboxOf}
+use Rattle.polygon_items.specs.Items as I
 use Rattle.polygon.specs.Polygons.{wordOr}
 use Rattle.polygon.specs.declared.Polygon.{Polygon}
 use Rattle.polygon.specs.declared.Polygon.the-variants.{Triangle, Sphere, Capsule, Box, Cylinder}
@@ -104,6 +105,11 @@ boxed b = record { refusal = 0; min = b .min; max = b .max }
 -- Rule G9: the box of a polygon over its vertices; 6: a kind that no polygon has.
 abbrev pub boxAnswer : PolygonC → List ℕ → BoxAnswer
 boxAnswer c vertices = cond (ltb 4 (c .kind)) (unboxed 6) (boxed (bboxOf (polygonIn c) vertices))
+
+-- Rule G11: the number of the answer, and every word of the entries.
+pub record ItemsAnswered (n : ℕ) (bytes vertices before after : List ℕ) (r : ℕ) : Type 0 where
+  pub number : r ≡ I.numberOf (I.answerOf n bytes before)
+  pub words : after ≡ I.kept (I.answerOf n bytes before) (I.itemsOf n bytes vertices) before
 
 -- 01, edges: the words of the five parts that n polygons are linked in.
 abbrev pub edgesWorkLen : ℕ → ℕ

@@ -10,9 +10,11 @@ use polygon::halves::half_of;
 use polygon::halves::short_of;
 use polygon::writing::word_or;
 use polygon_boxes::PolygonBox;
+use polygon_items::Items;
 ghost use mathlib.Core.Path.{_≡_};
 ghost use Rattle.edges.specs.Edges.{numberOf as edgesNumber};
 ghost use Rattle.polygon.specs.Answers.{refusalNumber as readRefusal, readOf, writeNumber};
+ghost use Rattle.polygon_items.specs.Items.{numberOf as itemsNumber};
 ghost use Rattle.polygon_answers.specs.Geometry.{triangleStruct, roundStruct, boxStruct, structOf, triangleIn, boxIn, polygonIn};
 ghost use Rattle.polygon_answers.specs.Geometry.{unread, readAnswer, WroteStruct, unboxed, boxed, boxAnswer};
 ghost use Rattle.polygon_answers.specs.Geometry.{edgesWorkLen, materialsWith, materialsAnswer};
@@ -287,6 +289,19 @@ pub fn struct_box(polygon: PolygonC, vertices: &[u32]) -> BoxAnswer
         return unboxed(6);
     }
     boxed(polygon_boxes::bbox(polygon_in(polygon), vertices))
+}
+
+// ---- the boxes of a list
+
+pub fn items_number(i: Items) -> u32
+    ensures { λ r. ⌜ r ≡ itemsNumber i ⌝ }
+{
+    match i {
+        Items::Boxed => 0,
+        Items::TooManyPolygons => 1,
+        Items::BufferTooShort => 2,
+        Items::UnknownKind => 6,
+    }
 }
 
 // ---- links

@@ -4,7 +4,7 @@
 use crate::lists::{inputs, Tame};
 use crate::subjects::{vec3, Kind, Pass, Side, Subject, Work};
 use bounds::geometry::{edges_work_len, BoundMaterial, Polygon, MATERIALS_LEN};
-use bounds::{build_materials, update_edge_indices, Vec3};
+use bounds::{build_materials, polygon_items, update_edge_indices, BvhItem, Vec3};
 use compare::random::Random;
 use oracle::geometry::VERTICES;
 use oracle::polygon as reference;
@@ -14,6 +14,8 @@ use std::hint::black_box;
 const GRIDS: &[usize] = &[2, 14, 40, 1_000, 10_000, 32_000];
 
 const LISTS: &[usize] = &[1_000, 10_000, 32_000];
+
+const ENDS: &[usize] = &[1_000, 32_000];
 
 const ONE: &[usize] = &[32_000];
 
@@ -27,6 +29,8 @@ pub fn all() -> Vec<Subject> {
         row("materials, 256", LISTS, &[10_000], |n, seed| materials(n, 256, seed)),
         row("bbox, triangles", ONE, ONE, |n, seed| boxes(&inputs(n, seed, corners), seed)),
         row("bbox, mixed kinds", ONE, ONE, |n, seed| boxes(&inputs(n, seed, mixed), seed)),
+        row("items, triangles", ENDS, ENDS, |n, seed| items(&inputs(n, seed, corners), seed)),
+        row("items, mixed kinds", ENDS, ENDS, |n, seed| items(&inputs(n, seed, mixed), seed)),
         row("read, triangles", ONE, ONE, |n, seed| reads(&inputs(n, seed, corners))),
         row("read, mixed kinds", ONE, ONE, |n, seed| reads(&inputs(n, seed, mixed))),
         row("to_bytes, triangles", ONE, ONE, |n, seed| writes(&inputs(n, seed, corners))),
@@ -140,6 +144,26 @@ fn boxes(polygons: &[Polygon], seed: u64) -> Work {
     let ours = each(polygons.to_vec(), move |p| p.bbox(black_box(&vertices)));
     let list: Vec<_> = polygons.iter().map(theirs).collect();
     both(ours, reference::boxer(&list, &points), polygons.len())
+}
+
+/// The boxes of a list as the items of a build, over the same vertices.
+fn items(polygons: &[Polygon], seed: u64) -> Work {
+    let n = polygons.len();
+    let points: Vec<[f32; 3]> = inputs(VERTICES, seed, Tame::point);
+    let vertices: Vec<Vec3> = points.iter().copied().map(vec3).collect();
+    let records: Vec<u8> = polygons.iter().flat_map(Polygon::to_bytes).collect();
+    let mut items = vec![BvhItem::ABSENT; n];
+    polygon_items(&records, n, &vertices, &mut items).expect("a list within the limits");
+    let list: Vec<_> = polygons.iter().map(theirs).collect();
+    for (p, item) in list.iter().zip(&items).take(100) {
+        let b = reference::bbox(*p, &points);
+        assert_eq!((item.min, item.max), (vec3(b.min), vec3(b.max)), "the same box");
+    }
+    let ours = move || {
+        let answer = polygon_items(black_box(&records), n, &vertices, black_box(&mut items));
+        black_box(answer).expect("a list within the limits");
+    };
+    both(Box::new(ours), reference::itemizer(&list, &points), n)
 }
 
 fn records(polygons: &[Polygon]) -> Vec<[u8; 16]> {

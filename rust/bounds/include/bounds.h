@@ -238,6 +238,11 @@ uint32_t bounds_polygon_write(uint8_t *out, size_t out_len, bounds_polygon polyg
 /* The box of a polygon over vertices of three words each; one that is not there is zero. Refusal 6 (a kind above 4). */
 bounds_box_answer bounds_polygon_bbox(bounds_polygon polygon, const uint32_t *vertices, size_t vertices_len);
 
+/* The boxes of n records over vertices of three words each, as entries of seven words: 1, min, max, as bounds_item has
+ * them. Refusals 1 (over 32,767), 2 (under 16 bytes or seven words a polygon), 6 (a record's kind is above 4), in this order. */
+uint32_t bounds_polygon_items(const uint8_t *polygons, size_t polygons_len, size_t polygon_count, const uint32_t *vertices,
+                              size_t vertices_len, uint32_t *items, size_t items_len);
+
 /* Words that linking n polygons works in, all parts together: 3n for each of the five. */
 uint64_t bounds_edges_work_len(uint32_t polygons);
 

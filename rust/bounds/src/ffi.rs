@@ -327,6 +327,15 @@ unsafe extern "C" {
     fn bounds_polygon_read(bytes: *const u8, bytes_len: usize) -> ReadAnswer;
     fn bounds_polygon_write(out: *mut u8, out_len: usize, polygon: PolygonC) -> u32;
     fn bounds_polygon_bbox(polygon: PolygonC, vertices: *const u32, vertices_len: usize) -> BoxAnswer;
+    fn bounds_polygon_items(
+        polygons: *const u8,
+        polygons_len: usize,
+        polygon_count: usize,
+        vertices: *const u32,
+        vertices_len: usize,
+        items: *mut u32,
+        items_len: usize,
+    ) -> u32;
     fn bounds_update_edge_indices(
         polygons: *mut u8,
         polygons_len: usize,
@@ -373,6 +382,26 @@ pub fn polygon_bbox(polygon: PolygonC, vertices: &[u32]) -> BoxAnswer {
     // SAFETY: the pointer comes from a slice, which is only read, and goes with its length. Any struct may be given: the
     // library reads a vertex only where the slice has it.
     unsafe { bounds_polygon_bbox(polygon, vertices.as_ptr(), vertices.len()) }
+}
+
+/// `bounds_polygon_items`, over items as they lie in memory.
+pub fn polygon_items(polygons: &[u8], polygon_count: usize, vertices: &[Vec3], items: &mut [BvhItem]) -> u32 {
+    let vertices = vector_words(vertices);
+    // SAFETY: each pointer comes from a slice and goes with that slice's length in words, seven an item (checked above), and
+    // all its cells are initialised; the items, being an exclusive borrow, overlap neither of the others, which are only
+    // read. An item holds any words: each pattern of bits is a u32 and an f32. The count may be any number: the library
+    // reaches records and items only where it found the slices long enough for them.
+    unsafe {
+        bounds_polygon_items(
+            polygons.as_ptr(),
+            polygons.len(),
+            polygon_count,
+            vertices.as_ptr(),
+            vertices.len(),
+            items.as_mut_ptr().cast(),
+            7 * items.len(),
+        )
+    }
 }
 
 /// `bounds_update_edge_indices`; what it works in is lent in five parts: corners, keys, sides, spare and links.

@@ -13,7 +13,7 @@
 //! ```
 
 use crate::ffi::{self, PolygonC};
-use crate::{Refusal, Vec3};
+use crate::{BvhItem, Refusal, Vec3};
 
 /// Bytes of a polygon's record.
 pub const RECORD: usize = 16;
@@ -141,6 +141,30 @@ impl Polygon {
 
 fn floats(w: ffi::Words3) -> Vec3 {
     Vec3::new(f32::from_bits(w.x), f32::from_bits(w.y), f32::from_bits(w.z))
+}
+
+/// The boxes of the first `n` records over their vertices, as the entries that [`build_bvh`](crate::build_bvh) takes: each
+/// is present and has the box that [`Polygon::bbox`] gives. Items past the first `n` are left as they were.
+///
+/// # Errors
+///
+/// Refusals 1 (over 32,767 polygons), 2 (under 16 bytes or under an item a polygon), 6 (a record's kind is above 4), in this
+/// order. None changes an item.
+///
+/// ```
+/// # use bounds::{geometry::polygon_items, BvhItem, Polygon, Refusal, Vec3};
+/// let vertices = [Vec3::new(1.0, 2.0, 3.0), Vec3::new(0.0, 5.0, 4.0)];
+/// let capsule = Polygon::Capsule { material: 0, i1: 0, i2: 1, radius: 0.5 };
+/// let mut items = [BvhItem::ABSENT; 2];
+/// polygon_items(&capsule.to_bytes(), 1, &vertices, &mut items)?;
+/// let boxed = BvhItem { present: 1, min: Vec3::new(-0.5, 1.5, 2.5), max: Vec3::new(1.5, 5.5, 4.5) };
+/// assert_eq!(items, [boxed, BvhItem::ABSENT]);
+/// assert_eq!(polygon_items(&[7; 16], 1, &vertices, &mut items), Err(Refusal::UnknownKind));
+/// assert_eq!(polygon_items(&[7; 16], 1, &vertices, &mut []), Err(Refusal::BufferTooShort));
+/// # Ok::<(), Refusal>(())
+/// ```
+pub fn polygon_items(polygons: &[u8], n: usize, vertices: &[Vec3], items: &mut [BvhItem]) -> Result<(), Refusal> {
+    Refusal::check(ffi::polygon_items(polygons, n, vertices, items))
 }
 
 /// Words of the work buffer for linking so many polygons.

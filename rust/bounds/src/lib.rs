@@ -23,7 +23,7 @@ pub mod refusal;
 pub mod walk;
 
 pub use bvh::{build_bvh, tree_header, BuiltTree, Bvh, BvhItem};
-pub use geometry::{build_materials, update_edge_indices, BoundMaterial, BoundVertex, Polygon};
+pub use geometry::{build_materials, polygon_items, update_edge_indices, BoundMaterial, BoundVertex, Polygon};
 pub use math::{Mat4, Vec3, Vec4};
 pub use premises::ordinary;
 pub use refusal::Refusal;

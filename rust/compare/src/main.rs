@@ -18,7 +18,7 @@ const USAGE: &str = "usage: compare [OP..] [--seed S] [--cases N] [--stride N] [
   --write-vectors FILE  writes a sample of the reference's answers, and compares only the OPs that are named";
 
 /// The group, and its operations.
-const GEOMETRY: [&str; 7] = ["geometry", "polygon", "materials", "links", "quantum", "stored", "read_back"];
+const GEOMETRY: [&str; 8] = ["geometry", "polygon", "items", "materials", "links", "quantum", "stored", "read_back"];
 
 struct Arguments {
     ops: Vec<String>,
@@ -100,6 +100,9 @@ fn geometry(a: &Arguments) -> Vec<report::Line> {
     let named = |name: &str| a.ops.iter().any(|op| op == GEOMETRY[0] || op == name);
     if named("polygon") {
         lines.push(polygons::run(a.seed, a.cases, &proved::POLYGON));
+    }
+    if named("items") {
+        lines.push(polygons::items(a.seed, a.cases, proved::items));
     }
     if named("materials") {
         lines.push(meshes::materials(a.seed, a.cases, proved::materials));

@@ -6,7 +6,7 @@ use crate::operation::made;
 use crate::plain::polygon as plain;
 use crate::random::Random;
 use crate::report::{Line, Progress};
-use oracle::polygon::{self as reference, Polygon};
+use oracle::polygon::{self as reference, Polygon, LIMIT};
 use oracle::{Aabb, Vec3};
 
 /// What is compared. Refusals are numbers.
@@ -163,6 +163,84 @@ fn differs(case: &Case, read: Result<Polygon, u32>, ours: &Sides, seed: u64) -> 
     Ok(())
 }
 
+/// Records, of which the first so many get their items, over vertices and into words, seven an item.
+pub type PutItems = fn(&[u8], usize, &[Vec3], &mut [u32]) -> Result<(), u32>;
+
+/// The items of lists of polygons, held to the reference's boxes, one by one. A made NaN is held as a NaN.
+pub fn items(seed: u64, cases: u64, ours: PutItems) -> Line {
+    let mut progress = Progress::new("items", cases);
+    let (mut reached, mut mismatches, mut first) = ([0u64; 5], 0, None);
+    let mut polygons = Polygons::new(seed);
+    for done in 0..cases {
+        if let Err(why) = polygons.list(ours, &mut reached) {
+            mismatches += 1;
+            first.get_or_insert(why);
+        }
+        if done % 1024 == 0 {
+            progress.at(done);
+        }
+    }
+    progress.end(mismatches);
+    let [boxed, many, short, kind, nan] = reached;
+    let lines = vec![
+        format!("lists boxed: {boxed}; with a NaN among the vertices: {nan}"),
+        format!("refused 1: {many}; 2: {short}; 6: {kind}"),
+    ];
+    Line { operation: "items".to_string(), cases, mismatches, smallest: first, reached: lines }
+}
+
+impl Polygons {
+    fn list(&mut self, ours: PutItems, reached: &mut [u64; 5]) -> Result<(), String> {
+        let r = &mut self.random;
+        let n = if r.once_in(2_000) { r.pick(&[LIMIT, LIMIT + 1]) } else { r.below(20) };
+        let count = if r.once_in(20) { 8 * n + r.below(40) } else { r.below(9) };
+        let mut vertices = self.vertices(count.min(0x8000));
+        if self.random.once_in(2) {
+            vertices.iter_mut().flatten().filter(|x| x.is_nan()).for_each(|x| *x = -0.0);
+        }
+        reached[4] += vertices.iter().flatten().any(|x| x.is_nan()) as u64;
+        let list: Vec<Polygon> = (0..n).map(|_| self.polygon(count)).collect();
+        let mut records: Vec<u8> = list.iter().flat_map(|&p| reference::to_bytes(p)).collect();
+        let (mut room, r) = (n, &mut self.random);
+        match r.below(24) {
+            0 => room = n.saturating_sub(1 + r.below(3)),
+            1 => records.truncate(records.len().saturating_sub(1 + r.below(20))),
+            2 if n > 0 && n <= LIMIT => records[plain::RECORD * r.below(n)] |= 7,
+            3 => room += r.below(3),
+            _ => {}
+        }
+        let kinds = records.iter().step_by(plain::RECORD).take(n);
+        let expected = if n > LIMIT {
+            Err(1)
+        } else if records.len() < plain::RECORD * n || room < n {
+            Err(2)
+        } else if kinds.clone().any(|byte| byte % 8 > 4) {
+            Err(6)
+        } else {
+            Ok(())
+        };
+        reached[expected.map_or_else(|number: u32| number.min(3) as usize, |_| 0)] += 1;
+        let before: Vec<u32> = (0..7 * room as u32).map(|i| i.wrapping_mul(0x9E37_79B9) & 0x7F7F_FFFF).collect();
+        let mut words = before.clone();
+        let found = ours(&records, n, &vertices, &mut words);
+        if found != expected {
+            return Err(format!("items: {found:?}, expected {expected:?}"));
+        }
+        let written = if expected.is_ok() { 7 * n } else { 0 };
+        if words[written..] != before[written..] {
+            return Err("items: a word is changed that is none of theirs".to_string());
+        }
+        for (p, item) in list.iter().zip(words[..written].chunks_exact(7)) {
+            let vector = |w: &[u32]| [w[0], w[1], w[2]].map(f32::from_bits);
+            let (b, e) = (Aabb { min: vector(&item[1..]), max: vector(&item[4..]) }, reference::bbox(*p, &vertices));
+            if item[0] != 1 || corners(*p, b) != corners(*p, e) {
+                return Err(format!("items: {b:?}, expected {e:?}\n  {p:?} over {vertices:?}"));
+            }
+        }
+        Ok(())
+    }
+}
+
 #[cfg(test)]
 mod tests {
     use super::*;
@@ -181,6 +259,22 @@ mod tests {
             assert_eq!((line.mismatches, line.smallest), (0, None));
             assert!(line.reached.iter().all(|what| !what.contains(": 0")), "{:?}", line.reached);
         }
+    }
+
+    #[test]
+    fn items_match_and_a_wrong_one_is_found() {
+        if left_out("items_match_and_a_wrong_one_is_found") {
+            return;
+        }
+        let line = items(1, 20_000, crate::proved::items);
+        assert_eq!((line.mismatches, line.smallest), (0, None));
+        assert!(line.reached.iter().all(|what| !what.contains(": 0")), "{:?}", line.reached);
+        let swapped: PutItems = |records, n, vertices, words| {
+            crate::proved::items(records, n, vertices, words)?;
+            words[..7 * n].chunks_exact_mut(7).for_each(|item| item.swap(3, 6));
+            Ok(())
+        };
+        assert!(items(2, 2_000, swapped).mismatches > 0);
     }
 
     #[test]

@@ -56,6 +56,20 @@ pub fn bbox(polygon: Polygon, vertices: &[Vec3]) -> Aabb {
     Aabb { min: coordinates(min), max: coordinates(max) }
 }
 
+/// Items as words, seven each.
+pub fn items(records: &[u8], n: usize, vertices: &[Vec3], words: &mut [u32]) -> Result<(), u32> {
+    let vertices: Vec<bounds::Vec3> = vertices.iter().copied().map(point).collect();
+    let vector = |w: &[u32]| point([w[0], w[1], w[2]].map(f32::from_bits));
+    let item = |w: &[u32]| bounds::BvhItem { present: w[0], min: vector(&w[1..]), max: vector(&w[4..]) };
+    let mut items: Vec<bounds::BvhItem> = words.chunks_exact(7).map(item).collect();
+    let answer = library::polygon_items(records, n, &vertices, &mut items).map_err(Refusal::number);
+    for (out, item) in words.chunks_exact_mut(7).zip(items) {
+        let ([a, b, c], [d, e, f]) = (coordinates(item.min).map(f32::to_bits), coordinates(item.max).map(f32::to_bits));
+        out.copy_from_slice(&[item.present, a, b, c, d, e, f]);
+    }
+    answer
+}
+
 pub fn materials(numbers: &[u8], given: &[Material], list: &mut [u8], indices: &mut [u8]) -> Result<usize, u32> {
     let given: Vec<BoundMaterial> = given.iter().map(|&(data1, data2)| BoundMaterial { data1, data2 }).collect();
     library::build_materials(numbers, &given, list, indices).map_err(Refusal::number)

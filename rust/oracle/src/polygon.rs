@@ -45,6 +45,9 @@ answers! {
     /// `Polygon::bbox` alone, to be timed: each call makes the boxes of all polygons, one after another.
     fn boxer(polygons: &[Polygon], vertices: &[Vec3]) -> Box<dyn FnMut() + Send> { inside::boxer(polygons, vertices) }
 
+    /// The list of items that a tree over the polygons is built from, to be timed: each call makes it anew.
+    fn itemizer(polygons: &[Polygon], vertices: &[Vec3]) -> Box<dyn FnMut() + Send> { inside::itemizer(polygons, vertices) }
+
     /// bounds.rs, `Geometry::build_materials`, for polygons with these material numbers. Refusal 1; 8 cannot happen
     /// with numbers of one byte.
     fn materials(numbers: &[u8], materials: &[Material]) -> Result<Materials, Refused> {

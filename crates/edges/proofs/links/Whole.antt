@@ -69,21 +69,22 @@ module _ (cs : List ℕ) (c : Corners cs) where
         (sidesOf cs)
         (every-both (λ s. s < length cs) (λ s. there cs s ≡ true) (sidesOf cs) in-corners (every-passes (there cs) (upFrom 0 (length cs))))
 
-    -- the same keys, of the sides
-    alike : (k : ℕ) (ss : List ℕ) → Every (λ s. s < length cs) ss → withKey (keyIn keys) k ss ≡ withKey (keyOf cs) k ss
+  -- by keys that are those of the sides
+  module _ (key : ℕ → ℕ) (ks : (s : ℕ) → s < length cs → key s ≡ keyOf cs s) where
+    alike : (k : ℕ) (ss : List ℕ) → Every (λ s. s < length cs) ss → withKey key k ss ≡ withKey (keyOf cs) k ss
     alike k [] w = refl
     alike k (s ∷ ss) w = ap₂ (λ (b : Bool) (l : List ℕ). cond b (s ∷ l) l) (ap (λ (q : ℕ). eqb q k) (ks s (w .0))) (alike k ss (w .1))
 
-    module _ (before after : List ℕ) (no : (s : ℕ) → s < length cs → getD before s 0 ≡ none) (g : Linked (keyIn keys) (sidesOf cs) before after) where
+    module _ (before after : List ℕ) (no : (s : ℕ) → s < length cs → getD before s 0 ≡ none) (g : Linked key (sidesOf cs) before after) where
       link-is : (s : ℕ) → s < length cs → getD after s 0 ≡ linkOf cs s
       unfolding linkOf
       link-is s h = go (there cs s) refl
         where
           go : (b : Bool) → there cs s ≡ b → getD after s 0 ≡ cond b (linkAmong s (sameAs cs s)) none
           go true e =
-              every-among (λ t. getD after t 0 ≡ linkAmong t (withKey (keyIn keys) (keyIn keys t) (sidesOf cs))) s (sidesOf cs) (g .linked)
+              every-among (λ t. getD after t 0 ≡ linkAmong t (withKey key (key t) (sidesOf cs))) s (sidesOf cs) (g .linked)
               (among-counting (there cs) s 0 (length cs) (omega arith) (omega arith) e)
-              ∙ ap (linkAmong s) (alike (keyIn keys s) (sidesOf cs) in-corners ∙ ap (λ (k : ℕ). withKey (keyOf cs) k (sidesOf cs)) (ks s h))
+              ∙ ap (linkAmong s) (alike (key s) (sidesOf cs) in-corners ∙ ap (λ (k : ℕ). withKey (keyOf cs) k (sidesOf cs)) (ks s h))
           go false e = g .others s (absent (occurrences s (sidesOf cs)) refl) ∙ no s h
             where
               absent : (n : ℕ) → occurrences s (sidesOf cs) ≡ n → n ≡ 0

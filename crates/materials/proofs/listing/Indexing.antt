@@ -13,7 +13,7 @@ use Rattle.base.specs.Lists.{over, Below}
 use Rattle.base.proofs.EveryLaws.{every-append}
 use Rattle.base.proofs.StoreLaws.{over-one}
 use Rattle.materials.specs.Materials.{placeIn, admit, listOf, indicesOf}
-use Rattle.materials.specs.steps.Listing.{Placed, Fits, Entered, Empty, Indexed}
+use Rattle.materials.specs.steps.Listing.{Placed, Fits, Marked, Entered, Empty, Indexed}
 use Rattle.materials.proofs.ListLaws.{admit-length, place-kept, place-own, place-in, list-more, indices-more, few-materials}
 
 -- the materials of the first p polygons
@@ -22,13 +22,14 @@ done value numbers p = map value (take p numbers)
 
 pub record Indexing (value : ℕ → ℕ) (numbers indices₀ table list indices : List ℕ) (count p : ℕ) : Type 0 where
   pub bytes : Below 256 (take p numbers)
-  pub whole : length table ≡ 256
+  pub whole : length table ≡ 1280
   pub long : length list ≡ 256
   pub len : length indices ≡ length indices₀
   pub counted : count ≡ length (listOf (done value numbers p))
   pub listed : take count list ≡ listOf (done value numbers p)
   pub placed : (b : ℕ) → b < 256 → Placed (value b) (listOf (done value numbers p)) (getD table b 0)
   pub indexed : indices ≡ over (indicesOf (done value numbers p)) indices₀
+  pub marked : Marked table (listOf (done value numbers p))
 
 pub start : (value : ℕ → ℕ) (numbers indices table list : List ℕ) → Empty table → length list ≡ 256
     → Indexing value numbers indices table list indices 0 0
@@ -42,6 +43,7 @@ start value numbers indices table list e l =
       listed = refl;
       placed = λ b h. record { place = λ ne. absurd (ne (e .empty b h)); there = λ ne. absurd (ne (e .empty b h)) };
       indexed = refl;
+      marked = record { marks = λ y k. absurd (omega (arith, k)) };
     }
 
 module _ (value : ℕ → ℕ) (numbers indices₀ table list indices : List ℕ) (count p : ℕ) (g : Indexing value numbers indices₀ table list indices count p)
@@ -75,6 +77,9 @@ module _ (value : ℕ → ℕ) (numbers indices₀ table list indices : List ℕ
         room = rw (g .listed) (omega (arith, place-in xs x, few, g .long));
       }
 
+  pub marks : Marked table (take count list)
+  marks = rw (g .listed) (g .marked)
+
   pub entry : Placed x (take count list) (getD table b 0)
   entry = rw (g .listed) (g .placed b small)
 
@@ -101,7 +106,7 @@ module _ (value : ℕ → ℕ) (numbers indices₀ table list indices : List ℕ
         go : (q : Bool) → eqb c b ≡ q → Placed (value c) (admit xs x) (getD table′ c 0)
         go true q = subst (λ (k : ℕ). Placed (value k) (admit xs x) (getD table′ k 0)) (sym (eqb-true c b q)) itself
         go false q =
-            let same : getD table′ c 0 ≡ getD table c 0 = n .others c (eqb-false c b q) in
+            let same : getD table′ c 0 ≡ getD table c 0 = n .others c k (eqb-false c b q) in
             let old = g .placed c k in
             let kept : (getD table c 0 ≡ 0 → ⊥) → placeIn (admit xs x) (value c) ≡ placeIn xs (value c) =
             λ m. place-kept xs x (value c) (old .there m) in
@@ -128,6 +133,7 @@ module _ (value : ℕ → ℕ) (numbers indices₀ table list indices : List ℕ
               ∙ over-one (indicesOf (done value numbers p)) indices₀ i p full k
               ∙ ap (λ (j : ℕ). over (indicesOf (done value numbers p) ++ (j ∷ [])) indices₀) (index-is i q)
               ∙ ap (λ (is : List ℕ). over is indices₀) (sym (ap indicesOf more ∙ indices-more (done value numbers p) x));
+          marked = rw list-is (subst (λ (ys : List ℕ). Marked table′ (admit ys x)) (g .listed) (n .marked));
         })
 
 pub ended : (value : ℕ → ℕ) (numbers indices₀ table list indices : List ℕ) (count p n : ℕ) → Indexing value numbers indices₀ table list indices count p

@@ -1,5 +1,5 @@
 -- What the parts of `build_materials` say to each other. Definitions only.
-use Prim.Native.Nat.{ℕ, _+_, _*_, _≤_, _<_}
+use Prim.Native.Nat.{ℕ, _+_, _*_, _%_, _≤_, _<_}
 use mathlib.Core.Path.{_≡_}
 use mathlib.Core.List.{List}
 use lib.ListN.{length, getD, take}
@@ -10,6 +10,14 @@ use Rattle.materials.specs.Materials.{placeIn, admit, listOf, indicesOf,
 pub record Placed (x : ℕ) (xs : List ℕ) (entry : ℕ) : Type 0 where
   pub place : (entry ≡ 0 → ⊥) → entry ≡ 1 + placeIn xs x
   pub there : (entry ≡ 0 → ⊥) → placeIn xs x < length xs
+
+-- where a material's mark stands, behind the places of the 256 numbers
+abbrev pub bucketOf : ℕ → ℕ
+bucketOf x = x % 1021
+
+-- Each material of the list has its mark.
+pub record Marked (table xs : List ℕ) : Type 0 where
+  pub marks : (y : ℕ) → placeIn xs y < length xs → getD table (256 + bucketOf y) 0 ≡ 0 → ⊥
 
 -- There is room for the material x behind the first `count` of the list, if it is not among them.
 pub record Fits (x : ℕ) (list : List ℕ) (count : ℕ) : Type 0 where
@@ -22,7 +30,8 @@ pub record Entered (b x : ℕ) (table₀ table xs list : List ℕ) (r : ℕ) : T
   pub counted : r ≡ length (admit xs x)
   pub listed : take r list ≡ admit xs x
   pub own : getD table b 0 ≡ 1 + placeIn xs x
-  pub others : (c : ℕ) → (c ≡ b → ⊥) → getD table c 0 ≡ getD table₀ c 0
+  pub others : (c : ℕ) → c < 256 → (c ≡ b → ⊥) → getD table c 0 ≡ getD table₀ c 0
+  pub marked : Marked table (admit xs x)
 
 -- n numbers, m materials, and room for the list and the indices
 pub record Given (n m : ℕ) (numbers mats list indices : List ℕ) : Type 0 where
@@ -34,7 +43,7 @@ pub record Given (n m : ℕ) (numbers mats list indices : List ℕ) : Type 0 whe
 
 -- a table without a place
 pub record Empty (table : List ℕ) : Type 0 where
-  pub whole : length table ≡ 256
+  pub whole : length table ≡ 1280
   pub empty : (b : ℕ) → b < 256 → getD table b 0 ≡ 0
 
 -- The list's first r are the list of the materials ms, and the indices begin with theirs.

@@ -1,5 +1,6 @@
 -- `dedupe`: a table of zeros has no place yet.
 use borrow.Author.Needs.{needs}
+use native.Mathlib.Omega.{arith}
 use Rattle.materials.proofs.listing.dedupe.Statement.{statement}
 use Rattle.materials.proofs.listing.dedupe.Tie as tie
 use Prim.Native.Nat.{ℕ}
@@ -11,7 +12,7 @@ slice-aggregate-index-all c = search needs
 index-all-requires : tie.Need-index-all-requires
 index-all-requires c κs =
     let at-start = c .before .before .before .before .before .before .before in
-    (at-start .pre, record { whole = length-replicate {A = ℕ} 256 0; empty = λ b h. getD-replicate {A = ℕ} 256 b 0 0 h })
+    (at-start .pre, record { whole = length-replicate {A = ℕ} 1280 0; empty = λ b h. getD-replicate {A = ℕ} 1280 b 0 0 (omega (arith, h)) })
 
 same-length : tie.Need-same-length
 same-length c = search needs

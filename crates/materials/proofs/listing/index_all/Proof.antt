@@ -7,7 +7,7 @@ use mathlib.Core.Path.{_≡_, sym, _∙_}
 use lib.ListN.{length, getD, take}
 use Rattle.materials.specs.Materials.{valueAt}
 use Rattle.materials.specs.steps.Listing.{Entered, Given}
-use Rattle.materials.proofs.listing.Indexing.{Indexing, start, fits, entry, index-small, set-there, one-more, ended}
+use Rattle.materials.proofs.listing.Indexing.{Indexing, start, fits, marks, entry, index-small, set-there, one-more, ended}
 
 abbrev Inv-loop : tie.InvT-loop
 Inv-loop numbers n mats m table₀ list₀ indices₀ count₀ p₀ table list indices count p =
@@ -73,7 +73,8 @@ enter-requires c κs =
     let w = at-wide .wide .ensures in
     let f = fits _ _ _ _ _ _ _ _ (l .inv .0) (in-numbers at-test) _ (w .0) (w .1) in
     let p = entry _ _ _ _ _ _ _ _ (l .inv .0) (in-numbers at-test) _ (w .0) (w .1) in
-    (omega (arith, w .1, l .inv .0 .whole), rw (c .before .value-at .ensures) f, rw (c .before .value-at .ensures) p)
+    let k = marks _ _ _ _ _ _ _ _ (l .inv .0) (in-numbers at-test) _ (w .0) (w .1) in
+    (w .1, rw (c .before .value-at .ensures) f, rw (c .before .value-at .ensures) p, l .inv .0 .whole, k)
 
 mul-narrow : tie.Need-mul-narrow Inv-loop μ-loop
 mul-narrow c =

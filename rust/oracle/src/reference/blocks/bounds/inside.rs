@@ -98,6 +98,20 @@ pub fn boxer(polygons: &[Plain], vertices: &[crate::Vec3]) -> Box<dyn FnMut() + 
     })
 }
 
+/// As `Geometry` does before it builds its tree.
+pub fn itemizer(polygons: &[Plain], vertices: &[crate::Vec3]) -> Box<dyn FnMut() + Send> {
+    let polygons: Vec<Polygon> = polygons.iter().map(|&p| polygon(p)).collect();
+    let vertices: Vec<Vec3> = vertices.iter().map(|&p| v(p)).collect();
+    Box::new(move || {
+        let item = |(index, p): (usize, &Polygon)| {
+            let (min, max) = p.bbox(&vertices);
+            Some(BvhItem { min, max, index })
+        };
+        let items: Vec<Option<BvhItem>> = black_box(&polygons).iter().enumerate().map(item).collect();
+        black_box(items);
+    })
+}
+
 pub fn bbox(p: Plain, vertices: &[crate::Vec3]) -> crate::Aabb {
     let vertices: Vec<Vec3> = vertices.iter().map(|&p| v(p)).collect();
     let (min, max) = polygon(p).bbox(&vertices);
