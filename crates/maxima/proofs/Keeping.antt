@@ -111,11 +111,13 @@ module _ (shadowed : ℕ → ℕ → Bool) (kept : List ℕ) (count i : ℕ) (ro
   fewer part left g =
       omega (arith, g .count, length-sift (λ k. not (shadowed k i)) (take count kept), length-take-le count kept (omega arith))
 
-  pub has-place : (part : List ℕ) (left : ℕ) → length part ≡ count → Begins (sift (λ k. not (shadowed k i)) (take count kept)) part left → left < length (part ++ drop count kept)
+  pub has-place : (part : List ℕ) (left : ℕ) → length part ≡ count → Begins (sift (λ k. not (shadowed k i)) (take count kept)) part left
+      → left < length (part ++ drop count kept)
   has-place part left e g = omega (arith, fewer part left g, length-append part (drop count kept), length-drop count kept)
 
   -- `part` is what the thinning left of the first `count`
-  pub joins : (part : List ℕ) (left : ℕ) → length part ≡ count → some (shadowed i) (take count kept) ≡ false → Begins (sift (λ k. not (shadowed k i)) (take count kept)) part left
+  pub joins : (part : List ℕ) (left : ℕ) → length part ≡ count → some (shadowed i) (take count kept) ≡ false
+      → Begins (sift (λ k. not (shadowed k i)) (take count kept)) part left
       → Begins (admit shadowed (take count kept) i) (set (part ++ drop count kept) left i) (left + 1)
   joins part left e f g =
       let spared = sift (λ k. not (shadowed k i)) (take count kept) in

@@ -119,14 +119,17 @@ module _ (p : ℕ → Bool) (n : ℕ) (before now : List ℕ) (count i : ℕ) (l
         list = s ∙ sym (append-snoc (sift p (numbers i)) i (drop (suc count) before)) ∙ sym (rw (sifted-next true e, add-one count));
       }
 
-pub all-listed : (p : ℕ → Bool) (n : ℕ) (before now : List ℕ) (count i : ℕ) → Listing p n before now count i → n ≤ i → Written (sift p (numbers n)) before now count
+pub all-listed : (p : ℕ → Bool) (n : ℕ) (before now : List ℕ) (count i : ℕ) → Listing p n before now count i → n ≤ i
+    → Written (sift p (numbers n)) before now count
 all-listed p n before now count i l h =
     let e : i ≡ n = omega (arith, l .upto) in
     let c : count ≡ length (sift p (numbers n)) = rw e at (l .count-is) in
     record { count = c; list = rw (← c) (rw e at (l .list)) }
 
-pub listing-length : (p : ℕ → Bool) (n : ℕ) (before now : List ℕ) (count i : ℕ) → Listing p n before now count i → n ≤ length before → length now ≡ length before
-listing-length p n before now count i l room = omega (arith, ap length (l .list), length-append (sift p (numbers i)) (drop count before), length-drop count before, l .few, l .upto, l .count-is)
+pub listing-length : (p : ℕ → Bool) (n : ℕ) (before now : List ℕ) (count i : ℕ) → Listing p n before now count i → n ≤ length before
+    → length now ≡ length before
+listing-length p n before now count i l room = omega
+    (arith, ap length (l .list), length-append (sift p (numbers i)) (drop count before), length-drop count before, l .few, l .upto, l .count-is)
 
 -- ---- the numbers 0 to n − 1
 

@@ -20,7 +20,8 @@ pub record Stored (v : Vec3) : Type 0 where
   pub fits-z : T (fits binary32 (v .z))
 
 -- what is so of each of three tests is so of all three
-pub three : (p q r p' q' r' p'' q'' r'' : Bool) → (T p → T p' → T p'') → (T q → T q' → T q'') → (T r → T r' → T r'') → T (p && (q && r)) → T (p' && (q' && r')) → T (p'' && (q'' && r''))
+pub three : (p q r p' q' r' p'' q'' r'' : Bool) → (T p → T p' → T p'') → (T q → T q' → T q'') → (T r → T r' → T r'') → T (p && (q && r))
+    → T (p' && (q' && r')) → T (p'' && (q'' && r''))
 three p q r p' q' r' p'' q'' r'' f g h t u =
     let v = and-r p (q && r) t in
     let w = and-r p' (q' && r') u in
@@ -47,4 +48,5 @@ pub shadowed-trans : (o : ℕ) (ws : List ℕ) → Transitive (shadowedIn (flipO
 unfolding shadowedIn
 shadowed-trans o ws i j k h h' =
     holds-true
-    (shadowed-by-trans o (vertexAt ws i) (vertexAt ws j) (vertexAt ws k) (vertex-stored ws i) (vertex-stored ws j) (vertex-stored ws k) (true-holds h) (true-holds h'))
+    (shadowed-by-trans o (vertexAt ws i) (vertexAt ws j) (vertexAt ws k) (vertex-stored ws i) (vertex-stored ws j) (vertex-stored ws k) (true-holds h)
+    (true-holds h'))

@@ -43,7 +43,9 @@ slice-relend-prefix-retain c = search needs
 
 -- src/kept.rt:128:35
 slice-aggregate-retain : tie.Need-slice-aggregate-retain
-slice-aggregate-retain c = sym (length-take-le _ (c .before .before .before .before .before .before .args .kept .now) (omega (arith, c .before .before .before .before .before .before .pre .room)))
+slice-aggregate-retain c =
+    let c6 = c .before .before .before .before .before .before in
+    sym (length-take-le _ (c6 .args .kept .now) (omega (arith, c6 .pre .room)))
 
 -- src/kept.rt:128:9
 retain-requires : tie.Need-retain-requires
@@ -57,7 +59,12 @@ cast-kept c = search needs
 mul-kept : tie.Need-mul-kept
 mul-kept c =
     let g = c .before .before .before .before .before .before .before .before .before in
-    omega (arith, g .pre .room, fewer (shadowedAt (g .args .n) (g .args .rows .now)) (g .args .kept .now) (g .args .s .count) (g .args .i) (g .pre .room) _ _ (c .before .before .retain .ensures))
+    omega (
+      arith,
+      g .pre .room,
+      fewer (shadowedAt (g .args .n) (g .args .rows .now)) (g .args .kept .now) (g .args .s .count) (g .args .i)
+          (g .pre .room) _ _ (c .before .before .retain .ensures),
+    )
 
 -- src/kept.rt:129:5
 slice-write-kept : tie.Need-slice-write-kept
@@ -70,7 +77,12 @@ slice-write-kept c =
 add-count : tie.Need-add-count
 add-count c =
     let g = c .before .before .before .before .before .before .before .before .before in
-    omega (arith, g .pre .room, fewer (shadowedAt (g .args .n) (g .args .rows .now)) (g .args .kept .now) (g .args .s .count) (g .args .i) (g .pre .room) _ _ (c .before .before .retain .ensures))
+    omega (
+      arith,
+      g .pre .room,
+      fewer (shadowedAt (g .args .n) (g .args .rows .now)) (g .args .kept .now) (g .args .s .count) (g .args .i)
+          (g .pre .room) _ _ (c .before .before .retain .ensures),
+    )
 
 -- src/kept.rt:131:35
 slice-reshare-prefix-furthest : tie.Need-slice-reshare-prefix-furthest
@@ -82,20 +94,24 @@ slice-reshare-prefix-furthest c =
 -- src/kept.rt:131:35
 slice-aggregate-furthest : tie.Need-slice-aggregate-furthest
 slice-aggregate-furthest c =
-    let g = c .before .before .before .before .before .before .before .before .before .before in
+    let c3 = c .before .before .before in
+    let g = c3 .before .before .before .before .before .before .before in
     sym (length-take-le _ _ (placed (shadowedAt (g .args .n) (g .args .rows .now)) (g .args .kept .now) (g .args .s .count) (g .args .i) (g .pre .room) _ _
-    (c .before .before .before .retain .kept .1 .1 .1 .0 ∙ length-take-le _ (g .args .kept .now) (omega (arith, g .pre .room))) (c .before .before .before .retain .ensures)))
+    (c3 .retain .kept .1 .1 .1 .0 ∙ length-take-le _ (g .args .kept .now) (omega (arith, g .pre .room))) (c3 .retain .ensures)))
 
 -- src/kept.rt:131:9
 furthest-requires : tie.Need-furthest-requires
 furthest-requires c κs =
-    let g = c .before .before .before .before .before .before .before .before .before .before in
+    let c3 = c .before .before .before in
+    let c5 = c3 .before .before in
+    let c6 = c5 .before in
+    let g = c6 .before .before .before .before in
     let s = shadowedAt (g .args .n) (g .args .rows .now) in
-    let none = sym (c .before .before .before .before .before .before .shadowed-first .ensures) ∙ c .before .before .before .before .before .if1 .left in (
+    let none = sym (c6 .shadowed-first .ensures) ∙ c5 .if1 .left in (
       g .pre .testable .size,
       all-below s _ _ _ _ _ (g .pre .testable .vertex) (g .pre .testable .below) none
           (joins s (g .args .kept .now) (g .args .s .count) (g .args .i) (g .pre .room) _ _
-          (c .before .before .before .retain .kept .1 .1 .1 .0 ∙ length-take-le _ (g .args .kept .now) (omega (arith, g .pre .room))) none (c .before .before .before .retain .ensures)),
+          (c3 .retain .kept .1 .1 .1 .0 ∙ length-take-le _ (g .args .kept .now) (omega (arith, g .pre .room))) none (c3 .retain .ensures)),
     )
 
 -- src/kept.rt:121:1
@@ -105,9 +121,12 @@ same-length-2 c = search needs
 -- src/kept.rt:121:1
 returns-2 : tie.Need-returns-2
 returns-2 c =
-    let g = c .before .before .before .before .before .before .before .before .before .before .before in
-    joins _ _ _ _ (g .pre .room) _ _ (c .before .before .before .before .retain .kept .1 .1 .1 .0 ∙ length-take-le _ (g .args .kept .now) (omega (arith, g .pre .room)))
-    (sym (c .before .before .before .before .before .before .before .shadowed-first .ensures) ∙ c .before .before .before .before .before .before .if1 .left) (c .before .before .before .before .retain .ensures)
+    let c4 = c .before .before .before .before in
+    let c6 = c4 .before .before in
+    let c7 = c6 .before in
+    let g = c7 .before .before .before .before in
+    joins _ _ _ _ (g .pre .room) _ _ (c4 .retain .kept .1 .1 .1 .0 ∙ length-take-le _ (g .args .kept .now) (omega (arith, g .pre .room)))
+    (sym (c7 .shadowed-first .ensures) ∙ c6 .if1 .left) (c4 .retain .ensures)
 
 pub admit-spec : {M : Type 1} → statement M
 admit-spec =

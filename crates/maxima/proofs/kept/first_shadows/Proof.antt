@@ -30,8 +30,9 @@ cast-shadowed c = omega (arith, c .shared-slice-known3 .given (c .before .before
 -- src/kept.rt:33:5
 shadowed-requires : tie.Need-shadowed-requires
 shadowed-requires c κs =
-    let a = c .before .before .before .before .args in
-    (c .before .before .before .before .pre .size, c .before .before .before .before .pre .vertex, every-at (λ p. p < a .n) (a .kept .now) (a .first) (c .before .before .before .before .pre .below) (omega (arith, c .before .if1 .left)))
+    let c4 = c .before .before .before .before in
+    let a = c4 .args in
+    (c4 .pre .size, c4 .pre .vertex, every-at (λ p. p < a .n) (a .kept .now) (a .first) (c4 .pre .below) (omega (arith, c .before .if1 .left)))
 
 -- src/kept.rt:26:1
 returns-2 : tie.Need-returns-2

@@ -34,7 +34,11 @@ returns c = λ l. absurd (omega (arith, c .before .if1 .taken))
 
 -- src/kept.rt:146:9
 admit-requires : tie.Need-admit-requires Inv-loop μ-loop
-admit-requires c κs = admissible _ _ _ _ _ _ (c .before .before .before .before .loop .inv) (c .before .before .before .loop-test .taken) (c .before .before .before .before .before .before .before .pre .0) (c .before .before .before .before .before .before .before .pre .1) (c .before .if1 .left)
+admit-requires c κs =
+    let c3 = c .before .before .before in
+    let c4 = c3 .before in
+    let c7 = c4 .before .before .before in
+    admissible _ _ _ _ _ _ (c4 .loop .inv) (c3 .loop-test .taken) (c7 .pre .0) (c7 .pre .1) (c .before .if1 .left)
 
 -- src/kept.rt:147:9
 add-i : tie.Need-add-i Inv-loop μ-loop
@@ -46,7 +50,10 @@ loop-less c = search needs
 
 -- src/kept.rt:142:5
 loop-again : tie.Need-loop-again Inv-loop μ-loop
-loop-again c = one-more _ _ _ _ _ _ (c .before .before .before .before .before .before .before .loop .inv) (c .before .before .before .before .before .before .loop-test .taken) _ _ (c .before .before .admit .kept .1 .1 .1 .0) (c .before .before .admit .ensures)
+loop-again c =
+    let c6 = c .before .before .before .before .before .before in
+    let c7 = c6 .before in
+    one-more _ _ _ _ _ _ (c7 .loop .inv) (c6 .loop-test .taken) _ _ (c .before .before .admit .kept .1 .1 .1 .0) (c .before .before .admit .ensures)
 
 -- src/kept.rt:136:1
 same-length-2 : tie.Need-same-length-2 Inv-loop μ-loop

@@ -38,12 +38,20 @@ cast-shadowed c = omega (arith, c .shared-slice-known3 .given (c .before .before
 -- src/kept.rt:43:12
 shadowed-requires : tie.Need-shadowed-requires Inv-loop μ-loop
 shadowed-requires c κs =
-    let e = c .before .before .before .before .before in
-    (e .pre .size, e .pre .vertex, every-at (λ p. p < e .args .n) (e .args .kept .now) (c .before .before .loop .k) (e .pre .below) (c .before .loop-test .taken))
+    let c5 = c .before .before .before .before .before in
+    let e = c5 in (
+      e .pre .size,
+      e .pre .vertex,
+      every-at (λ p. p < e .args .n) (e .args .kept .now) (c .before .before .loop .k) (e .pre .below)
+          (c .before .loop-test .taken),
+    )
 
 -- src/kept.rt:44:13
 returns : tie.Need-returns Inv-loop μ-loop
-returns c = found _ _ _ (c .before .before .before .before .loop .inv) (c .before .before .before .loop-test .taken) (sym (c .before .shadowed .ensures) ∙ c .if1 .taken)
+returns c =
+    let c3 = c .before .before .before in
+    let c4 = c3 .before in
+    found _ _ _ (c4 .loop .inv) (c3 .loop-test .taken) (sym (c .before .shadowed .ensures) ∙ c .if1 .taken)
 
 -- src/kept.rt:46:9
 add-k : tie.Need-add-k Inv-loop μ-loop
@@ -55,7 +63,10 @@ loop-less c = search needs
 
 -- src/kept.rt:42:5
 loop-again : tie.Need-loop-again Inv-loop μ-loop
-loop-again c = sought _ _ _ (c .before .before .before .before .loop .inv) (c .before .before .before .loop-test .taken) (sym (c .before .shadowed .ensures) ∙ c .if1 .left)
+loop-again c =
+    let c3 = c .before .before .before in
+    let c4 = c3 .before in
+    sought _ _ _ (c4 .loop .inv) (c3 .loop-test .taken) (sym (c .before .shadowed .ensures) ∙ c .if1 .left)
 
 -- src/kept.rt:37:1
 returns-2 : tie.Need-returns-2 Inv-loop μ-loop

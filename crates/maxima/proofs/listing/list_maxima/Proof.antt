@@ -26,7 +26,9 @@ slice-relend-prefix-gather c = search needs
 
 -- src/listing.rt:86:33
 slice-aggregate-gather : tie.Need-slice-aggregate-gather
-slice-aggregate-gather c = sym (length-take-le _ (c .before .before .before .before .before .before .before .args .order .now) (omega (arith, c .before .limit .ensures, c .before .before .before .before .before .before .before .pre .for-order)))
+slice-aggregate-gather c =
+    let c7 = c .before .before .before .before .before .before .before in
+    sym (length-take-le _ (c7 .args .order .now) (omega (arith, c .before .limit .ensures, c7 .pre .for-order)))
 
 -- src/listing.rt:86:9
 gather-requires : tie.Need-gather-requires
@@ -47,11 +49,14 @@ same-length-2 c = search needs
 -- src/listing.rt:89:9
 returns : tie.Need-returns
 returns c =
-    let g = c .before .before .before .before .before .before .before .before .gather in
-    let e = c .before .before .before .before .before .before .before .before .before .before .before .before .before .before .before .before in
-    let most = c .before .before .before .before .before .before .before .before .before .before .limit .result in
-    let l = length-take-le most (e .args .order .now) (omega (arith, c .before .before .before .before .before .before .before .before .before .before .limit .ensures, e .pre .for-order)) in
-    let fits : g .result ≤ length (g .last .1 .1 .0) = omega (arith, g .kept .1 .1 .0, l, c .before .before .before .before .before .if1 .taken) in
+    let c5 = c .before .before .before .before .before in
+    let c8 = c5 .before .before .before in
+    let c10 = c8 .before .before in
+    let e = c10 .before .before .before .before .before .before in
+    let g = c8 .gather in
+    let most = c10 .limit .result in
+    let l = length-take-le most (e .args .order .now) (omega (arith, c10 .limit .ensures, e .pre .for-order)) in
+    let fits : g .result ≤ length (g .last .1 .1 .0) = omega (arith, g .kept .1 .1 .0, l, c5 .if1 .taken) in
     written-out _ (g .last .1 .1 .0) _ _ _ _ fits (g .ensures fits) (c .before .before .keep .ensures)
 
 -- src/listing.rt:91:26
@@ -61,16 +66,20 @@ slice-relend-prefix-list-sorted c = search needs
 -- src/listing.rt:91:26
 slice-aggregate-list-sorted : tie.Need-slice-aggregate-list-sorted
 slice-aggregate-list-sorted c =
-    let e = c .before .before .before .before .before .before .before .before .before .before .before .before in
-    let l = length-front (e .args .order .now) (c .before .before .before .before .gather .last .1 .1 .0) (c .before .before .before .before .before .before .limit .result) (c .before .before .before .before .gather .kept .1 .1 .0) in
+    let c4 = c .before .before .before .before in
+    let c6 = c4 .before .before in
+    let e = c6 .before .before .before .before .before .before in
+    let l = length-front (e .args .order .now) (c4 .gather .last .1 .1 .0) (c6 .limit .result) (c4 .gather .kept .1 .1 .0) in
     sym (length-take-le _ _ (omega (arith, l, e .pre .for-order)))
 
 -- src/listing.rt:91:5
 list-sorted-requires : tie.Need-list-sorted-requires
 list-sorted-requires c κs =
-    let e = c .before .before .before .before .before .before .before .before .before .before .before .before .before .before .before in
-    let l = length-front (e .args .order .now) (c .before .before .before .before .before .before .before .gather .last .1 .1 .0) (c .before .before .before .before .before .before .before .before .before .limit .result) (c .before .before .before .before .before .before .before .gather .kept .1 .1 .0) in
-    let n = length-take-le (e .args .n) (c .before .before .before .before .before .before .before .gather .last .1 .1 .0 ++ drop (c .before .before .before .before .before .before .before .before .before .limit .result) (e .args .order .now)) (omega (arith, l, e .pre .for-order)) in (
+    let c7 = c .before .before .before .before .before .before .before in
+    let c9 = c7 .before .before in
+    let e = c9 .before .before .before .before .before .before in
+    let l = length-front (e .args .order .now) (c7 .gather .last .1 .1 .0) (c9 .limit .result) (c7 .gather .kept .1 .1 .0) in
+    let n = length-take-le (e .args .n) (c7 .gather .last .1 .1 .0 ++ drop (c9 .limit .result) (e .args .order .now)) (omega (arith, l, e .pre .for-order)) in (
       record {
         table = e .pre .table;
         for-order = omega (arith, n);

@@ -35,11 +35,17 @@ cast-list c = search needs
 
 -- src/listing.rt:51:13
 mul-list : tie.Need-mul-list Inv-loop μ-loop
-mul-list c = omega (arith, list-room _ _ _ _ _ _ (c .before .before .before .loop .inv) (c .before .before .loop-test .taken) (c .before .before .before .before .pre .1))
+mul-list c =
+    let c3 = c .before .before .before in
+    let c4 = c3 .before in
+    omega (arith, list-room _ _ _ _ _ _ (c3 .loop .inv) (c .before .before .loop-test .taken) (c4 .pre .1))
 
 -- src/listing.rt:51:13
 slice-write-list : tie.Need-slice-write-list Inv-loop μ-loop
-slice-write-list c = list-room _ _ _ _ _ _ (c .before .before .before .loop .inv) (c .before .before .loop-test .taken) (c .before .before .before .before .pre .1)
+slice-write-list c =
+    let c3 = c .before .before .before in
+    let c4 = c3 .before in
+    list-room _ _ _ _ _ _ (c3 .loop .inv) (c .before .before .loop-test .taken) (c4 .pre .1)
 
 -- src/listing.rt:52:13
 add-count : tie.Need-add-count Inv-loop μ-loop
@@ -55,7 +61,10 @@ loop-less c = search needs
 
 -- src/listing.rt:49:5
 loop-again : tie.Need-loop-again Inv-loop μ-loop
-loop-again c = write _ _ _ _ _ _ (c .before .before .before .loop .inv) (c .before .before .loop-test .taken) (c .before .before .before .before .pre .1) (eq-eqb _ 0 (c .if1 .taken))
+loop-again c =
+    let c3 = c .before .before .before in
+    let c4 = c3 .before in
+    write _ _ _ _ _ _ (c3 .loop .inv) (c .before .before .loop-test .taken) (c4 .pre .1) (eq-eqb _ 0 (c .if1 .taken))
 
 -- src/listing.rt:55:13
 add-i-2 : tie.Need-add-i-2 Inv-loop μ-loop
@@ -67,7 +76,10 @@ loop-less-2 c = search needs
 
 -- src/listing.rt:49:5
 loop-again-2 : tie.Need-loop-again-2 Inv-loop μ-loop
-loop-again-2 c = skip _ _ _ _ _ _ (c .before .before .before .loop .inv) (c .before .before .loop-test .taken) (c .before .before .before .before .pre .1) (ne-eqb _ 0 (c .if1 .left))
+loop-again-2 c =
+    let c3 = c .before .before .before in
+    let c4 = c3 .before in
+    skip _ _ _ _ _ _ (c3 .loop .inv) (c .before .before .loop-test .taken) (c4 .pre .1) (ne-eqb _ 0 (c .if1 .left))
 
 -- src/listing.rt:43:1
 same-length : tie.Need-same-length Inv-loop μ-loop

@@ -36,11 +36,25 @@ mul-if4 c = search needs
 
 -- src/entry.rt:46:9
 returns-4 : tie.Need-returns-4
-returns-4 c = rw (le-ltb _ _ (c .before .before .before .before .before .before .if1 .left), le-ltb _ _ (c .before .before .before .before .if2 .left), le-ltb _ _ (c .before .before .if3 .left), lt-ltb _ _ (c .if4 .taken))
+returns-4 c =
+    let c4 = c .before .before .before .before in
+    let c6 = c4 .before .before in
+    rw (le-ltb _ _ (c6 .if1 .left), le-ltb _ _ (c4 .if2 .left), le-ltb _ _ (c .before .before .if3 .left), lt-ltb _ _ (c .if4 .taken))
 
 -- src/entry.rt:49:9
 returns-5 : tie.Need-returns-5
-returns-5 c = rw (le-ltb _ _ (c .before .before .before .before .before .before .before .before .if1 .left), le-ltb _ _ (c .before .before .before .before .before .before .if2 .left), le-ltb _ _ (c .before .before .before .before .if3 .left), le-ltb _ _ (c .before .before .if4 .left), lt-ltb _ _ (c .if5 .taken))
+returns-5 c =
+    let c4 = c .before .before .before .before in
+    let c6 = c4 .before .before in
+    let c8 = c6 .before .before in
+    rw (
+      le-ltb _ _ (c8 .if1 .left),
+      le-ltb _ _ (c6 .if2 .left),
+      le-ltb _ _ (c4 .if3 .left),
+      le-ltb _ _ (c .before .before .if4 .left),
+      lt-ltb _ _
+          (c .if5 .taken),
+    )
 
 -- src/entry.rt:52:9
 returns-6 : tie.Need-returns-6

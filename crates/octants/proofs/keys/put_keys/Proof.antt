@@ -29,7 +29,10 @@ same-length c = search needs
 
 -- src/keys.rt:21:1
 returns : tie.Need-returns
-returns c = keyed _ _ _ _ _ _ (c .before .before .before .before .before .before .before .before .before .before .put-axis .ensures) (c .before .before .before .before .before .before .put-axis2 .ensures) (c .before .before .put-axis3 .ensures)
+returns c =
+    let c6 = c .before .before .before .before .before .before in
+    let c10 = c6 .before .before .before .before in
+    keyed _ _ _ _ _ _ (c10 .put-axis .ensures) (c6 .put-axis2 .ensures) (c .before .before .put-axis3 .ensures)
 
 pub put-keys-spec : {M : Type 1} → statement M
 put-keys-spec =

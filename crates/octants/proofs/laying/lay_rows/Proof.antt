@@ -31,7 +31,13 @@ same-length c = search needs
 
 -- src/laying.rt:113:1
 returns : tie.Need-returns
-returns c = λ ws k. laid (c .before .before .before .before .before .before .before .before .before .before .before .before .before .before .before .before .before .before .args .octant) _ ws _ _ _ _ _ _ k (c .before .before .before .before .before .before .before .before .before .before .before .before .before .before .turn-axis .ensures) (c .before .before .before .before .before .before .before .before .before .before .turn-axis2 .ensures) (c .before .before .before .before .before .before .put-casts .ensures) (c .before .before .put-hides .ensures)
+returns c =
+    let c6 = c .before .before .before .before .before .before in
+    let c10 = c6 .before .before .before .before in
+    let c14 = c10 .before .before .before .before in
+    let c18 = c14 .before .before .before .before in
+    λ ws k. laid (c18 .args .octant) _ ws _ _ _ _ _ _ k (c14 .turn-axis .ensures) (c10 .turn-axis2 .ensures) (c6 .put-casts .ensures)
+    (c .before .before .put-hides .ensures)
 
 pub lay-rows-spec : {M : Type 1} → statement M
 lay-rows-spec =

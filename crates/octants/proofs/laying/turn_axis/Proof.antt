@@ -58,7 +58,10 @@ loop-less c = search needs
 
 -- src/laying.rt:72:5
 loop-again : tie.Need-loop-again Inv-loop μ-loop
-loop-again c = fill-more _ _ _ _ _ _ _ (c .before .before .before .loop .inv) (c .before .before .loop-test .taken) (c .before .before .before .before .before .before .pre .1) (c .turned .ensures)
+loop-again c =
+    let c3 = c .before .before .before in
+    let c6 = c3 .before .before .before in
+    fill-more _ _ _ _ _ _ _ (c3 .loop .inv) (c .before .before .loop-test .taken) (c6 .pre .1) (c .turned .ensures)
 
 -- src/laying.rt:67:1
 same-length : tie.Need-same-length Inv-loop μ-loop

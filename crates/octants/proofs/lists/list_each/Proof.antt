@@ -28,14 +28,16 @@ loop-holds c = (none-listed _ _ _ _, refl, refl, refl, refl, refl)
 -- src/lists.rt:63:35
 add-part : tie.Need-add-part Inv-loop μ-loop
 add-part c =
+    let c9 = c .before .before .before .before .before .before .before .before .before in
     let l = c .before .loop in
-    omega (arith, in-range (c .before .before .before .before .before .before .before .before .before .args .n) (l .k) (l .at) (8 * c .before .before .before .before .before .before .before .before .before .args .n) (l .inv .0 .at-is) (c .loop-test .taken) (omega arith), c .before .before .before .before .before .before .before .before .before .pre .0 .work .few)
+    omega (arith, in-range (c9 .args .n) (l .k) (l .at) (8 * c9 .args .n) (l .inv .0 .at-is) (c .loop-test .taken) (omega arith), c9 .pre .0 .work .few)
 
 -- src/lists.rt:63:20
 mul-part : tie.Need-mul-part Inv-loop μ-loop
 mul-part c =
+    let c9 = c .before .before .before .before .before .before .before .before .before in
     let l = c .before .loop in
-    omega (arith, in-range (c .before .before .before .before .before .before .before .before .before .args .n) (l .k) (l .at) (8 * c .before .before .before .before .before .before .before .before .before .args .n) (l .inv .0 .at-is) (c .loop-test .taken) (omega arith), c .before .before .before .before .before .before .before .before .before .pre .0 .work .few)
+    omega (arith, in-range (c9 .args .n) (l .k) (l .at) (8 * c9 .args .n) (l .inv .0 .at-is) (c .loop-test .taken) (omega arith), c9 .pre .0 .work .few)
 
 -- src/lists.rt:63:20
 sub-part : tie.Need-sub-part Inv-loop μ-loop
@@ -48,8 +50,9 @@ part-part-start c = omega arith
 -- src/lists.rt:63:20
 part-part-end : tie.Need-part-part-end Inv-loop μ-loop
 part-part-end c =
+    let c9 = c .before .before .before .before .before .before .before .before .before in
     let l = c .before .loop in
-    omega (arith, in-range (c .before .before .before .before .before .before .before .before .before .args .n) (l .k) (l .at) (length (c .before .before .before .before .before .before .before .before .before .args .lists .now)) (l .inv .0 .at-is) (c .loop-test .taken) (c .before .before .before .before .before .before .before .before .before .pre .1), l .inv .0 .len)
+    omega (arith, in-range (c9 .args .n) (l .k) (l .at) (length (c9 .args .lists .now)) (l .inv .0 .at-is) (c .loop-test .taken) (c9 .pre .1), l .inv .0 .len)
 
 -- src/lists.rt:64:33
 cast-list-octant : tie.Need-cast-list-octant Inv-loop μ-loop
@@ -58,10 +61,12 @@ cast-list-octant c = omega (arith, c .before .loop-test .taken)
 -- src/lists.rt:64:13
 list-octant-requires : tie.Need-list-octant-requires Inv-loop μ-loop
 list-octant-requires c κs =
-    let l = c .before .before .before .before .before .before .loop in
-    let e = c .before .before .before .before .before .before .before .before .before .before .before .before .before .before in
+    let c5 = c .before .before .before .before .before in
+    let c6 = c5 .before in
+    let e = c6 .before .before .before .before .before .before .before .before in
+    let l = c6 .loop in
     let p = e .pre .0 in
-    let r = in-range (e .args .n) (l .k) (l .at) (length (e .args .lists .now)) (l .inv .0 .at-is) (c .before .before .before .before .before .loop-test .taken) (e .pre .1) in
+    let r = in-range (e .args .n) (l .k) (l .at) (length (e .args .lists .now)) (l .inv .0 .at-is) (c5 .loop-test .taken) (e .pre .1) in
     let m = length-take-le (l .at + e .args .n - l .at) (drop (l .at) (l .lists)) (omega (arith, r, length-drop (l .at) (l .lists), l .inv .0 .len)) in (
       record {
         work = record {
@@ -81,46 +86,65 @@ list-octant-requires c κs =
 -- src/lists.rt:65:21
 cast-counts : tie.Need-cast-counts Inv-loop μ-loop
 cast-counts c =
-    let l = c .before .before .before .before .before .before .before .before .before .before .before .before .before .before .before .before .before .loop in
-    let e = c .before .before .before .before .before .before .before .before .before .before .before .before .before .before .before .before .before .before .before .before .before .before .before .before .before in
+    let c10 = c .before .before .before .before .before .before .before .before .before .before in
+    let c16 = c10 .before .before .before .before .before .before in
+    let c17 = c16 .before in
+    let e = c17 .before .before .before .before .before .before .before .before in
+    let l = c17 .loop in
     let p = e .pre .0 in
-    let o = c .before .before .before .before .before .before .before .before .before .before .list-octant in
-    let r = in-range (e .args .n) (l .k) (l .at) (length (e .args .lists .now)) (l .inv .0 .at-is) (c .before .before .before .before .before .before .before .before .before .before .before .before .before .before .before .before .loop-test .taken) (e .pre .1) in
+    let o = c10 .list-octant in
+    let r = in-range (e .args .n) (l .k) (l .at) (length (e .args .lists .now)) (l .inv .0 .at-is) (c16 .loop-test .taken) (e .pre .1) in
     let m = length-take-le (l .at + e .args .n - l .at) (drop (l .at) (l .lists)) (omega (arith, r, length-drop (l .at) (l .lists), l .inv .0 .len)) in
     let few = written-few _ _ _ _ (o .ensures (p .words) (p .keyed)) (o .kept .1 .1 .1 .1 .1 .1 .1 .0) in
     omega (arith, few, m, p .work .few)
 
 -- src/lists.rt:65:9
 mul-counts : tie.Need-mul-counts Inv-loop μ-loop
-mul-counts c = omega (arith, c .before .before .before .before .before .before .before .before .before .before .before .before .before .before .before .before .loop-test .taken)
+mul-counts c =
+    let c16 = c .before .before .before .before .before .before .before .before .before .before .before .before .before .before .before .before in
+    omega (arith, c16 .loop-test .taken)
 
 -- src/lists.rt:65:9
 slice-write-counts : tie.Need-slice-write-counts Inv-loop μ-loop
-slice-write-counts c = omega (arith, c .before .before .before .before .before .before .before .before .before .before .before .before .before .before .before .before .loop-test .taken, c .before .before .before .before .before .before .before .before .before .before .before .before .before .before .before .before .before .loop .inv .1, c .before .before .before .before .before .before .before .before .before .before .before .before .before .before .before .before .before .before .before .before .before .before .before .before .before .pre .2)
+slice-write-counts c =
+    let c16 = c .before .before .before .before .before .before .before .before .before .before .before .before .before .before .before .before in
+    let c17 = c16 .before in
+    let c25 = c17 .before .before .before .before .before .before .before .before in
+    omega (arith, c16 .loop-test .taken, c17 .loop .inv .1, c25 .pre .2)
 
 -- src/lists.rt:66:9
 add-at : tie.Need-add-at Inv-loop μ-loop
 add-at c =
-    let l = c .before .before .before .before .before .before .before .before .before .before .before .before .before .before .before .before .before .loop in
-    let e = c .before .before .before .before .before .before .before .before .before .before .before .before .before .before .before .before .before .before .before .before .before .before .before .before .before in
-    omega (arith, in-range (e .args .n) (l .k) (l .at) (8 * e .args .n) (l .inv .0 .at-is) (c .before .before .before .before .before .before .before .before .before .before .before .before .before .before .before .before .loop-test .taken) (omega arith), e .pre .0 .work .few)
+    let c16 = c .before .before .before .before .before .before .before .before .before .before .before .before .before .before .before .before in
+    let c17 = c16 .before in
+    let e = c17 .before .before .before .before .before .before .before .before in
+    let l = c17 .loop in
+    omega (arith, in-range (e .args .n) (l .k) (l .at) (8 * e .args .n) (l .inv .0 .at-is) (c16 .loop-test .taken) (omega arith), e .pre .0 .work .few)
 
 -- src/lists.rt:67:9
 add-k : tie.Need-add-k Inv-loop μ-loop
-add-k c = omega (arith, c .before .before .before .before .before .before .before .before .before .before .before .before .before .before .before .before .loop-test .taken)
+add-k c =
+    let c16 = c .before .before .before .before .before .before .before .before .before .before .before .before .before .before .before .before in
+    omega (arith, c16 .loop-test .taken)
 
 -- src/lists.rt:62:5
 loop-less : tie.Need-loop-less Inv-loop μ-loop
-loop-less c = omega (arith, c .before .before .before .before .before .before .before .before .before .before .before .before .before .before .before .before .loop-test .taken)
+loop-less c =
+    let c16 = c .before .before .before .before .before .before .before .before .before .before .before .before .before .before .before .before in
+    omega (arith, c16 .loop-test .taken)
 
 -- src/lists.rt:62:5
 loop-again : tie.Need-loop-again Inv-loop μ-loop
 loop-again c =
-    let l = c .before .before .before .before .before .before .before .before .before .before .before .before .before .before .before .before .before .loop in
-    let e = c .before .before .before .before .before .before .before .before .before .before .before .before .before .before .before .before .before .before .before .before .before .before .before .before .before in
-    let o = c .before .before .before .before .before .before .before .before .before .before .list-octant in
-    let r = in-range (e .args .n) (l .k) (l .at) (length (e .args .lists .now)) (l .inv .0 .at-is) (c .before .before .before .before .before .before .before .before .before .before .before .before .before .before .before .before .loop-test .taken) (e .pre .1) in (
-      one-listed (e .args .n) _ _ _ _ (l .at) _ (l .at + e .args .n - l .at) _ (o .result) _ (l .inv .0) (omega arith) r (c .before .before .before .before .before .before .before .before .before .before .before .before .before .before .before .before .loop-test .taken) (omega (arith, l .inv .1, e .pre .2))
+    let c10 = c .before .before .before .before .before .before .before .before .before .before in
+    let c16 = c10 .before .before .before .before .before .before in
+    let c17 = c16 .before in
+    let e = c17 .before .before .before .before .before .before .before .before in
+    let l = c17 .loop in
+    let o = c10 .list-octant in
+    let r = in-range (e .args .n) (l .k) (l .at) (length (e .args .lists .now)) (l .inv .0 .at-is) (c16 .loop-test .taken) (e .pre .1) in (
+      one-listed (e .args .n) _ _ _ _ (l .at) _ (l .at + e .args .n - l .at) _ (o .result) _ (l .inv .0) (omega arith) r (c16 .loop-test .taken)
+          (omega (arith, l .inv .1, e .pre .2))
           (o .kept .1 .1 .1 .1 .1 .1 .1 .0) refl (o .ensures),
       length-set (l .counts) (l .k) (o .result) ∙ l .inv .1,
       o .kept .1 .1 .1 .0 ∙ l .inv .2,

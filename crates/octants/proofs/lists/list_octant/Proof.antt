@@ -48,7 +48,10 @@ same-length-5 c = search needs
 
 -- src/lists.rt:29:1
 returns : tie.Need-returns
-returns c = λ ws k. octant-written _ ws _ _ (c .before .before .before .before .before .before .before .before .before .before .before .before .before .before .before .before .lay-rows .ensures ws k) _ _ _ (c .before .before .before .before .before .before .before .before .list-maxima .ensures)
+returns c =
+    let c8 = c .before .before .before .before .before .before .before .before in
+    let c16 = c8 .before .before .before .before .before .before .before .before in
+    λ ws k. octant-written _ ws _ _ (c16 .lay-rows .ensures ws k) _ _ _ (c8 .list-maxima .ensures)
 
 pub list-octant-spec : {M : Type 1} → statement M
 list-octant-spec =
