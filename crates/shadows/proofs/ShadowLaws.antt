@@ -11,7 +11,7 @@ use Rattle.shadows.specs.Shadows.{flipOf, reaches, shadowedBy, fallsX, f
 use Rattle.shadows.specs.Octants.{vertexAt, shadowedIn}
 use Rattle.shadows.specs.Maxima.{Transitive}
 use Rattle.shadows.proofs.AxisLaws.{reaches-trans}
-use Rattle.shadows.proofs.Truth.{true-holds, holds-true}
+use denote.Floats.{passes, is-true}
 
 -- the coordinates are values of binary32
 pub record Stored (v : Vec3) : Type 0 where
@@ -47,6 +47,6 @@ vertex-stored ws i =
 pub shadowed-trans : (o : ℕ) (ws : List ℕ) → Transitive (shadowedIn (flipOf o) ws)
 unfolding shadowedIn
 shadowed-trans o ws i j k h h' =
-    holds-true
-    (shadowed-by-trans o (vertexAt ws i) (vertexAt ws j) (vertexAt ws k) (vertex-stored ws i) (vertex-stored ws j) (vertex-stored ws k) (true-holds h)
-    (true-holds h'))
+    is-true _
+    (shadowed-by-trans o (vertexAt ws i) (vertexAt ws j) (vertexAt ws k) (vertex-stored ws i) (vertex-stored ws j) (vertex-stored ws k) (passes _ h)
+    (passes _ h'))

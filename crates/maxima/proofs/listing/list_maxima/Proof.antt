@@ -16,37 +16,29 @@ use lib.Seq.{length-take-le, length-front}
 use Rattle.maxima.proofs.Keeping.{written-out}
 use native.Mathlib.Omega.{arith}
 
--- src/listing.rt:85:9
 limit-requires : tie.Need-limit-requires
 limit-requires c κs = search needs
 
--- src/listing.rt:86:33
 slice-relend-prefix-gather : tie.Need-slice-relend-prefix-gather
 slice-relend-prefix-gather c = search needs
 
--- src/listing.rt:86:33
 slice-aggregate-gather : tie.Need-slice-aggregate-gather
 slice-aggregate-gather c =
     let c7 = c .before .before .before .before .before .before .before in
     sym (length-take-le _ (c7 .args .order .now) (omega (arith, c .before .limit .ensures, c7 .pre .for-order)))
 
--- src/listing.rt:86:9
 gather-requires : tie.Need-gather-requires
 gather-requires c κs = search needs
 
--- src/listing.rt:88:9
 keep-requires : tie.Need-keep-requires
 keep-requires c κs = search needs
 
--- src/listing.rt:89:9
 same-length : tie.Need-same-length
 same-length c = search needs
 
--- src/listing.rt:89:9
 same-length-2 : tie.Need-same-length-2
 same-length-2 c = search needs
 
--- src/listing.rt:89:9
 returns : tie.Need-returns
 returns c =
     let c5 = c .before .before .before .before .before in
@@ -59,11 +51,9 @@ returns c =
     let fits : g .result ≤ length (g .last .1 .1 .0) = omega (arith, g .kept .1 .1 .0, l, c5 .if1 .taken) in
     written-out _ (g .last .1 .1 .0) _ _ _ _ fits (g .ensures fits) (c .before .before .keep .ensures)
 
--- src/listing.rt:91:26
 slice-relend-prefix-list-sorted : tie.Need-slice-relend-prefix-list-sorted
 slice-relend-prefix-list-sorted c = search needs
 
--- src/listing.rt:91:26
 slice-aggregate-list-sorted : tie.Need-slice-aggregate-list-sorted
 slice-aggregate-list-sorted c =
     let c4 = c .before .before .before .before in
@@ -72,7 +62,6 @@ slice-aggregate-list-sorted c =
     let l = length-front (e .args .order .now) (c4 .gather .last .1 .1 .0) (c6 .limit .result) (c4 .gather .kept .1 .1 .0) in
     sym (length-take-le _ _ (omega (arith, l, e .pre .for-order)))
 
--- src/listing.rt:91:5
 list-sorted-requires : tie.Need-list-sorted-requires
 list-sorted-requires c κs =
     let c7 = c .before .before .before .before .before .before .before in
@@ -90,23 +79,18 @@ list-sorted-requires c κs =
       n,
     )
 
--- src/listing.rt:81:1
 same-length-3 : tie.Need-same-length-3
 same-length-3 c = search needs
 
--- src/listing.rt:81:1
 same-length-4 : tie.Need-same-length-4
 same-length-4 c = search needs
 
--- src/listing.rt:81:1
 same-length-5 : tie.Need-same-length-5
 same-length-5 c = search needs
 
--- src/listing.rt:81:1
 same-length-6 : tie.Need-same-length-6
 same-length-6 c = search needs
 
--- src/listing.rt:81:1
 returns-2 : tie.Need-returns-2
 returns-2 c = search needs
 

@@ -15,11 +15,9 @@ use Rattle.shadows.specs.Maxima.{numbers}
 use Rattle.maxima.proofs.ListingLaws.{numbers-below, sorted-below, all-kept}
 use native.Mathlib.Omega.{arith}
 
--- src/listing.rt:66:5
 count-up-requires : tie.Need-count-up-requires
 count-up-requires c κs = search needs
 
--- src/listing.rt:67:5
 sort-requires : tie.Need-sort-requires
 sort-requires c κs =
     let c4 = c .before .before .before .before in
@@ -31,11 +29,9 @@ sort-requires c κs =
       subst (Below (c11 .args .n)) (sym (k .ensures ∙ ap numbers (p .1))) (numbers-below (c11 .args .n)),
     )
 
--- src/listing.rt:68:5
 clear-requires : tie.Need-clear-requires
 clear-requires c κs = search needs
 
--- src/listing.rt:69:5
 mark-halves-requires : tie.Need-mark-halves-requires
 mark-halves-requires c κs =
     let c5 = c .before .before .before .before .before in
@@ -52,7 +48,6 @@ mark-halves-requires c κs =
       room = omega (arith, s .kept .0, s .kept .1 .0, k .kept .0, p .1, p .0 .for-temp);
     }
 
--- src/listing.rt:70:5
 list-unmarked-requires : tie.Need-list-unmarked-requires
 list-unmarked-requires c κs =
     let c8 = c .before .before .before .before .before .before .before .before in
@@ -62,23 +57,18 @@ list-unmarked-requires c κs =
     let p = c32 .pre .0 in
     (omega (arith, c8 .mark-halves .kept .1 .1 .1 .1 .0, c14 .clear .ensures .size), p .for-list, p .table .few)
 
--- src/listing.rt:62:1
 same-length : tie.Need-same-length
 same-length c = search needs
 
--- src/listing.rt:62:1
 same-length-2 : tie.Need-same-length-2
 same-length-2 c = search needs
 
--- src/listing.rt:62:1
 same-length-3 : tie.Need-same-length-3
 same-length-3 c = search needs
 
--- src/listing.rt:62:1
 same-length-4 : tie.Need-same-length-4
 same-length-4 c = search needs
 
--- src/listing.rt:62:1
 returns : tie.Need-returns
 returns c =
     let c11 = c .before .before .before .before .before .before .before .before .before .before .before in

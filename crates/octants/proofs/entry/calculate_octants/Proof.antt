@@ -9,19 +9,15 @@ use Rattle.octants.proofs.lists.list_octants.Reads as list-octants-read
 use mathlib.Core.Path.{sym, _∙_}
 use Rattle.octants.proofs.entry.Answering.{room, too-many, too-small, served}
 
--- src/entry.rt:81:9
 returns : tie.Need-returns
 returns c = too-many _ _ _ _ (c .if1 .taken)
 
--- src/entry.rt:92:8
 too-short-requires : tie.Need-too-short-requires
 too-short-requires c κs = search needs
 
--- src/entry.rt:93:9
 returns-2 : tie.Need-returns-2
 returns-2 c = too-small _ _ _ _ (c .before .before .if1 .left) (sym (c .before .too-short .ensures) ∙ c .if2 .taken)
 
--- src/entry.rt:95:9
 list-octants-requires : tie.Need-list-octants-requires
 list-octants-requires c κs =
     let c6 = c .before .before .before .before .before .before in
@@ -30,31 +26,24 @@ list-octants-requires c κs =
     let w = room _ _ (sym (c7 .too-short .ensures) ∙ c6 .if2 .left) in
     (record { few = c8 .if1 .left; for-keys = w .2; for-rows = w .3; for-order = w .4; for-temp = w .5; for-marks = w .6 }, w .0, w .1)
 
--- src/entry.rt:58:1
 same-length : tie.Need-same-length
 same-length c = search needs
 
--- src/entry.rt:58:1
 same-length-2 : tie.Need-same-length-2
 same-length-2 c = search needs
 
--- src/entry.rt:58:1
 same-length-3 : tie.Need-same-length-3
 same-length-3 c = search needs
 
--- src/entry.rt:58:1
 same-length-4 : tie.Need-same-length-4
 same-length-4 c = search needs
 
--- src/entry.rt:58:1
 same-length-5 : tie.Need-same-length-5
 same-length-5 c = search needs
 
--- src/entry.rt:58:1
 same-length-6 : tie.Need-same-length-6
 same-length-6 c = search needs
 
--- src/entry.rt:58:1
 returns-3 : tie.Need-returns-3
 returns-3 c =
     let c12 = c .before .before .before .before .before .before .before .before .before .before .before .before in

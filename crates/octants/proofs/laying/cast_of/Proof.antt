@@ -10,19 +10,15 @@ use mathlib.Core.Path.{refl, sym, _∙_}
 use mathlib.Core.Bool.{true, false}
 use Rattle.octants.proofs.EndLaws.{cast-is}
 
--- src/laying.rt:38:9
 inside-requires : tie.Need-inside-requires
 inside-requires c κs = search needs
 
--- src/laying.rt:39:9
 returns : tie.Need-returns
 returns c = sym (cast-is (c .before .before .args .a) false _ _ (sym (c .before .inside .ensures) ∙ not-true _ (c .if1 .taken)) refl refl)
 
--- src/laying.rt:41:9
 inside-requires-2 : tie.Need-inside-requires-2
 inside-requires-2 c κs = search needs
 
--- src/laying.rt:42:9
 returns-2 : tie.Need-returns-2
 returns-2 c =
     let c3 = c .before .before .before in
@@ -30,11 +26,9 @@ returns-2 c =
     sym (cast-is (c4 .args .a) true false _ (sym (c3 .inside .ensures) ∙ not-false _ (c .before .before .if1 .left))
     (sym (c .before .inside2 .ensures) ∙ not-true _ (c .if2 .taken)) refl)
 
--- src/laying.rt:44:9
 inside-requires-3 : tie.Need-inside-requires-3
 inside-requires-3 c κs = search needs
 
--- src/laying.rt:45:9
 returns-3 : tie.Need-returns-3
 returns-3 c =
     let c3 = c .before .before .before in
@@ -44,7 +38,6 @@ returns-3 c =
     sym (cast-is (c6 .args .a) true true false (sym (c5 .inside .ensures) ∙ not-false _ (c4 .if1 .left))
     (sym (c3 .inside2 .ensures) ∙ not-false _ (c .before .before .if2 .left)) (sym (c .before .inside3 .ensures) ∙ not-true _ (c .if3 .taken)))
 
--- src/laying.rt:35:1
 returns-4 : tie.Need-returns-4
 returns-4 c =
     let c3 = c .before .before .before in

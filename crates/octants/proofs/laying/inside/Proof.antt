@@ -5,11 +5,9 @@ use Rattle.octants.proofs.laying.inside.Reads as reads
 use Rattle.octants.proofs.laying.inside.Lts as lts
 use borrow.Author.Tests.{eq-eqb, ne-eqb}
 
--- src/laying.rt:29:9
 returns : tie.Need-returns
 returns c = rw (eq-eqb (c .before .args .t) 0 (c .if1 .taken))
 
--- src/laying.rt:25:1
 returns-2 : tie.Need-returns-2
 returns-2 c = rw (ne-eqb (c .before .args .t) 0 (c .if1 .left))
 

@@ -9,27 +9,21 @@ use Rattle.octants.proofs.laying.put_hides.Reads as put-hides-reads
 use Rattle.octants.proofs.laying.turn_axis.Reads as turn-axis-reads
 use Rattle.octants.proofs.PartLaws.{laid}
 
--- src/laying.rt:118:5
 turn-axis-requires : tie.Need-turn-axis-requires
 turn-axis-requires c κs = search needs
 
--- src/laying.rt:119:5
 turn-axis-requires-2 : tie.Need-turn-axis-requires-2
 turn-axis-requires-2 c κs = search needs
 
--- src/laying.rt:120:5
 put-casts-requires : tie.Need-put-casts-requires
 put-casts-requires c κs = search needs
 
--- src/laying.rt:121:5
 put-hides-requires : tie.Need-put-hides-requires
 put-hides-requires c κs = search needs
 
--- src/laying.rt:113:1
 same-length : tie.Need-same-length
 same-length c = search needs
 
--- src/laying.rt:113:1
 returns : tie.Need-returns
 returns c =
     let c6 = c .before .before .before .before .before .before in

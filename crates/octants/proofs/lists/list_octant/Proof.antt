@@ -9,11 +9,9 @@ use Rattle.octants.proofs.laying.lay_rows.Reads as lay-rows-reads
 use Rattle.octants.proofs.PartLaws.{rows-of, octant-written}
 use native.Mathlib.Omega.{arith}
 
--- src/lists.rt:42:5
 lay-rows-requires : tie.Need-lay-rows-requires
 lay-rows-requires c κs = search needs
 
--- src/lists.rt:43:5
 list-maxima-requires : tie.Need-list-maxima-requires
 list-maxima-requires c κs =
     let p = c .before .before .before .before .before .before .before .before .before .before .before .before .before .before .before .pre in
@@ -26,27 +24,21 @@ list-maxima-requires c κs =
       for-list = p .1;
     }
 
--- src/lists.rt:29:1
 same-length : tie.Need-same-length
 same-length c = search needs
 
--- src/lists.rt:29:1
 same-length-2 : tie.Need-same-length-2
 same-length-2 c = search needs
 
--- src/lists.rt:29:1
 same-length-3 : tie.Need-same-length-3
 same-length-3 c = search needs
 
--- src/lists.rt:29:1
 same-length-4 : tie.Need-same-length-4
 same-length-4 c = search needs
 
--- src/lists.rt:29:1
 same-length-5 : tie.Need-same-length-5
 same-length-5 c = search needs
 
--- src/lists.rt:29:1
 returns : tie.Need-returns
 returns c =
     let c8 = c .before .before .before .before .before .before .before .before in

@@ -10,15 +10,12 @@ use Rattle.octants.proofs.lists.list_each.Reads as list-each-reads
 use Rattle.octants.proofs.ListLaws.{wrote}
 use native.Mathlib.Omega.{arith}
 
--- src/lists.rt:101:5
 put-keys-requires : tie.Need-put-keys-requires
 put-keys-requires c κs = search needs
 
--- src/lists.rt:103:57
 slice-aggregate-list-each : tie.Need-slice-aggregate-list-each
 slice-aggregate-list-each c = search needs
 
--- src/lists.rt:103:5
 list-each-requires : tie.Need-list-each-requires
 list-each-requires c κs =
     let c9 = c .before .before .before .before .before .before .before .before .before in
@@ -41,39 +38,30 @@ list-each-requires c κs =
       omega arith,
     )
 
--- src/lists.rt:104:15
 slice-aggregate-counts-of : tie.Need-slice-aggregate-counts-of
 slice-aggregate-counts-of c = search needs
 
--- src/lists.rt:104:5
 counts-of-requires : tie.Need-counts-of-requires
 counts-of-requires c κs = search needs
 
--- src/lists.rt:88:1
 same-length : tie.Need-same-length
 same-length c = search needs
 
--- src/lists.rt:88:1
 same-length-2 : tie.Need-same-length-2
 same-length-2 c = search needs
 
--- src/lists.rt:88:1
 same-length-3 : tie.Need-same-length-3
 same-length-3 c = search needs
 
--- src/lists.rt:88:1
 same-length-4 : tie.Need-same-length-4
 same-length-4 c = search needs
 
--- src/lists.rt:88:1
 same-length-5 : tie.Need-same-length-5
 same-length-5 c = search needs
 
--- src/lists.rt:88:1
 same-length-6 : tie.Need-same-length-6
 same-length-6 c = search needs
 
--- src/lists.rt:88:1
 returns : tie.Need-returns
 returns c =
     let c13 = c .before .before .before .before .before .before .before .before .before .before .before .before .before in
