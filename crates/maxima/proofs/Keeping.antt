@@ -9,7 +9,7 @@ use native.Mathlib.Decide.{decLt}
 use native.Mathlib.Numerals.{add-one}
 use lib.ListN.{length, getD, set, take, drop, length-set, drop-of-length-le, length-append, length-drop, length-take}
 use lib.Seq.{take-suc-set, drop-set-lt, append-snoc, length-take-le, take-append-le}
-use Rattle.base.specs.Lists.{sift, Below, over}
+use Rattle.base.specs.Lists.{sift, Below}
 use Rattle.base.proofs.ListLaws.{length-sift}
 use Rattle.base.proofs.StoreLaws.{rest-one}
 use Rattle.base.proofs.EveryLaws.{every-append, every-sift}
@@ -17,7 +17,7 @@ use Rattle.base.proofs.NumberLaws.{below-wider}
 use Rattle.shadows.specs.Kept.{some, admit, keptOf}
 use Rattle.shadows.proofs.MaximaLaws.{admit-passes, admit-joins, kept-below}
 use Rattle.maxima.specs.Rows.{shadowedAt, Written}
-use Rattle.maxima.specs.steps.Keeping.{Begins, Testable, Admissible}
+use Rattle.maxima.specs.steps.Keeping.{Begins, Admissible}
 
 -- ---- one that passes
 

@@ -11,18 +11,18 @@ use borrow.Author.Tests.{eq-eqb, eqb-true, eqb-false, lt-ltb, le-ltb, ltb-true}
 use lib.Dec.{eqb, ltb}
 use lib.ListN.{length, getD, set, take, drop, length-set, length-append, length-drop}
 use lib.Seq.{take-all, take-suc-set, getD-set-same, getD-set-other, drop-cons, set-at, append-snoc}
-use Rattle.base.specs.Lists.{oneIf, sift, occurrences, Below, over}
+use Rattle.base.specs.Lists.{oneIf, sift, occurrences, Below}
 use Rattle.base.specs.Sorted.{sort, InOrder}
 use Rattle.base.proofs.EveryLaws.{every-append}
 use Rattle.base.proofs.ListLaws.{length-kept, occurs-more, one-or-none}
 use Rattle.base.proofs.NumberLaws.{below-wider}
 use Rattle.base.proofs.SortLaws.{sort-every, sort-in-order, sort-permutes}
-use Rattle.shadows.specs.Kept.{some, keptOf}
+use Rattle.shadows.specs.Kept.{keptOf}
 use Rattle.shadows.specs.Maxima.{numbers, listed}
 use Rattle.shadows.proofs.Truth.{decide, never}
 use Rattle.shadows.proofs.Below.{Last, sooner, last, last-or, sift-append, sift-alike}
 use Rattle.maxima.specs.Rows.{shadowedAt, Rows, Written}
-use Rattle.maxima.specs.steps.Order.{farLe, leBy}
+use Rattle.maxima.specs.steps.Order.{leBy}
 use Rattle.maxima.specs.steps.Marking.{member, coversIn, hidden, Marked, Sifted, Clear}
 use Rattle.maxima.proofs.OrderLaws.{ordered-by}
 use Rattle.maxima.proofs.SweepLaws.{BeforeAll, FarFirst, at-most-before, are-maxima, listed-is-unhidden}

@@ -4,7 +4,7 @@ use mathlib.Core.Bool.{Bool, true, false, cond, _&&_}
 use Prim.Native.Nat.{ℕ, _+_, _≤_}
 use native.Mathlib.Omega.{arith}
 use Rattle.math.specs.declared.words3.Words3.{Words3}
-use Rattle.shadows.specs.Nearness.{insideOf, furthest, nearest, hideable, caster}
+use Rattle.shadows.specs.Nearness.{insideOf, furthest, nearest}
 use Rattle.shadows.specs.Ranks.{beyond, castOf, hideOf}
 
 -- how many of three tests fail

@@ -2,17 +2,8 @@
 use borrow.Author.Needs.{needs}
 use Rattle.maxima.proofs.kept.admit.Statement.{statement}
 use Rattle.maxima.proofs.kept.admit.Tie as tie
-use Rattle.maxima.proofs.kept.admit.Reads as reads
-use Rattle.maxima.proofs.kept.admit.Lts as lts
-use Rattle.maxima.proofs.kept.furthest.Reads as furthest-reads
-use Rattle.maxima.proofs.kept.retain.Reads as retain-reads
-use Rattle.maxima.proofs.kept.shadowed_first.Reads as shadowed-first-reads
-use Prim.Native.Nat.{_+_, _≤_}
-use mathlib.Core.Path.{_≡_, sym, _∙_}
-use mathlib.Core.Bool.{false}
-use lib.ListN.{length, set}
+use mathlib.Core.Path.{sym, _∙_}
 use lib.Seq.{length-take-le}
-use Rattle.shadows.specs.Kept.{some}
 use Rattle.maxima.specs.Rows.{shadowedAt}
 use Rattle.maxima.proofs.Keeping.{passes-over, fewer, has-place, placed, joins, all-below}
 use native.Mathlib.Omega.{arith}

@@ -2,9 +2,6 @@
 use borrow.Author.Needs.{needs}
 use Rattle.maxima.proofs.kept.first_shadows.Statement.{statement}
 use Rattle.maxima.proofs.kept.first_shadows.Tie as tie
-use Rattle.maxima.proofs.kept.first_shadows.Reads as reads
-use Rattle.maxima.proofs.kept.first_shadows.Lts as lts
-use Rattle.maxima.proofs.kept.shadowed.Reads as shadowed-reads
 use mathlib.Core.Path.{sym, _∙_}
 use Prim.Native.Nat.{_<_}
 use Rattle.base.proofs.EveryLaws.{every-at}

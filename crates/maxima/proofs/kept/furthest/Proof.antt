@@ -1,9 +1,6 @@
 -- `furthest` reads rows that are there; what it answers is free.
 use Rattle.maxima.proofs.kept.furthest.Statement.{statement}
 use Rattle.maxima.proofs.kept.furthest.Tie as tie
-use Rattle.maxima.proofs.kept.furthest.Reads as reads
-use Rattle.maxima.proofs.kept.furthest.Lts as lts
-use Rattle.maxima.proofs.kept.nearest.Reads as nearest-reads
 use Prim.Native.Nat.{_-_, _<_, _≤_}
 use lib.ListN.{length}
 use Rattle.base.proofs.EveryLaws.{every-at}

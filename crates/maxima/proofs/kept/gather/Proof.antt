@@ -1,12 +1,9 @@
 -- `gather` meets its contract. The invariant is `Gathering`: what is kept of the vertices passed stands at the start.
 use Rattle.maxima.proofs.kept.gather.Statement.{statement}
 use Rattle.maxima.proofs.kept.gather.Tie as tie
-use Rattle.maxima.proofs.kept.gather.Reads as reads
-use Rattle.maxima.proofs.kept.gather.Lts as lts
-use Rattle.maxima.proofs.kept.admit.Reads as admit-reads
 use Prim.Native.Nat.{_-_}
 use mathlib.Core.Path.{refl}
-use Rattle.maxima.proofs.Keeping.{Gathering, fitting, admissible, one-more, gathered}
+use Rattle.maxima.proofs.Keeping.{Gathering, admissible, one-more, gathered}
 use native.Mathlib.Omega.{arith}
 use borrow.Author.Needs.{needs}
 

@@ -1,9 +1,6 @@
 -- `retain` meets its contract. The invariant is `Thinning`: what stands, followed by what the rest gives, is the whole.
 use Rattle.maxima.proofs.kept.retain.Statement.{statement}
 use Rattle.maxima.proofs.kept.retain.Tie as tie
-use Rattle.maxima.proofs.kept.retain.Reads as reads
-use Rattle.maxima.proofs.kept.retain.Lts as lts
-use Rattle.maxima.proofs.kept.shadowed.Reads as shadowed-reads
 use Prim.Native.Nat.{_-_, _<_}
 use mathlib.Core.Path.{sym, ap, _∙_}
 use mathlib.Core.Bool.{not}

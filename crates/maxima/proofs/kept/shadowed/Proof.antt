@@ -2,8 +2,6 @@
 use borrow.Author.Needs.{needs}
 use Rattle.maxima.proofs.kept.shadowed.Statement.{statement}
 use Rattle.maxima.proofs.kept.shadowed.Tie as tie
-use Rattle.maxima.proofs.kept.shadowed.Reads as reads
-use Rattle.maxima.proofs.kept.shadowed.Lts as lts
 use borrow.Author.Tests.{lt-leb, le-leb}
 use Rattle.maxima.specs.Rows.{xAt, yAt, shadowedAt}
 

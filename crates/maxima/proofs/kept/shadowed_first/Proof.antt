@@ -2,10 +2,6 @@
 use borrow.Author.Needs.{needs}
 use Rattle.maxima.proofs.kept.shadowed_first.Statement.{statement}
 use Rattle.maxima.proofs.kept.shadowed_first.Tie as tie
-use Rattle.maxima.proofs.kept.shadowed_first.Reads as reads
-use Rattle.maxima.proofs.kept.shadowed_first.Lts as lts
-use Rattle.maxima.proofs.kept.first_shadows.Reads as first-shadows-reads
-use Rattle.maxima.proofs.kept.some_shadows.Reads as some-shadows-reads
 use mathlib.Core.Path.{sym}
 
 first-shadows-requires : tie.Need-first-shadows-requires

@@ -1,9 +1,6 @@
 -- `some_shadows` meets its contract. The invariant is `Searching`: what is left of the list decides.
 use Rattle.maxima.proofs.kept.some_shadows.Statement.{statement}
 use Rattle.maxima.proofs.kept.some_shadows.Tie as tie
-use Rattle.maxima.proofs.kept.some_shadows.Reads as reads
-use Rattle.maxima.proofs.kept.some_shadows.Lts as lts
-use Rattle.maxima.proofs.kept.shadowed.Reads as shadowed-reads
 use Prim.Native.Nat.{_-_, _<_}
 use mathlib.Core.Path.{refl, sym, _∙_}
 use lib.ListN.{length}

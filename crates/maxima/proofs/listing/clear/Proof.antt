@@ -1,8 +1,6 @@
 -- `clear` meets its contract. The invariant is `Clearing`: what is passed is zeros.
 use Rattle.maxima.proofs.listing.clear.Statement.{statement}
 use Rattle.maxima.proofs.listing.clear.Tie as tie
-use Rattle.maxima.proofs.listing.clear.Reads as reads
-use Rattle.maxima.proofs.listing.clear.Lts as lts
 use Prim.Native.Nat.{_-_}
 use mathlib.Core.Path.{refl}
 use Rattle.maxima.proofs.ListingLaws.{Clearing, clear-more, cleared}

@@ -1,8 +1,6 @@
 -- `count_up` meets its contract. The invariant is `Counting`: what is passed is the numbers from 0 on.
 use Rattle.maxima.proofs.listing.count_up.Statement.{statement}
 use Rattle.maxima.proofs.listing.count_up.Tie as tie
-use Rattle.maxima.proofs.listing.count_up.Reads as reads
-use Rattle.maxima.proofs.listing.count_up.Lts as lts
 use Prim.Native.Nat.{_-_}
 use mathlib.Core.Path.{refl}
 use lib.ListN.{length}

@@ -2,13 +2,7 @@
 use borrow.Author.Needs.{needs}
 use Rattle.maxima.proofs.listing.list_maxima.Statement.{statement}
 use Rattle.maxima.proofs.listing.list_maxima.Tie as tie
-use Rattle.maxima.proofs.listing.list_maxima.Reads as reads
-use Rattle.maxima.proofs.listing.list_maxima.Lts as lts
-use Rattle.maxima.proofs.kept.gather.Reads as gather-reads
-use Rattle.maxima.proofs.listing.limit.Reads as limit-reads
-use Rattle.maxima.proofs.listing.list_sorted.Reads as list-sorted-reads
-use Rattle.maxima.proofs.sorting.keep.Reads as keep-reads
-use mathlib.Core.Path.{sym, _∙_}
+use mathlib.Core.Path.{sym}
 use Prim.Native.Nat.{_≤_}
 use mathlib.Core.List.{_++_}
 use lib.ListN.{length, drop}

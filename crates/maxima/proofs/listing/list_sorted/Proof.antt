@@ -2,14 +2,7 @@
 use borrow.Author.Needs.{needs}
 use Rattle.maxima.proofs.listing.list_sorted.Statement.{statement}
 use Rattle.maxima.proofs.listing.list_sorted.Tie as tie
-use Rattle.maxima.proofs.listing.list_sorted.Reads as reads
-use Rattle.maxima.proofs.listing.list_sorted.Lts as lts
-use Rattle.maxima.proofs.listing.clear.Reads as clear-reads
-use Rattle.maxima.proofs.listing.count_up.Reads as count-up-reads
-use Rattle.maxima.proofs.listing.list_unmarked.Reads as list-unmarked-reads
-use Rattle.maxima.proofs.marking.mark_halves.Reads as mark-halves-reads
-use Rattle.maxima.proofs.sorting.sort.Reads as sort-reads
-use mathlib.Core.Path.{_≡_, sym, ap, _∙_, subst}
+use mathlib.Core.Path.{sym, ap, _∙_, subst}
 use Rattle.base.specs.Lists.{Below}
 use Rattle.shadows.specs.Maxima.{numbers}
 use Rattle.maxima.proofs.ListingLaws.{numbers-below, sorted-below, all-kept}

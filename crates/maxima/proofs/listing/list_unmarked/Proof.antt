@@ -1,8 +1,6 @@
 -- `list_unmarked` meets its contract. The invariant is `Listing`: the unmarked of those passed, followed by what the list had.
 use Rattle.maxima.proofs.listing.list_unmarked.Statement.{statement}
 use Rattle.maxima.proofs.listing.list_unmarked.Tie as tie
-use Rattle.maxima.proofs.listing.list_unmarked.Reads as reads
-use Rattle.maxima.proofs.listing.list_unmarked.Lts as lts
 use Prim.Native.Nat.{_-_}
 use borrow.Author.Tests.{eq-eqb, ne-eqb}
 use lib.Dec.{eqb}

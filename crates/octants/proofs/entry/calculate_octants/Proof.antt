@@ -2,10 +2,6 @@
 use borrow.Author.Needs.{needs}
 use Rattle.octants.proofs.entry.calculate_octants.Statement.{statement}
 use Rattle.octants.proofs.entry.calculate_octants.Tie as tie
-use Rattle.octants.proofs.entry.calculate_octants.Reads as reads
-use Rattle.octants.proofs.entry.calculate_octants.Lts as lts
-use Rattle.octants.proofs.entry.too_short.Reads as too-short-reads
-use Rattle.octants.proofs.lists.list_octants.Reads as list-octants-reads
 use mathlib.Core.Path.{sym, _∙_}
 use Rattle.octants.proofs.entry.Answering.{room, too-many, too-small, served}
 

@@ -2,8 +2,6 @@
 use borrow.Author.Needs.{needs}
 use Rattle.octants.proofs.entry.too_short.Statement.{statement}
 use Rattle.octants.proofs.entry.too_short.Tie as tie
-use Rattle.octants.proofs.entry.too_short.Reads as reads
-use Rattle.octants.proofs.entry.too_short.Lts as lts
 use borrow.Author.Tests.{lt-ltb, le-ltb}
 
 mul-if1 : tie.Need-mul-if1

@@ -1,9 +1,6 @@
 -- `put_axis` meets its contract. The invariant is `Filling`.
 use Rattle.octants.proofs.keys.put_axis.Statement.{statement}
 use Rattle.octants.proofs.keys.put_axis.Tie as tie
-use Rattle.octants.proofs.keys.put_axis.Reads as reads
-use Rattle.octants.proofs.keys.put_axis.Lts as lts
-use Rattle.float32.proofs.sorting.order_key.Reads as order-key-reads
 use Prim.Native.Nat.{_+_, _*_, _-_}
 use lib.ListN.{getD}
 use Rattle.float32.specs.SortOrder.{keyOf}

@@ -2,9 +2,6 @@
 use borrow.Author.Needs.{needs}
 use Rattle.octants.proofs.keys.put_keys.Statement.{statement}
 use Rattle.octants.proofs.keys.put_keys.Tie as tie
-use Rattle.octants.proofs.keys.put_keys.Reads as reads
-use Rattle.octants.proofs.keys.put_keys.Lts as lts
-use Rattle.octants.proofs.keys.put_axis.Reads as put-axis-reads
 use Rattle.octants.proofs.PartLaws.{keyed}
 
 put-axis-requires : tie.Need-put-axis-requires

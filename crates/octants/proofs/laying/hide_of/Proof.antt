@@ -2,9 +2,6 @@
 use borrow.Author.Needs.{needs}
 use Rattle.octants.proofs.laying.hide_of.Statement.{statement}
 use Rattle.octants.proofs.laying.hide_of.Tie as tie
-use Rattle.octants.proofs.laying.hide_of.Reads as reads
-use Rattle.octants.proofs.laying.hide_of.Lts as lts
-use Rattle.octants.proofs.laying.outside.Reads as outside-reads
 use Rattle.shadows.specs.Nearness.{insideOf}
 use Rattle.octants.proofs.EndLaws.{at-most-one, hides-whole, hides-none}
 use native.Mathlib.Omega.{arith}

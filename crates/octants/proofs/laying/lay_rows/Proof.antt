@@ -2,11 +2,6 @@
 use borrow.Author.Needs.{needs}
 use Rattle.octants.proofs.laying.lay_rows.Statement.{statement}
 use Rattle.octants.proofs.laying.lay_rows.Tie as tie
-use Rattle.octants.proofs.laying.lay_rows.Reads as reads
-use Rattle.octants.proofs.laying.lay_rows.Lts as lts
-use Rattle.octants.proofs.laying.put_casts.Reads as put-casts-reads
-use Rattle.octants.proofs.laying.put_hides.Reads as put-hides-reads
-use Rattle.octants.proofs.laying.turn_axis.Reads as turn-axis-reads
 use Rattle.octants.proofs.PartLaws.{laid}
 
 turn-axis-requires : tie.Need-turn-axis-requires

@@ -2,11 +2,6 @@
 use borrow.Author.Needs.{needs}
 use Rattle.octants.proofs.laying.near_at.Statement.{statement}
 use Rattle.octants.proofs.laying.near_at.Tie as tie
-use Rattle.octants.proofs.laying.near_at.Reads as reads
-use Rattle.octants.proofs.laying.near_at.Lts as lts
-use Rattle.octants.proofs.laying.turned.Reads as turned-reads
-use mathlib.Core.Path.{ap}
-use Rattle.math.specs.declared.words3.Words3.{Words3}
 use Rattle.octants.specs.steps.Parts.{nearAt}
 use Rattle.maxima.specs.Rows.{xAt, yAt}
 

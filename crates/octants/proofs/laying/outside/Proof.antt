@@ -1,8 +1,6 @@
 -- `outside` meets its contract: by the two tests.
 use Rattle.octants.proofs.laying.outside.Statement.{statement}
 use Rattle.octants.proofs.laying.outside.Tie as tie
-use Rattle.octants.proofs.laying.outside.Reads as reads
-use Rattle.octants.proofs.laying.outside.Lts as lts
 use borrow.Author.Tests.{eq-eqb, ne-eqb}
 
 returns : tie.Need-returns

@@ -1,11 +1,7 @@
 -- `put_hides` meets its contract. The invariant is `Filling`: x and y of a row are as they were.
 use Rattle.octants.proofs.laying.put_hides.Statement.{statement}
 use Rattle.octants.proofs.laying.put_hides.Tie as tie
-use Rattle.octants.proofs.laying.put_hides.Reads as reads
-use Rattle.octants.proofs.laying.put_hides.Lts as lts
-use Rattle.octants.proofs.laying.hide_of.Reads as hide-of-reads
-use Rattle.octants.proofs.laying.near_at.Reads as near-at-reads
-use Prim.Native.Nat.{_+_, _*_, _-_}
+use Prim.Native.Nat.{_*_, _-_}
 use mathlib.Core.Path.{ap, _∙_}
 use Rattle.shadows.specs.Ranks.{hideOf}
 use Rattle.octants.specs.steps.Parts.{nearAt}

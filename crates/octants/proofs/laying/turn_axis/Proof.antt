@@ -1,9 +1,6 @@
 -- `turn_axis` meets its contract. The invariant is `Filling`.
 use Rattle.octants.proofs.laying.turn_axis.Statement.{statement}
 use Rattle.octants.proofs.laying.turn_axis.Tie as tie
-use Rattle.octants.proofs.laying.turn_axis.Reads as reads
-use Rattle.octants.proofs.laying.turn_axis.Lts as lts
-use Rattle.octants.proofs.laying.turned.Reads as turned-reads
 use Prim.Native.Nat.{_+_, _-_}
 use lib.ListN.{getD}
 use Rattle.shadows.specs.Nearness.{turned}

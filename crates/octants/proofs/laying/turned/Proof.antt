@@ -2,8 +2,6 @@
 use borrow.Author.Needs.{needs}
 use Rattle.octants.proofs.laying.turned.Statement.{statement}
 use Rattle.octants.proofs.laying.turned.Tie as tie
-use Rattle.octants.proofs.laying.turned.Reads as reads
-use Rattle.octants.proofs.laying.turned.Lts as lts
 use borrow.Author.Tests.{eq-eqb, ne-eqb}
 use native.Mathlib.Omega.{arith}
 

@@ -2,8 +2,6 @@
 use borrow.Author.Needs.{needs}
 use Rattle.octants.proofs.lists.counts_of.Statement.{statement}
 use Rattle.octants.proofs.lists.counts_of.Tie as tie
-use Rattle.octants.proofs.lists.counts_of.Reads as reads
-use Rattle.octants.proofs.lists.counts_of.Lts as lts
 use mathlib.Core.Path.{refl}
 use Rattle.octants.specs.steps.Lists.{countsIn}
 

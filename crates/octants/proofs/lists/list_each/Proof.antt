@@ -1,15 +1,10 @@
 -- `list_each` meets its contract. The invariant is `Listing`: the lists of the octants passed stand in their parts.
 use Rattle.octants.proofs.lists.list_each.Statement.{statement}
 use Rattle.octants.proofs.lists.list_each.Tie as tie
-use Rattle.octants.proofs.lists.list_each.Reads as reads
-use Rattle.octants.proofs.lists.list_each.Lts as lts
-use Rattle.octants.proofs.lists.list_octant.Reads as list-octant-reads
-use Prim.Native.Nat.{_+_, _*_, _-_, _≤_}
-use mathlib.Core.Path.{_≡_, refl, sym, _∙_}
-use mathlib.Core.List.{List}
+use Prim.Native.Nat.{_+_, _*_, _-_}
+use mathlib.Core.Path.{_≡_, refl, _∙_}
 use lib.ListN.{length, drop, length-set, length-drop}
 use lib.Seq.{length-take-le}
-use Rattle.octants.specs.steps.Work.{Work}
 use Rattle.octants.proofs.ListLaws.{Listing, none-listed, in-range, one-listed, all-listed, written-few}
 use native.Mathlib.Omega.{arith}
 

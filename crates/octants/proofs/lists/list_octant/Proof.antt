@@ -2,10 +2,6 @@
 use borrow.Author.Needs.{needs}
 use Rattle.octants.proofs.lists.list_octant.Statement.{statement}
 use Rattle.octants.proofs.lists.list_octant.Tie as tie
-use Rattle.octants.proofs.lists.list_octant.Reads as reads
-use Rattle.octants.proofs.lists.list_octant.Lts as lts
-use Rattle.maxima.proofs.listing.list_maxima.Reads as list-maxima-reads
-use Rattle.octants.proofs.laying.lay_rows.Reads as lay-rows-reads
 use Rattle.octants.proofs.PartLaws.{rows-of, octant-written}
 use native.Mathlib.Omega.{arith}
 

@@ -2,11 +2,6 @@
 use borrow.Author.Needs.{needs}
 use Rattle.octants.proofs.lists.list_octants.Statement.{statement}
 use Rattle.octants.proofs.lists.list_octants.Tie as tie
-use Rattle.octants.proofs.lists.list_octants.Reads as reads
-use Rattle.octants.proofs.lists.list_octants.Lts as lts
-use Rattle.octants.proofs.keys.put_keys.Reads as put-keys-reads
-use Rattle.octants.proofs.lists.counts_of.Reads as counts-of-reads
-use Rattle.octants.proofs.lists.list_each.Reads as list-each-reads
 use Rattle.octants.proofs.ListLaws.{wrote}
 use native.Mathlib.Omega.{arith}
 
