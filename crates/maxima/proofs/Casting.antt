@@ -1,9 +1,10 @@
--- The loop of `cast`: `best` says of the places taken in how near the furthest in z is; they are as far in y as all that is left, and what is not taken in is nearer than what is shaded next. By the invariant `Casting`.
+-- The loop of `cast`: `best` says of the places taken in how near the furthest in z is; they are as far in y as all that is left, and what is not
+-- taken in is nearer than what is shaded next. By the invariant `Casting`.
 use mathlib.Core.Path.{_≡_, refl, sym, ap, _∙_}
 use mathlib.Core.Logic.{_⊎_, inl, inr}
 use mathlib.Core.Bool.{Bool, true, false, cond, _&&_, _||_}
 use mathlib.Core.List.{List, [], _∷_, _++_}
-use Prim.Native.Nat.{ℕ, suc, _+_, _*_, _≤_, _<_}
+use Prim.Native.Nat.{ℕ, suc, _+_, _≤_, _<_}
 use native.Mathlib.Omega.{arith}
 use native.Mathlib.Decide.{decLt}
 use native.Mathlib.Numerals.{add-one}
@@ -30,7 +31,8 @@ some-none f [] h = refl
 some-none f (x ∷ xs) h = rw (h 0 (omega arith)) (some-none f xs (λ k l. h (suc k) (omega arith)))
 
 some-more : (f : ℕ → Bool) (xs : List ℕ) (i : ℕ) → i < length xs → some f (take (i + 1) xs) ≡ (some f (take i xs) || f (getD xs i 0))
-some-more f xs i h = rw (add-one i, take-suc xs i 0 h) (some-append f (take i xs) (getD xs i 0 ∷ []) ∙ ap (λ (b : Bool). some f (take i xs) || b) (or-false (f (getD xs i 0))))
+some-more f xs i h = rw (add-one i, take-suc xs i 0 h) (some-append f (take i xs) (getD xs i 0 ∷ [])
+    ∙ ap (λ (b : Bool). some f (take i xs) || b) (or-false (f (getD xs i 0))))
   where
     or-false : (a : Bool) → (a || false) ≡ a
     or-false true = refl
@@ -91,7 +93,8 @@ none-cast n rows before order h w =
       best-is = λ z l. lt-leb beyond z l;
       shaded =
           marked-none (λ p. some (λ q. coversIn n rows q p) (take h order) && member p (drop h (take h order))) before
-          (λ p. rw (drop-of-length-le (take h order) {i = h} (omega (arith, length-take-le h order (w .within)))) (and-false (some (λ q. coversIn n rows q p) (take h order))));
+          (λ p. rw (drop-of-length-le (take h order) {i = h} (omega (arith, length-take-le h order (w .within))))
+          (and-false (some (λ q. coversIn n rows q p) (take h order))));
     }
   where
     and-false : (a : Bool) → (a && false) ≡ false
@@ -117,7 +120,8 @@ lesser-le a b z = go (decLt b a)
     go (yes l) = rw (lt-ltb b a l) (under l (decide (leb b z)))
     go (no l) = rw (le-ltb b a (omega arith)) (above (omega arith) (decide (leb a z)))
 
-module _ (n : ℕ) (rows before order : List ℕ) (h best i j : ℕ) (marks : List ℕ) (w : Halves n rows before order h) (c : Casting n rows before order h best i j marks) (more : j < length order) where
+module _ (n : ℕ) (rows before order : List ℕ) (h best i j : ℕ) (marks : List ℕ) (w : Halves n rows before order h)
+    (c : Casting n rows before order h best i j marks) (more : j < length order) where
   pub row-left : getD order i 0 < n
   row-left = every-at (λ p. p < n) order i (w .below) (omega (arith, c .in-left, c .from-right))
 
@@ -137,7 +141,8 @@ module _ (n : ℕ) (rows before order : List ℕ) (h best i j : ℕ) (marks : Li
   take-in e =
       let y = leb (yAt n rows (getD order i 0)) (yAt n rows (getD order j 0)) in
       let l : i < h = ltb-true i h (first-true (ltb i h) y e) in
-      let k : yAt n rows (getD order i 0) ≤ yAt n rows (getD order j 0) = leb-true (yAt n rows (getD order i 0)) (yAt n rows (getD order j 0)) (second-true (ltb i h) y e) in
+      let k : yAt n rows (getD order i 0) ≤ yAt n rows (getD order j 0) = leb-true (yAt n rows (getD order i 0)) (yAt n rows (getD order j 0))
+      (second-true (ltb i h) y e) in
       record {
         in-left = omega arith;
         from-right = c .from-right;
@@ -151,7 +156,8 @@ module _ (n : ℕ) (rows before order : List ℕ) (h best i j : ℕ) (marks : Li
         shaded = c .shaded;
       }
     where
-      go : (a b : ℕ) → Last i a → j ≤ b → b < length order → yAt n rows (getD order i 0) ≤ yAt n rows (getD order j 0) → yAt n rows (getD order a 0) ≤ yAt n rows (getD order b 0)
+      go : (a b : ℕ) → Last i a → j ≤ b → b < length order → yAt n rows (getD order i 0) ≤ yAt n rows (getD order j 0)
+          → yAt n rows (getD order a 0) ≤ yAt n rows (getD order b 0)
       go a b (sooner p) q r k = c .passed a b p q r
       go a b (last p) q r k =
           let s = w .right j b (c .from-right) q r in
@@ -165,7 +171,8 @@ module _ (n : ℕ) (rows before order : List ℕ) (h best i j : ℕ) (marks : Li
   split : take h order ≡ take i order ++ drop i (take h order)
   split = sym (take-append-drop i (take h order)) ∙ ap (λ (l : List ℕ). l ++ drop i (take h order)) (take-take i h order (c .in-left))
 
-  taken-cover : (k : ℕ) → k < length (take i order) → coversIn n rows (getD (take i order) k 0) (getD order j 0) ≡ leb (castAt n rows (getD (take i order) k 0)) (hideAt n rows (getD order j 0))
+  taken-cover : (k : ℕ) → k < length (take i order)
+      → coversIn n rows (getD (take i order) k 0) (getD order j 0) ≡ leb (castAt n rows (getD (take i order) k 0)) (hideAt n rows (getD order j 0))
   unfolding coversIn
   taken-cover k l =
       let m : k < i = omega (arith, length-take i order) in
@@ -173,16 +180,19 @@ module _ (n : ℕ) (rows before order : List ℕ) (h best i j : ℕ) (marks : Li
       let y : yAt n rows (getD (take i order) k 0) ≤ yAt n rows (getD order j 0) = rw e (c .passed k j m (omega arith) more) in
       rw (le-leb (yAt n rows (getD (take i order) k 0)) (yAt n rows (getD order j 0)) y)
 
-  rest-nearer : (ltb i h && leb (yAt n rows (getD order i 0)) (yAt n rows (getD order j 0))) ≡ false → (k : ℕ) → k < length (drop i (take h order)) → coversIn n rows (getD (drop i (take h order)) k 0) (getD order j 0) ≡ false
+  rest-nearer : (ltb i h && leb (yAt n rows (getD order i 0)) (yAt n rows (getD order j 0))) ≡ false → (k : ℕ) → k < length (drop i (take h order))
+      → coversIn n rows (getD (drop i (take h order)) k 0) (getD order j 0) ≡ false
   unfolding coversIn
   rest-nearer f k l =
       let m : i + k < h = omega (arith, length-drop i (take h order), length-take-le h order (w .within)) in
       let e : getD (drop i (take h order)) k 0 ≡ getD order (i + k) 0 = getD-drop i (take h order) k 0 ∙ getD-take h order (i + k) 0 m in
       let f′ : leb (yAt n rows (getD order i 0)) (yAt n rows (getD order j 0)) ≡ false = rw (lt-ltb i h (omega arith)) at f in
-      let y : yAt n rows (getD order j 0) < yAt n rows (getD (drop i (take h order)) k 0) = rw e (omega (arith, leb-false (yAt n rows (getD order i 0)) (yAt n rows (getD order j 0)) f′, w .left i (i + k) (omega arith) (omega arith) m)) in
+      let y : yAt n rows (getD order j 0) < yAt n rows (getD (drop i (take h order)) k 0) = rw e
+      (omega (arith, leb-false (yAt n rows (getD order i 0)) (yAt n rows (getD order j 0)) f′, w .left i (i + k) (omega arith) (omega arith) m)) in
       rw (lt-leb (yAt n rows (getD (drop i (take h order)) k 0)) (yAt n rows (getD order j 0)) y)
 
-  best-decides : (ltb i h && leb (yAt n rows (getD order i 0)) (yAt n rows (getD order j 0))) ≡ false → some (λ q. coversIn n rows q (getD order j 0)) (take h order) ≡ leb best (hideAt n rows (getD order j 0))
+  best-decides : (ltb i h && leb (yAt n rows (getD order i 0)) (yAt n rows (getD order j 0))) ≡ false
+      → some (λ q. coversIn n rows q (getD order j 0)) (take h order) ≡ leb best (hideAt n rows (getD order j 0))
   best-decides f =
       ap (some (λ q. coversIn n rows q (getD order j 0))) split
       ∙ some-append (λ q. coversIn n rows q (getD order j 0)) (take i order) (drop i (take h order))
@@ -190,14 +200,16 @@ module _ (n : ℕ) (rows before order : List ℕ) (h best i j : ℕ) (marks : Li
         some-alike (λ q. coversIn n rows q (getD order j 0)) (λ q. leb (castAt n rows q) (hideAt n rows (getD order j 0))) (take i order) taken-cover,
         some-none (λ q. coversIn n rows q (getD order j 0)) (drop i (take h order)) (rest-nearer f),
       )
-      (or-false (some (λ q. leb (castAt n rows q) (hideAt n rows (getD order j 0))) (take i order)) ∙ sym (c .best-is (hideAt n rows (getD order j 0)) (w .table .hidden-below (getD order j 0) row-right)))
+      (or-false (some (λ q. leb (castAt n rows q) (hideAt n rows (getD order j 0))) (take i order))
+      ∙ sym (c .best-is (hideAt n rows (getD order j 0)) (w .table .hidden-below (getD order j 0) row-right)))
     where
       or-false : (a : Bool) → (a || false) ≡ a
       or-false true = refl
       or-false false = refl
 
   one-longer : drop h (take (j + 1) order) ≡ drop h (take j order) ++ (getD order j 0 ∷ [])
-  one-longer = rw (add-one j, take-suc order j 0 more) (drop-append-le h (take j order) (getD order j 0 ∷ []) (omega (arith, c .from-right, length-take-le j order (c .in-right))))
+  one-longer = rw (add-one j, take-suc order j 0 more)
+      (drop-append-le h (take j order) (getD order j 0 ∷ []) (omega (arith, c .from-right, length-take-le j order (c .in-right))))
 
   pub shade-next : (ltb i h && leb (yAt n rows (getD order i 0)) (yAt n rows (getD order j 0))) ≡ false → (now : List ℕ)
       → Marked (λ q. eqb q (getD order j 0) && leb best (hideAt n rows (getD order j 0))) marks now → Casting n rows before order h best i (j + 1) now
@@ -231,11 +243,15 @@ module _ (n : ℕ) (rows before order : List ℕ) (h best i j : ℕ) (marks : Li
           rw (e, eq-eqb r p (sym g)) (sym (ap covered g ∙ best-decides f))
       by-best p (inr e) = rw (e, ne-eqb r p (λ g. eqb-false p r e (sym g)))
 
-      tests : (p : ℕ) → ((covered p && member p (drop h (take j order))) || (eqb p r && leb best (hideAt n rows r))) ≡ (covered p && member p (drop h (take (j + 1) order)))
+      tests : (p : ℕ) → ((covered p && member p (drop h (take j order))) || (eqb p r && leb best (hideAt n rows r))) ≡
+          (covered p && member p (drop h (take (j + 1) order)))
       tests p =
           ap (λ (t : Bool). (covered p && member p (drop h (take j order))) || t) (by-best p (decide (eqb p r)))
           ∙ join (covered p) (member p (drop h (take j order))) (eqb r p)
-          ∙ sym (ap (λ (l : List ℕ). covered p && member p l) one-longer ∙ ap (λ (t : Bool). covered p && t) (some-append (λ q. eqb q p) (drop h (take j order)) (r ∷ [])))
+          ∙ sym (ap (λ (l : List ℕ). covered p && member p l) one-longer
+          ∙ ap (λ (t : Bool). covered p && t) (some-append (λ q. eqb q p) (drop h (take j order)) (r ∷ [])))
 
-pub all-cast : (n : ℕ) (rows before order : List ℕ) (h best i j : ℕ) (marks : List ℕ) → Casting n rows before order h best i j marks → length order ≤ j → Marked (castOn n rows order h) before marks
-all-cast n rows before order h best i j marks c l = marked-alike _ _ before marks (λ p. ap (λ (t : List ℕ). some (λ q. coversIn n rows q p) (take h order) && member p (drop h t)) (take-all j order l)) (c .shaded)
+pub all-cast : (n : ℕ) (rows before order : List ℕ) (h best i j : ℕ) (marks : List ℕ) → Casting n rows before order h best i j marks
+    → length order ≤ j → Marked (castOn n rows order h) before marks
+all-cast n rows before order h best i j marks c l = marked-alike _ _ before marks
+    (λ p. ap (λ (t : List ℕ). some (λ q. coversIn n rows q p) (take h order) && member p (drop h t)) (take-all j order l)) (c .shaded)

@@ -9,7 +9,7 @@ use native.Mathlib.Decide.{decLt}
 use native.Mathlib.Numerals.{add-one}
 use lib.ListN.{length, getD, set, take, drop, length-set, drop-of-length-le, length-append, length-drop, length-take}
 use lib.Seq.{take-suc-set, drop-set-lt, append-snoc, length-take-le, take-append-le}
-use Rattle.base.specs.Lists.{sift, Below, over}
+use Rattle.base.specs.Lists.{sift, Below}
 use Rattle.base.proofs.ListLaws.{length-sift}
 use Rattle.base.proofs.StoreLaws.{rest-one}
 use Rattle.base.proofs.EveryLaws.{every-append, every-sift}
@@ -17,7 +17,7 @@ use Rattle.base.proofs.NumberLaws.{below-wider}
 use Rattle.shadows.specs.Kept.{some, admit, keptOf}
 use Rattle.shadows.proofs.MaximaLaws.{admit-passes, admit-joins, kept-below}
 use Rattle.maxima.specs.Rows.{shadowedAt, Written}
-use Rattle.maxima.specs.steps.Keeping.{Begins, Testable, Admissible}
+use Rattle.maxima.specs.steps.Keeping.{Begins, Admissible}
 
 -- ---- one that passes
 
@@ -111,11 +111,13 @@ module _ (shadowed : ℕ → ℕ → Bool) (kept : List ℕ) (count i : ℕ) (ro
   fewer part left g =
       omega (arith, g .count, length-sift (λ k. not (shadowed k i)) (take count kept), length-take-le count kept (omega arith))
 
-  pub has-place : (part : List ℕ) (left : ℕ) → length part ≡ count → Begins (sift (λ k. not (shadowed k i)) (take count kept)) part left → left < length (part ++ drop count kept)
+  pub has-place : (part : List ℕ) (left : ℕ) → length part ≡ count → Begins (sift (λ k. not (shadowed k i)) (take count kept)) part left
+      → left < length (part ++ drop count kept)
   has-place part left e g = omega (arith, fewer part left g, length-append part (drop count kept), length-drop count kept)
 
   -- `part` is what the thinning left of the first `count`
-  pub joins : (part : List ℕ) (left : ℕ) → length part ≡ count → some (shadowed i) (take count kept) ≡ false → Begins (sift (λ k. not (shadowed k i)) (take count kept)) part left
+  pub joins : (part : List ℕ) (left : ℕ) → length part ≡ count → some (shadowed i) (take count kept) ≡ false
+      → Begins (sift (λ k. not (shadowed k i)) (take count kept)) part left
       → Begins (admit shadowed (take count kept) i) (set (part ++ drop count kept) left i) (left + 1)
   joins part left e f g =
       let spared = sift (λ k. not (shadowed k i)) (take count kept) in

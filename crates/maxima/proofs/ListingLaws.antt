@@ -11,18 +11,18 @@ use borrow.Author.Tests.{eq-eqb, eqb-true, eqb-false, lt-ltb, le-ltb, ltb-true}
 use lib.Dec.{eqb, ltb}
 use lib.ListN.{length, getD, set, take, drop, length-set, length-append, length-drop}
 use lib.Seq.{take-all, take-suc-set, getD-set-same, getD-set-other, drop-cons, set-at, append-snoc}
-use Rattle.base.specs.Lists.{oneIf, sift, occurrences, Below, over}
+use Rattle.base.specs.Lists.{oneIf, sift, occurrences, Below}
 use Rattle.base.specs.Sorted.{sort, InOrder}
 use Rattle.base.proofs.EveryLaws.{every-append}
 use Rattle.base.proofs.ListLaws.{length-kept, occurs-more, one-or-none}
 use Rattle.base.proofs.NumberLaws.{below-wider}
 use Rattle.base.proofs.SortLaws.{sort-every, sort-in-order, sort-permutes}
-use Rattle.shadows.specs.Kept.{some, keptOf}
+use Rattle.shadows.specs.Kept.{keptOf}
 use Rattle.shadows.specs.Maxima.{numbers, listed}
 use Rattle.shadows.proofs.Truth.{decide, never}
 use Rattle.shadows.proofs.Below.{Last, sooner, last, last-or, sift-append, sift-alike}
 use Rattle.maxima.specs.Rows.{shadowedAt, Rows, Written}
-use Rattle.maxima.specs.steps.Order.{farLe, leBy}
+use Rattle.maxima.specs.steps.Order.{leBy}
 use Rattle.maxima.specs.steps.Marking.{member, coversIn, hidden, Marked, Sifted, Clear}
 use Rattle.maxima.proofs.OrderLaws.{ordered-by}
 use Rattle.maxima.proofs.SweepLaws.{BeforeAll, FarFirst, at-most-before, are-maxima, listed-is-unhidden}
@@ -119,14 +119,17 @@ module _ (p : ℕ → Bool) (n : ℕ) (before now : List ℕ) (count i : ℕ) (l
         list = s ∙ sym (append-snoc (sift p (numbers i)) i (drop (suc count) before)) ∙ sym (rw (sifted-next true e, add-one count));
       }
 
-pub all-listed : (p : ℕ → Bool) (n : ℕ) (before now : List ℕ) (count i : ℕ) → Listing p n before now count i → n ≤ i → Written (sift p (numbers n)) before now count
+pub all-listed : (p : ℕ → Bool) (n : ℕ) (before now : List ℕ) (count i : ℕ) → Listing p n before now count i → n ≤ i
+    → Written (sift p (numbers n)) before now count
 all-listed p n before now count i l h =
     let e : i ≡ n = omega (arith, l .upto) in
     let c : count ≡ length (sift p (numbers n)) = rw e at (l .count-is) in
     record { count = c; list = rw (← c) (rw e at (l .list)) }
 
-pub listing-length : (p : ℕ → Bool) (n : ℕ) (before now : List ℕ) (count i : ℕ) → Listing p n before now count i → n ≤ length before → length now ≡ length before
-listing-length p n before now count i l room = omega (arith, ap length (l .list), length-append (sift p (numbers i)) (drop count before), length-drop count before, l .few, l .upto, l .count-is)
+pub listing-length : (p : ℕ → Bool) (n : ℕ) (before now : List ℕ) (count i : ℕ) → Listing p n before now count i → n ≤ length before
+    → length now ≡ length before
+listing-length p n before now count i l room = omega
+    (arith, ap length (l .list), length-append (sift p (numbers i)) (drop count before), length-drop count before, l .few, l .upto, l .count-is)
 
 -- ---- the numbers 0 to n − 1
 

@@ -17,7 +17,7 @@ use Rattle.shadows.proofs.MaximaLaws.{kept-are-maxima}
 use Rattle.maxima.specs.Rows.{xAt, yAt, castAt, hideAt, shadowedAt, Rows}
 use Rattle.maxima.specs.steps.Order.{thenLe, farLe}
 use Rattle.maxima.specs.steps.Marking.{member, coversIn, hidden}
-use Rattle.maxima.proofs.OrderLaws.{then-says, then-less, then-same}
+use Rattle.maxima.proofs.OrderLaws.{then-says}
 
 or-true : (a : Bool) → (a || true) ≡ true
 or-true true = refl

@@ -1,21 +1,20 @@
 -- The loop over the octants: what stands in the parts that are done, followed by what the others had (`Listing`). By the lengths of the parts.
 use mathlib.Core.Path.{_≡_, refl, sym, ap, ap₂, _∙_, subst}
-use mathlib.Core.List.{List, [], _∷_, _++_, append-assoc}
-use Prim.Native.Nat.{ℕ, zero, suc, _+_, _*_, _-_, _≤_, _<_}
+use mathlib.Core.List.{List, _++_, append-assoc}
+use Prim.Native.Nat.{ℕ, _+_, _*_, _-_, _≤_, _<_}
 use native.Mathlib.Nat.{zero-mul, mul-le-mul-right}
 use native.Mathlib.Omega.{arith}
 use native.Mathlib.Numerals.{add-one}
 use borrow.Rule.Slice.PartMut.{putMid, same-len-mid}
-use lib.ListN.{length, getD, set, take, drop, length-set, length-append, length-drop}
+use lib.ListN.{length, getD, set, take, drop, length-append, length-drop}
 use lib.Seq.{take-at, drop-at, drop-drop, length-take-le, getD-set-same, getD-set-other}
 use Rattle.base.specs.Lists.{over}
 use Rattle.shadows.specs.Octants.{octantOf}
 use Rattle.shadows.proofs.Below.{Last, sooner, last, last-or}
 use Rattle.maxima.specs.Rows.{Written}
 use Rattle.octants.specs.declared.lists.OctantCounts.{OctantCounts}
-use Rattle.octants.specs.Octants.{partOf, parts, listed, countsOf, Wrote}
+use Rattle.octants.specs.Octants.{partOf, parts, countsOf, Wrote}
 use Rattle.octants.specs.steps.Parts.{Keyed}
-use Rattle.octants.specs.steps.Work.{Work}
 use Rattle.octants.specs.steps.Lists.{Each, countsIn}
 
 -- ---- one part more

@@ -10,16 +10,15 @@ use lib.Dec.{leb}
 use lib.ListN.{length, getD, set, length-set}
 use lib.Seq.{getD-set-same, getD-set-other}
 use Rattle.float32.specs.SortOrder.{keyOf}
-use Rattle.math.specs.declared.words3.Words3.{Words3}
 use Rattle.shadows.specs.Kept.{keptOf}
 use Rattle.shadows.specs.Shadows.{flipOf, fallsX, fallsY, fallsZ}
-use Rattle.shadows.specs.Octants.{wordsAt, shadowedIn, octantOf}
+use Rattle.shadows.specs.Octants.{shadowedIn, octantOf}
 use Rattle.shadows.specs.Nearness.{turned, nearnessOf, nearnessAt}
-use Rattle.shadows.specs.Ranks.{beyond, castOf, hideOf}
+use Rattle.shadows.specs.Ranks.{castOf, hideOf}
 use Rattle.shadows.proofs.Below.{Last, sooner, last, last-or}
 use Rattle.shadows.proofs.MaximaLaws.{kept-alike}
 use Rattle.shadows.proofs.RankLaws.{shadowed-by-ranks, hide-below, hide-under-cast}
-use Rattle.maxima.specs.Rows.{xAt, yAt, castAt, hideAt, shadowedAt, Rows, Written}
+use Rattle.maxima.specs.Rows.{xAt, yAt, shadowedAt, Rows, Written}
 use Rattle.octants.specs.steps.Parts.{Filled, Keyed, nearAt, Laid}
 
 -- ---- one part

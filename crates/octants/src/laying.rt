@@ -1,6 +1,7 @@
 // The rows of an octant: how near each vertex is, in the octant's direction.
 use math::words3::Words3;
 ghost use mathlib.Core.Path.{_≡_};
+ghost use mathlib.Core.Bool.{cond};
 ghost use mathlib.Core.List.{List};
 ghost use Prim.Native.Nat.{ℕ, _+_, _*_, _≤_, _<_};
 ghost use lib.ListN.{length, getD};
@@ -21,46 +22,33 @@ fn turned(falls: bool, key: u32) -> u32
     0xffff_ffff - key + 1
 }
 
-// Whether t is neither a NaN's nor the end's.
-fn inside(t: u32, end: u32) -> bool
-    ensures { λ r. ⌜ r ≡ insideOf t end ⌝ }
+// 1 where t is a NaN's or the end's. A sum of such is 0 where none is, and no branch: the loops over it are compiled to vectors.
+fn outside(t: u32, end: u32) -> u32
+    ensures { λ r. ⌜ r ≡ cond (insideOf t end) 0 1 ⌝ }
 {
     if t == 0 {
-        return false;
+        1
+    } else if t == end {
+        1
+    } else {
+        0
     }
-    t != end
 }
 
 // z where the vertex casts a shadow, else beyond all.
 fn cast_of(a: Words3) -> u32
     ensures { λ r. ⌜ r ≡ castOf a ⌝ }
 {
-    if !inside(a.x, 0xff80_0000) {
-        return 0xffff_ffff;
-    }
-    if !inside(a.y, 0xff80_0000) {
-        return 0xffff_ffff;
-    }
-    if !inside(a.z, 0xff80_0000) {
-        return 0xffff_ffff;
-    }
-    a.z
+    let failed = outside(a.x, 0xff80_0000) + outside(a.y, 0xff80_0000) + outside(a.z, 0xff80_0000);
+    if failed == 0 { a.z } else { 0xffff_ffff }
 }
 
 // z where the vertex can be shadowed, else before all.
 fn hide_of(a: Words3) -> u32
     ensures { λ r. ⌜ r ≡ hideOf a ⌝ }
 {
-    if !inside(a.x, 0x0080_0000) {
-        return 0;
-    }
-    if !inside(a.y, 0x0080_0000) {
-        return 0;
-    }
-    if !inside(a.z, 0x0080_0000) {
-        return 0;
-    }
-    a.z
+    let failed = outside(a.x, 0x0080_0000) + outside(a.y, 0x0080_0000) + outside(a.z, 0x0080_0000);
+    if failed == 0 { a.z } else { 0 }
 }
 
 // One axis of all vertices, from `at` on.

@@ -1,4 +1,5 @@
--- What the source's rounded test says on one axis: b is at least as far as a, neither is a NaN, a is not the infinity at the far end and b not the one at the near end. So the test is transitive, over every float.
+-- What the source's rounded test says on one axis: b is at least as far as a, neither is a NaN, a is not the infinity at the far end and b not the
+-- one at the near end. So the test is transitive, over every float.
 use mathlib.Core.Path.{_≡_, refl, ap, _∙_}
 use mathlib.Core.Logic.{inl, inr}
 use mathlib.Core.Bool.{Bool, true, false, not, _&&_}
@@ -31,7 +32,8 @@ module _ (f : Format) (a b : Float) (p : T (finite a)) (q : T (finite b)) (A : T
   rising-finite = T-ext (le naught (sub f b a)) (le a b) to (λ h. sub-ge-zero f b a q p h)
     where
       to : T (le naught (sub f b a)) → T (le a b)
-      to h = elim (le-or-lt a b (finite-no-nan a p) (finite-no-nan b q)) [ inl k ↦ k | inr k ↦ absurd (lt→not-le (sub f b a) naught (sub-lt-zero f b a q p B A k) h) ]
+      to h = elim (le-or-lt a b (finite-no-nan a p) (finite-no-nan b q))
+          [ inl k ↦ k | inr k ↦ absurd (lt→not-le (sub f b a) naught (sub-lt-zero f b a q p B A k) h) ]
 
   falling-finite : le naught (neg (sub f b a)) ≡ le b a
   unfolding neg

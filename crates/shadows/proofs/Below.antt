@@ -72,7 +72,8 @@ pub sift-append : (p : ℕ → Bool) (xs ys : List ℕ) → sift p (xs ++ ys) �
 sift-append p [] ys = refl
 sift-append p (x ∷ xs) ys = go (p x) (sift-append p xs ys)
   where
-    go : (b : Bool) → sift p (xs ++ ys) ≡ sift p xs ++ sift p ys → cond b (x ∷ sift p (xs ++ ys)) (sift p (xs ++ ys)) ≡ cond b (x ∷ sift p xs) (sift p xs) ++ sift p ys
+    go : (b : Bool) → sift p (xs ++ ys) ≡ sift p xs ++ sift p ys
+        → cond b (x ∷ sift p (xs ++ ys)) (sift p (xs ++ ys)) ≡ cond b (x ∷ sift p xs) (sift p xs) ++ sift p ys
     go true h = ap (λ (l : List ℕ). x ∷ l) h
     go false h = h
 
@@ -88,7 +89,8 @@ pub sift-sift : (p q : ℕ → Bool) (xs : List ℕ) → sift p (sift q xs) ≡ 
 sift-sift p q [] = refl
 sift-sift p q (x ∷ xs) = go (q x) (sift-sift p q xs)
   where
-    go : (b : Bool) → sift p (sift q xs) ≡ sift (λ y. q y && p y) xs → sift p (cond b (x ∷ sift q xs) (sift q xs)) ≡ cond (b && p x) (x ∷ sift (λ y. q y && p y) xs) (sift (λ y. q y && p y) xs)
+    go : (b : Bool) → sift p (sift q xs) ≡ sift (λ y. q y && p y) xs
+        → sift p (cond b (x ∷ sift q xs) (sift q xs)) ≡ cond (b && p x) (x ∷ sift (λ y. q y && p y) xs) (sift (λ y. q y && p y) xs)
     go true h = ap (λ (l : List ℕ). cond (p x) (x ∷ l) l) h
     go false h = h
 

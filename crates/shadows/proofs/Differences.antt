@@ -1,4 +1,5 @@
--- The sign of a rounded difference is that of the exact one: two values that differ do so by a whole number of the format's smallest units, so no difference is lost. And x * 1 is x, x * -1 is -x.
+-- The sign of a rounded difference is that of the exact one: two values that differ do so by a whole number of the format's smallest units, so no
+-- difference is lost. And x * 1 is x, x * -1 is -x.
 use mathlib.Core.Path.{_≡_, refl, sym, ap}
 use mathlib.Core.Bool.{Bool, true, false, not}
 use Prim.Native.Nat.{ℕ, zero, suc, _+_, _-_, _*_, _^_, _≤_, _<_}
@@ -53,7 +54,8 @@ minus-below-zero r h = lt-le-trans (neg r) (fin true 0 (pos 0)) naught (neg-lt n
 -- ---- a difference is a whole number of units
 
 -- (P - Q) / (d * d') in units of 1 / l, of which d and d' are whole numbers of: at least one where Q < P
-one-unit : (p q d p' q' d' w w' l : ℕ) → 0 < l → l ≡ w * d → l ≡ w' * d' → q * d' + p' * d < p * d' + q' * d → d * d' ≤ ((p * d' + q' * d) - (q * d' + p' * d)) * l
+one-unit : (p q d p' q' d' w w' l : ℕ) → 0 < l → l ≡ w * d → l ≡ w' * d' → q * d' + p' * d < p * d' + q' * d
+    → d * d' ≤ ((p * d' + q' * d) - (q * d' + p' * d)) * l
 one-unit p q d p' q' d' w w' l L e e' h =
     let a : (p * d' + q' * d) * l ≡ (p * w + q' * w') * (d * d') = omega (arith, ap (λ (z : ℕ). p * d' * z) e, ap (λ (z : ℕ). q' * d * z) e') in
     let b : (q * d' + p' * d) * l ≡ (q * w + p' * w') * (d * d') = omega (arith, ap (λ (z : ℕ). q * d' * z) e, ap (λ (z : ℕ). p' * d * z) e') in

@@ -1,4 +1,5 @@
--- What the loop keeps is what nothing displaces (rule O2), for every transitive relation. By the invariant `Covering`: each vertex seen is kept, or shadowed by a kept one.
+-- What the loop keeps is what nothing displaces (rule O2), for every transitive relation. By the invariant `Covering`: each vertex seen is kept, or
+-- shadowed by a kept one.
 use mathlib.Core.Path.{_≡_, refl, sym, ap, _∙_}
 use mathlib.Core.Logic.{_⊎_, inl, inr}
 use mathlib.Core.Bool.{Bool, true, false, not, cond, _&&_, _||_}
@@ -84,10 +85,12 @@ module _ (shadowed : ℕ → ℕ → Bool) where
     covering : Covering n
 
   -- what the loop asks of vertex n: whether a listed one shadows it
-  asked : (n : ℕ) → keptOf shadowed n ≡ maximaOf shadowed n → some (shadowed n) (keptOf shadowed n) ≡ not (noneBelow n (λ k. listed shadowed n k && shadowed n k))
+  asked : (n : ℕ) → keptOf shadowed n ≡ maximaOf shadowed n
+      → some (shadowed n) (keptOf shadowed n) ≡ not (noneBelow n (λ k. listed shadowed n k && shadowed n k))
   asked n e = ap (some (shadowed n)) e ∙ some-sifted (shadowed n) (listed shadowed n) n
 
-  maxima-more : (n : ℕ) (b : Bool) → listed shadowed (suc n) n ≡ b → maximaOf shadowed (suc n) ≡ sift (listed shadowed (suc n)) (numbers n) ++ cond b (n ∷ []) []
+  maxima-more : (n : ℕ) (b : Bool) → listed shadowed (suc n) n ≡ b
+      → maximaOf shadowed (suc n) ≡ sift (listed shadowed (suc n)) (numbers n) ++ cond b (n ∷ []) []
   maxima-more n b e = sift-append (listed shadowed (suc n)) (numbers n) (n ∷ []) ∙ rw e
 
   shadowed-in-turn : (i j : ℕ) → i ≤ j → shadowed j i ≡ true → displaced shadowed i j ≡ false
@@ -176,7 +179,9 @@ module _ (shadowed : ℕ → ℕ → Bool) where
           record {
             list =
                 admit-joins (keptOf shadowed n) n s
-                ∙ ap (λ (l : List ℕ). l ++ (n ∷ [])) (ap (sift (λ k. not (shadowed k n))) (inv .list) ∙ sift-sift (λ k. not (shadowed k n)) (listed shadowed n) (numbers n) ∙ sym (sift-alike (listed shadowed (suc n)) (λ k. listed shadowed n k && not (shadowed k n)) n thinned))
+                ∙ ap (λ (l : List ℕ). l ++ (n ∷ [])) (ap (sift (λ k. not (shadowed k n))) (inv .list)
+                ∙ sift-sift (λ k. not (shadowed k n)) (listed shadowed n) (numbers n)
+                ∙ sym (sift-alike (listed shadowed (suc n)) (λ k. listed shadowed n k && not (shadowed k n)) n thinned))
                 ∙ sym (maxima-more n true admitted);
             covering = λ j m. go j (last-or n j m);
           }
@@ -205,15 +210,18 @@ module _ (shadowed : ℕ → ℕ → Bool) where
     step : Invariant (suc n)
     step = go (decide (noneBelow n (λ k. listed shadowed n k && shadowed n k)))
       where
-        go : (noneBelow n (λ k. listed shadowed n k && shadowed n k) ≡ true) ⊎ (noneBelow n (λ k. listed shadowed n k && shadowed n k) ≡ false) → Invariant (suc n)
-        go (inl e) = joins (λ k m on. second-false (listed shadowed n k) (shadowed n k) on (none-at n (λ k. listed shadowed n k && shadowed n k) e k m)) (asked n (inv .list) ∙ ap not e)
+        go : (noneBelow n (λ k. listed shadowed n k && shadowed n k) ≡ true) ⊎ (noneBelow n (λ k. listed shadowed n k && shadowed n k) ≡ false)
+            → Invariant (suc n)
+        go (inl e) = joins (λ k m on. second-false (listed shadowed n k) (shadowed n k) on
+            (none-at n (λ k. listed shadowed n k && shadowed n k) e k m)) (asked n (inv .list) ∙ ap not e)
           where
             second-false : (a b : Bool) → a ≡ true → (a && b) ≡ false → b ≡ false
             second-false true b h k = k
             second-false false b h k = never h refl
         go (inr e) =
             let w = one-if n (λ k. listed shadowed n k && shadowed n k) e in
-            stays (w .number) (w .in-range) (first-true (listed shadowed n (w .number)) (shadowed n (w .number)) (w .passes)) (second-true (listed shadowed n (w .number)) (shadowed n (w .number)) (w .passes))
+            stays (w .number) (w .in-range) (first-true (listed shadowed n (w .number)) (shadowed n (w .number)) (w .passes))
+            (second-true (listed shadowed n (w .number)) (shadowed n (w .number)) (w .passes))
             (asked n (inv .list) ∙ ap not e)
 
   invariant : Transitive shadowed → (n : ℕ) → Invariant n
@@ -229,7 +237,8 @@ module _ (shadowed : ℕ → ℕ → Bool) where
   covered trans n = invariant trans n .covering
 
 -- two relations that agree on the n vertices have the same maxima
-pub maxima-alike : (shadowed shadowed' : ℕ → ℕ → Bool) (n : ℕ) → ((i j : ℕ) → i < n → j < n → shadowed i j ≡ shadowed' i j) → maximaOf shadowed n ≡ maximaOf shadowed' n
+pub maxima-alike : (shadowed shadowed' : ℕ → ℕ → Bool) (n : ℕ) → ((i j : ℕ) → i < n → j < n → shadowed i j ≡ shadowed' i j)
+    → maximaOf shadowed n ≡ maximaOf shadowed' n
 maxima-alike shadowed shadowed' n h =
     sift-alike (listed shadowed n) (listed shadowed' n) n
     (λ i l. none-alike n (displaced shadowed i) (displaced shadowed' i) (λ j m. unfold displaced in rw (h i j l m, h j i m l)))

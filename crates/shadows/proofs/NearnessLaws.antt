@@ -3,7 +3,7 @@ use mathlib.Core.Path.{_≡_, refl, sym, _∙_}
 use mathlib.Core.Logic.{_⊎_, inl, inr}
 use mathlib.Core.Bool.{Bool, true, false, not, cond, _&&_}
 use mathlib.Core.List.{List}
-use Prim.Native.Nat.{ℕ, _-_, _*_, _≤_, _<_}
+use Prim.Native.Nat.{ℕ, _-_, _≤_, _<_}
 use native.Mathlib.Omega.{arith}
 use native.Mathlib.Decide.{decLe}
 use lib.Dec.{T, leb, eqb}
@@ -56,10 +56,17 @@ near-reaches : (falls : Bool) (k l : ℕ) → k < 0x1_0000_0000 → l < 0x1_0000
 unfolding keyReaches
 near-reaches true k l h h' = refl
 near-reaches false k l h h' =
-    sym (rw (turned-zero k h, turned-zero l h', turned-end k h 0xff80_0000 (omega arith) (omega arith), turned-end l h' 0x0080_0000 (omega arith) (omega arith)) (go (eqb k 0) (eqb l 0) refl refl))
+    sym (rw (
+      turned-zero k h,
+      turned-zero l h',
+      turned-end k h 0xff80_0000 (omega arith) (omega arith),
+      turned-end l h' 0x0080_0000 (omega arith)
+          (omega arith),
+    ) (go (eqb k 0) (eqb l 0) refl refl))
   where
     go : (a b : Bool) → eqb k 0 ≡ a → eqb l 0 ≡ b
-        → ((not a && not (eqb k 0xff80_0000)) && ((not b && not (eqb l 0x0080_0000)) && leb (turned false l) (turned false k))) ≡ ((not a && not (eqb k 0xff80_0000)) && ((not b && not (eqb l 0x0080_0000)) && leb k l))
+        → ((not a && not (eqb k 0xff80_0000)) && ((not b && not (eqb l 0x0080_0000)) && leb (turned false l) (turned false k))) ≡
+        ((not a && not (eqb k 0xff80_0000)) && ((not b && not (eqb l 0x0080_0000)) && leb k l))
     go true b e f = refl
     go false true e f = refl
     go false false e f = rw (turned-order k l h h' e f)
@@ -97,7 +104,8 @@ regroup h c l h' c' l' h'' c'' l'' = T-ext _ _ to from
         (and-i h' (c' && l') (and-l h' h'' u') (and-i c' l' (and-l c' c'' v') (and-l l' l'' w')))
         (and-i h'' (c'' && l'') (and-r h' h'' u') (and-i c'' l'' (and-r c' c'' v') (and-r l' l'' w'))))
 
-three-axes : (s t s' t' s'' t'' : ℕ) → (nearReaches s t && (nearReaches s' t' && nearReaches s'' t'')) ≡ nearShadowed (record { x = s; y = s'; z = s'' }) (record { x = t; y = t'; z = t'' })
+three-axes : (s t s' t' s'' t'' : ℕ)
+    → (nearReaches s t && (nearReaches s' t' && nearReaches s'' t'')) ≡ nearShadowed (record { x = s; y = s'; z = s'' }) (record { x = t; y = t'; z = t'' })
 unfolding nearShadowed
 three-axes s t s' t' s'' t'' = regroup (hides s) (casts t) (leb t s) (hides s') (casts t') (leb t' s') (hides s'') (casts t'') (leb t'' s'')
 

@@ -10,7 +10,7 @@ use borrow.Author.Tests.{lt-leb, ne-eqb, lt-ltb, le-ltb}
 use lib.Dec.{leb, ltb, eqb}
 use Rattle.float32.specs.SortOrder.{keyOf}
 use Rattle.math.specs.declared.words3.Words3.{Words3}
-use Rattle.shadows.specs.Shadows.{flipOf, fallsX, fallsY, fallsZ}
+use Rattle.shadows.specs.Shadows.{flipOf, fallsZ}
 use Rattle.shadows.specs.Octants.{wordsAt, shadowedIn}
 use Rattle.shadows.specs.Nearness.{turned, nearnessOf, nearnessAt, casts, nearest, hideable, caster, nearShadowed}
 use Rattle.shadows.specs.Ranks.{beyond, castOf, hideOf}

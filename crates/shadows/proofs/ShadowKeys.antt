@@ -1,8 +1,9 @@
--- Shadowing is a plain order of whole numbers (rule O1): the rounded test on an axis is one of the words' keys. By the order of floats, and by how keys stand to it.
+-- Shadowing is a plain order of whole numbers (rule O1): the rounded test on an axis is one of the words' keys. By the order of floats, and by how
+-- keys stand to it.
 use mathlib.Core.Path.{_≡_, refl, sym, ap, _∙_, subst}
 use mathlib.Core.Bool.{Bool, true, false, not, _&&_, _||_}
 use mathlib.Core.List.{List}
-use Prim.Native.Nat.{ℕ, _*_}
+use Prim.Native.Nat.{ℕ}
 use lib.Dec.{T, eqb}
 use lib.Ieee.{Float, nan, inf, fin, binary32, ofBits, isNan, lt, eq, le}
 use lib.Ieee.Bits.{ofBits-fits}
@@ -52,7 +53,8 @@ inf-value false = refl
 
 key-inf : (s : Bool) (w : ℕ) → eqb (keyOf w) (farEnd s) ≡ isInf s (ofBits binary32 w)
 key-inf s w =
-    ap (eqb (keyOf w)) (sym (inf-key s)) ∙ key-eq w (infWord s) ∙ ap (λ (y : Float). isEqual (cmpOf (ofBits binary32 w) y)) (inf-value s) ∙ equal-inf s (ofBits binary32 w)
+    ap (eqb (keyOf w)) (sym (inf-key s)) ∙ key-eq w (infWord s) ∙ ap (λ (y : Float). isEqual (cmpOf (ofBits binary32 w) y)) (inf-value s)
+    ∙ equal-inf s (ofBits binary32 w)
 
 -- ---- keys stand as the floats do, off NaN
 
@@ -66,7 +68,8 @@ at-most-le x y h = rw h (go (relationOf x y) (isNan y)) ∙ sym (Relations.le-sa
     go Rel.Greater b = refl
     go Rel.Unordered b = refl
 
-key-far : (falls : Bool) (a b : ℕ) → isNan (ofBits binary32 a) ≡ false → isNan (ofBits binary32 b) ≡ false → asFar falls (keyOf a) (keyOf b) ≡ ahead falls (ofBits binary32 a) (ofBits binary32 b)
+key-far : (falls : Bool) (a b : ℕ) → isNan (ofBits binary32 a) ≡ false → isNan (ofBits binary32 b) ≡ false
+    → asFar falls (keyOf a) (keyOf b) ≡ ahead falls (ofBits binary32 a) (ofBits binary32 b)
 unfolding ahead
 key-far false a b p q = key-le a b ∙ at-most-le (ofBits binary32 a) (ofBits binary32 b) p
 key-far true a b p q = key-le b a ∙ at-most-le (ofBits binary32 b) (ofBits binary32 a) q
@@ -108,7 +111,8 @@ reaches-by-keys falls a b =
     never true = refl
     never false = refl
 
-    go : (p q : Bool) → isNan x ≡ p → isNan y ≡ q → (u v : Bool) → ((not p && not u) && ((not q && not v) && asFar falls (keyOf a) (keyOf b))) ≡ (not u && (not v && ahead falls x y))
+    go : (p q : Bool) → isNan x ≡ p → isNan y ≡ q → (u v : Bool)
+        → ((not p && not u) && ((not q && not v) && asFar falls (keyOf a) (keyOf b))) ≡ (not u && (not v && ahead falls x y))
     go true q e f u v = rw (nan-behind falls x y e) (none (not u) (not v))
     go false true e f u v = rw (nan-before falls x y f) (never (not u) ∙ none (not u) (not v))
     go false false e f u v = rw (key-far falls a b e f)

@@ -11,7 +11,7 @@ use Rattle.shadows.specs.Shadows.{flipOf, reaches, shadowedBy, fallsX, f
 use Rattle.shadows.specs.Octants.{vertexAt, shadowedIn}
 use Rattle.shadows.specs.Maxima.{Transitive}
 use Rattle.shadows.proofs.AxisLaws.{reaches-trans}
-use Rattle.shadows.proofs.Truth.{true-holds, holds-true}
+use denote.Floats.{passes, is-true}
 
 -- the coordinates are values of binary32
 pub record Stored (v : Vec3) : Type 0 where
@@ -20,7 +20,8 @@ pub record Stored (v : Vec3) : Type 0 where
   pub fits-z : T (fits binary32 (v .z))
 
 -- what is so of each of three tests is so of all three
-pub three : (p q r p' q' r' p'' q'' r'' : Bool) → (T p → T p' → T p'') → (T q → T q' → T q'') → (T r → T r' → T r'') → T (p && (q && r)) → T (p' && (q' && r')) → T (p'' && (q'' && r''))
+pub three : (p q r p' q' r' p'' q'' r'' : Bool) → (T p → T p' → T p'') → (T q → T q' → T q'') → (T r → T r' → T r'') → T (p && (q && r))
+    → T (p' && (q' && r')) → T (p'' && (q'' && r''))
 three p q r p' q' r' p'' q'' r'' f g h t u =
     let v = and-r p (q && r) t in
     let w = and-r p' (q' && r') u in
@@ -46,5 +47,6 @@ vertex-stored ws i =
 pub shadowed-trans : (o : ℕ) (ws : List ℕ) → Transitive (shadowedIn (flipOf o) ws)
 unfolding shadowedIn
 shadowed-trans o ws i j k h h' =
-    holds-true
-    (shadowed-by-trans o (vertexAt ws i) (vertexAt ws j) (vertexAt ws k) (vertex-stored ws i) (vertex-stored ws j) (vertex-stored ws k) (true-holds h) (true-holds h'))
+    is-true _
+    (shadowed-by-trans o (vertexAt ws i) (vertexAt ws j) (vertexAt ws k) (vertex-stored ws i) (vertex-stored ws j) (vertex-stored ws k) (passes _ h)
+    (passes _ h'))

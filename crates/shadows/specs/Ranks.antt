@@ -1,7 +1,6 @@
 -- Shadowing in three comparisons: what casts no shadow is beyond all in z, and what cannot be shadowed is before all. Definitions only.
 use Prim.Native.Nat.{ℕ}
-use mathlib.Core.Bool.{Bool, cond, _&&_}
-use lib.Dec.{leb}
+use mathlib.Core.Bool.{cond}
 use Rattle.math.specs.declared.words3.Words3.{Words3}
 use Rattle.shadows.specs.Nearness.{hideable, caster}
 

@@ -2,112 +2,105 @@
 use borrow.Author.Needs.{needs}
 use Rattle.maxima.proofs.kept.admit.Statement.{statement}
 use Rattle.maxima.proofs.kept.admit.Tie as tie
-use Rattle.maxima.proofs.kept.admit.Reads as reads
-use Rattle.maxima.proofs.kept.admit.Lts as lts
-use Rattle.maxima.proofs.kept.furthest.Reads as furthest-reads
-use Rattle.maxima.proofs.kept.retain.Reads as retain-reads
-use Rattle.maxima.proofs.kept.shadowed_first.Reads as shadowed-first-reads
-use Prim.Native.Nat.{_+_, _≤_}
-use mathlib.Core.Path.{_≡_, sym, _∙_}
-use mathlib.Core.Bool.{false}
-use lib.ListN.{length, set}
+use mathlib.Core.Path.{sym, _∙_}
 use lib.Seq.{length-take-le}
-use Rattle.shadows.specs.Kept.{some}
 use Rattle.maxima.specs.Rows.{shadowedAt}
 use Rattle.maxima.proofs.Keeping.{passes-over, fewer, has-place, placed, joins, all-below}
 use native.Mathlib.Omega.{arith}
 
--- src/kept.rt:125:35
 slice-reshare-prefix-shadowed-first : tie.Need-slice-reshare-prefix-shadowed-first
 slice-reshare-prefix-shadowed-first c = search needs
 
--- src/kept.rt:125:35
 slice-aggregate-shadowed-first : tie.Need-slice-aggregate-shadowed-first
 slice-aggregate-shadowed-first c = sym (length-take-le _ (c .before .before .before .args .kept .now) (omega (arith, c .before .before .before .pre .room)))
 
--- src/kept.rt:125:8
 shadowed-first-requires : tie.Need-shadowed-first-requires
 shadowed-first-requires c κs = search needs
 
--- src/kept.rt:126:9
 same-length : tie.Need-same-length
 same-length c = search needs
 
--- src/kept.rt:126:9
 returns : tie.Need-returns
 returns c = passes-over _ _ _ _ (c .before .before .before .before .before .pre .room) (sym (c .before .shadowed-first .ensures) ∙ c .if1 .taken)
 
--- src/kept.rt:128:35
 slice-relend-prefix-retain : tie.Need-slice-relend-prefix-retain
 slice-relend-prefix-retain c = search needs
 
--- src/kept.rt:128:35
 slice-aggregate-retain : tie.Need-slice-aggregate-retain
-slice-aggregate-retain c = sym (length-take-le _ (c .before .before .before .before .before .before .args .kept .now) (omega (arith, c .before .before .before .before .before .before .pre .room)))
+slice-aggregate-retain c =
+    let c6 = c .before .before .before .before .before .before in
+    sym (length-take-le _ (c6 .args .kept .now) (omega (arith, c6 .pre .room)))
 
--- src/kept.rt:128:9
 retain-requires : tie.Need-retain-requires
 retain-requires c κs = search needs
 
--- src/kept.rt:129:18
 cast-kept : tie.Need-cast-kept
 cast-kept c = search needs
 
--- src/kept.rt:129:5
 mul-kept : tie.Need-mul-kept
 mul-kept c =
     let g = c .before .before .before .before .before .before .before .before .before in
-    omega (arith, g .pre .room, fewer (shadowedAt (g .args .n) (g .args .rows .now)) (g .args .kept .now) (g .args .s .count) (g .args .i) (g .pre .room) _ _ (c .before .before .retain .ensures))
+    omega (
+      arith,
+      g .pre .room,
+      fewer (shadowedAt (g .args .n) (g .args .rows .now)) (g .args .kept .now) (g .args .s .count) (g .args .i)
+          (g .pre .room) _ _ (c .before .before .retain .ensures),
+    )
 
--- src/kept.rt:129:5
 slice-write-kept : tie.Need-slice-write-kept
 slice-write-kept c =
     let g = c .before .before .before .before .before .before .before .before .before in
     has-place (shadowedAt (g .args .n) (g .args .rows .now)) (g .args .kept .now) (g .args .s .count) (g .args .i) (g .pre .room) _ _
     (c .before .before .retain .kept .1 .1 .1 .0 ∙ length-take-le _ (g .args .kept .now) (omega (arith, g .pre .room))) (c .before .before .retain .ensures)
 
--- src/kept.rt:130:17
 add-count : tie.Need-add-count
 add-count c =
     let g = c .before .before .before .before .before .before .before .before .before in
-    omega (arith, g .pre .room, fewer (shadowedAt (g .args .n) (g .args .rows .now)) (g .args .kept .now) (g .args .s .count) (g .args .i) (g .pre .room) _ _ (c .before .before .retain .ensures))
+    omega (
+      arith,
+      g .pre .room,
+      fewer (shadowedAt (g .args .n) (g .args .rows .now)) (g .args .kept .now) (g .args .s .count) (g .args .i)
+          (g .pre .room) _ _ (c .before .before .retain .ensures),
+    )
 
--- src/kept.rt:131:35
 slice-reshare-prefix-furthest : tie.Need-slice-reshare-prefix-furthest
 slice-reshare-prefix-furthest c =
     let g = c .before .before .before .before .before .before .before .before .before in
     placed (shadowedAt (g .args .n) (g .args .rows .now)) (g .args .kept .now) (g .args .s .count) (g .args .i) (g .pre .room) _ _
     (c .before .before .retain .kept .1 .1 .1 .0 ∙ length-take-le _ (g .args .kept .now) (omega (arith, g .pre .room))) (c .before .before .retain .ensures)
 
--- src/kept.rt:131:35
 slice-aggregate-furthest : tie.Need-slice-aggregate-furthest
 slice-aggregate-furthest c =
-    let g = c .before .before .before .before .before .before .before .before .before .before in
+    let c3 = c .before .before .before in
+    let g = c3 .before .before .before .before .before .before .before in
     sym (length-take-le _ _ (placed (shadowedAt (g .args .n) (g .args .rows .now)) (g .args .kept .now) (g .args .s .count) (g .args .i) (g .pre .room) _ _
-    (c .before .before .before .retain .kept .1 .1 .1 .0 ∙ length-take-le _ (g .args .kept .now) (omega (arith, g .pre .room))) (c .before .before .before .retain .ensures)))
+    (c3 .retain .kept .1 .1 .1 .0 ∙ length-take-le _ (g .args .kept .now) (omega (arith, g .pre .room))) (c3 .retain .ensures)))
 
--- src/kept.rt:131:9
 furthest-requires : tie.Need-furthest-requires
 furthest-requires c κs =
-    let g = c .before .before .before .before .before .before .before .before .before .before in
+    let c3 = c .before .before .before in
+    let c5 = c3 .before .before in
+    let c6 = c5 .before in
+    let g = c6 .before .before .before .before in
     let s = shadowedAt (g .args .n) (g .args .rows .now) in
-    let none = sym (c .before .before .before .before .before .before .shadowed-first .ensures) ∙ c .before .before .before .before .before .if1 .left in (
+    let none = sym (c6 .shadowed-first .ensures) ∙ c5 .if1 .left in (
       g .pre .testable .size,
       all-below s _ _ _ _ _ (g .pre .testable .vertex) (g .pre .testable .below) none
           (joins s (g .args .kept .now) (g .args .s .count) (g .args .i) (g .pre .room) _ _
-          (c .before .before .before .retain .kept .1 .1 .1 .0 ∙ length-take-le _ (g .args .kept .now) (omega (arith, g .pre .room))) none (c .before .before .before .retain .ensures)),
+          (c3 .retain .kept .1 .1 .1 .0 ∙ length-take-le _ (g .args .kept .now) (omega (arith, g .pre .room))) none (c3 .retain .ensures)),
     )
 
--- src/kept.rt:121:1
 same-length-2 : tie.Need-same-length-2
 same-length-2 c = search needs
 
--- src/kept.rt:121:1
 returns-2 : tie.Need-returns-2
 returns-2 c =
-    let g = c .before .before .before .before .before .before .before .before .before .before .before in
-    joins _ _ _ _ (g .pre .room) _ _ (c .before .before .before .before .retain .kept .1 .1 .1 .0 ∙ length-take-le _ (g .args .kept .now) (omega (arith, g .pre .room)))
-    (sym (c .before .before .before .before .before .before .before .shadowed-first .ensures) ∙ c .before .before .before .before .before .before .if1 .left) (c .before .before .before .before .retain .ensures)
+    let c4 = c .before .before .before .before in
+    let c6 = c4 .before .before in
+    let c7 = c6 .before in
+    let g = c7 .before .before .before .before in
+    joins _ _ _ _ (g .pre .room) _ _ (c4 .retain .kept .1 .1 .1 .0 ∙ length-take-le _ (g .args .kept .now) (omega (arith, g .pre .room)))
+    (sym (c7 .shadowed-first .ensures) ∙ c6 .if1 .left) (c4 .retain .ensures)
 
 pub admit-spec : {M : Type 1} → statement M
 admit-spec =

@@ -2,38 +2,30 @@
 use borrow.Author.Needs.{needs}
 use Rattle.maxima.proofs.kept.first_shadows.Statement.{statement}
 use Rattle.maxima.proofs.kept.first_shadows.Tie as tie
-use Rattle.maxima.proofs.kept.first_shadows.Reads as reads
-use Rattle.maxima.proofs.kept.first_shadows.Lts as lts
-use Rattle.maxima.proofs.kept.shadowed.Reads as shadowed-reads
 use mathlib.Core.Path.{sym, _∙_}
 use Prim.Native.Nat.{_<_}
 use Rattle.base.proofs.EveryLaws.{every-at}
 use Rattle.maxima.proofs.Keeping.{some-at}
 use native.Mathlib.Omega.{arith}
 
--- src/kept.rt:31:9
 returns : tie.Need-returns
 returns c = λ e. cc
 
--- src/kept.rt:33:26
 mul-shadowed : tie.Need-mul-shadowed
 mul-shadowed c = search needs
 
--- src/kept.rt:33:26
 shared-slice-read-shadowed : tie.Need-shared-slice-read-shadowed
 shared-slice-read-shadowed c = search needs
 
--- src/kept.rt:33:26
 cast-shadowed : tie.Need-cast-shadowed
 cast-shadowed c = omega (arith, c .shared-slice-known3 .given (c .before .before .before .before .args .first))
 
--- src/kept.rt:33:5
 shadowed-requires : tie.Need-shadowed-requires
 shadowed-requires c κs =
-    let a = c .before .before .before .before .args in
-    (c .before .before .before .before .pre .size, c .before .before .before .before .pre .vertex, every-at (λ p. p < a .n) (a .kept .now) (a .first) (c .before .before .before .before .pre .below) (omega (arith, c .before .if1 .left)))
+    let c4 = c .before .before .before .before in
+    let a = c4 .args in
+    (c4 .pre .size, c4 .pre .vertex, every-at (λ p. p < a .n) (a .kept .now) (a .first) (c4 .pre .below) (omega (arith, c .before .if1 .left)))
 
--- src/kept.rt:26:1
 returns-2 : tie.Need-returns-2
 returns-2 c =
     λ e. let a = c .before .before .before .before .before .args in

@@ -1,12 +1,9 @@
 -- `gather` meets its contract. The invariant is `Gathering`: what is kept of the vertices passed stands at the start.
 use Rattle.maxima.proofs.kept.gather.Statement.{statement}
 use Rattle.maxima.proofs.kept.gather.Tie as tie
-use Rattle.maxima.proofs.kept.gather.Reads as reads
-use Rattle.maxima.proofs.kept.gather.Lts as lts
-use Rattle.maxima.proofs.kept.admit.Reads as admit-reads
 use Prim.Native.Nat.{_-_}
 use mathlib.Core.Path.{refl}
-use Rattle.maxima.proofs.Keeping.{Gathering, fitting, admissible, one-more, gathered}
+use Rattle.maxima.proofs.Keeping.{Gathering, admissible, one-more, gathered}
 use native.Mathlib.Omega.{arith}
 use borrow.Author.Needs.{needs}
 
@@ -16,43 +13,40 @@ Inv-loop n rows kept₀ s₀ i₀ kept s i = Gathering n rows kept₀ kept (s .c
 abbrev μ-loop : tie.MeasureT-loop
 μ-loop n rows kept₀ s₀ i₀ kept s i = n - i
 
--- src/kept.rt:142:5
 loop-holds : tie.Need-loop-holds Inv-loop μ-loop
 loop-holds c = record { upto = omega arith; len = refl; so-far = record { count = refl; list = refl } }
 
--- src/kept.rt:144:20
 add-result : tie.Need-add-result Inv-loop μ-loop
 add-result c = search needs
 
--- src/kept.rt:144:13
 same-length : tie.Need-same-length Inv-loop μ-loop
 same-length c = c .before .before .before .before .loop .inv .len
 
--- src/kept.rt:144:13
 returns : tie.Need-returns Inv-loop μ-loop
 returns c = λ l. absurd (omega (arith, c .before .if1 .taken))
 
--- src/kept.rt:146:9
 admit-requires : tie.Need-admit-requires Inv-loop μ-loop
-admit-requires c κs = admissible _ _ _ _ _ _ (c .before .before .before .before .loop .inv) (c .before .before .before .loop-test .taken) (c .before .before .before .before .before .before .before .pre .0) (c .before .before .before .before .before .before .before .pre .1) (c .before .if1 .left)
+admit-requires c κs =
+    let c3 = c .before .before .before in
+    let c4 = c3 .before in
+    let c7 = c4 .before .before .before in
+    admissible _ _ _ _ _ _ (c4 .loop .inv) (c3 .loop-test .taken) (c7 .pre .0) (c7 .pre .1) (c .before .if1 .left)
 
--- src/kept.rt:147:9
 add-i : tie.Need-add-i Inv-loop μ-loop
 add-i c = search needs
 
--- src/kept.rt:142:5
 loop-less : tie.Need-loop-less Inv-loop μ-loop
 loop-less c = search needs
 
--- src/kept.rt:142:5
 loop-again : tie.Need-loop-again Inv-loop μ-loop
-loop-again c = one-more _ _ _ _ _ _ (c .before .before .before .before .before .before .before .loop .inv) (c .before .before .before .before .before .before .loop-test .taken) _ _ (c .before .before .admit .kept .1 .1 .1 .0) (c .before .before .admit .ensures)
+loop-again c =
+    let c6 = c .before .before .before .before .before .before in
+    let c7 = c6 .before in
+    one-more _ _ _ _ _ _ (c7 .loop .inv) (c6 .loop-test .taken) _ _ (c .before .before .admit .kept .1 .1 .1 .0) (c .before .before .admit .ensures)
 
--- src/kept.rt:136:1
 same-length-2 : tie.Need-same-length-2 Inv-loop μ-loop
 same-length-2 c = c .before .loop .inv .len
 
--- src/kept.rt:136:1
 returns-2 : tie.Need-returns-2 Inv-loop μ-loop
 returns-2 c = λ l. gathered _ _ _ _ _ _ (c .before .loop .inv) (c .loop-test .left)
 

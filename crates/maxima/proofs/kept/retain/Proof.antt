@@ -1,9 +1,6 @@
 -- `retain` meets its contract. The invariant is `Thinning`: what stands, followed by what the rest gives, is the whole.
 use Rattle.maxima.proofs.kept.retain.Statement.{statement}
 use Rattle.maxima.proofs.kept.retain.Tie as tie
-use Rattle.maxima.proofs.kept.retain.Reads as reads
-use Rattle.maxima.proofs.kept.retain.Lts as lts
-use Rattle.maxima.proofs.kept.shadowed.Reads as shadowed-reads
 use Prim.Native.Nat.{_-_, _<_}
 use mathlib.Core.Path.{sym, ap, _∙_}
 use mathlib.Core.Bool.{not}
@@ -20,23 +17,18 @@ Inv-loop n rows i kept₀ left₀ k₀ kept left k = Thinning (λ p. not (shadow
 abbrev μ-loop : tie.MeasureT-loop
 μ-loop n rows i kept₀ left₀ k₀ kept left k = length kept₀ - k
 
--- src/kept.rt:69:5
 loop-holds : tie.Need-loop-holds Inv-loop μ-loop
 loop-holds c = unthinned _ _
 
--- src/kept.rt:70:17
 mul-p : tie.Need-mul-p Inv-loop μ-loop
 mul-p c = search needs
 
--- src/kept.rt:70:17
 slice-read-p : tie.Need-slice-read-p Inv-loop μ-loop
 slice-read-p c = search needs
 
--- src/kept.rt:71:30
 cast-shadowed : tie.Need-cast-shadowed Inv-loop μ-loop
 cast-shadowed c = omega (arith, c .slice-known2 .given (c .before .before .loop .k))
 
--- src/kept.rt:71:12
 shadowed-requires : tie.Need-shadowed-requires Inv-loop μ-loop
 shadowed-requires c κs =
     let l = c .before .before .loop in
@@ -47,51 +39,40 @@ shadowed-requires c κs =
       e .pre .vertex,
     )
 
--- src/kept.rt:72:13
 add-k : tie.Need-add-k Inv-loop μ-loop
 add-k c = search needs
 
--- src/kept.rt:69:5
 loop-less : tie.Need-loop-less Inv-loop μ-loop
 loop-less c = search needs
 
--- src/kept.rt:69:5
 loop-again : tie.Need-loop-again Inv-loop μ-loop
 loop-again c =
     let l = c .before .before .before .before .loop in
     taken-out _ _ _ _ _ (l .inv) (omega (arith, l .inv .len)) (ap not (sym (c .before .shadowed .ensures) ∙ c .if1 .taken))
 
--- src/kept.rt:74:13
 mul-kept : tie.Need-mul-kept Inv-loop μ-loop
 mul-kept c = search needs
 
--- src/kept.rt:74:13
 slice-write-kept : tie.Need-slice-write-kept Inv-loop μ-loop
 slice-write-kept c = search needs
 
--- src/kept.rt:75:13
 add-left : tie.Need-add-left Inv-loop μ-loop
 add-left c = search needs
 
--- src/kept.rt:76:13
 add-k-2 : tie.Need-add-k-2 Inv-loop μ-loop
 add-k-2 c = search needs
 
--- src/kept.rt:69:5
 loop-less-2 : tie.Need-loop-less-2 Inv-loop μ-loop
 loop-less-2 c = search needs
 
--- src/kept.rt:69:5
 loop-again-2 : tie.Need-loop-again-2 Inv-loop μ-loop
 loop-again-2 c =
     let l = c .before .before .before .before .loop in
     left-in _ _ _ _ _ (l .inv) (omega (arith, l .inv .len)) (ap not (sym (c .before .shadowed .ensures) ∙ c .if1 .left))
 
--- src/kept.rt:63:1
 same-length : tie.Need-same-length Inv-loop μ-loop
 same-length c = c .before .loop .inv .len
 
--- src/kept.rt:63:1
 returns : tie.Need-returns Inv-loop μ-loop
 returns c = thinned _ _ _ _ _ (c .before .loop .inv) (omega (arith, c .before .loop .inv .len))
 

@@ -2,59 +2,45 @@
 use borrow.Author.Needs.{needs}
 use Rattle.maxima.proofs.kept.shadowed.Statement.{statement}
 use Rattle.maxima.proofs.kept.shadowed.Tie as tie
-use Rattle.maxima.proofs.kept.shadowed.Reads as reads
-use Rattle.maxima.proofs.kept.shadowed.Lts as lts
 use borrow.Author.Tests.{lt-leb, le-leb}
 use Rattle.maxima.specs.Rows.{xAt, yAt, shadowedAt}
 
--- src/kept.rt:16:8
 mul-if1 : tie.Need-mul-if1
 mul-if1 c = search needs
 
--- src/kept.rt:16:8
 shared-slice-read-if1 : tie.Need-shared-slice-read-if1
 shared-slice-read-if1 c = search needs
 
--- src/kept.rt:16:18
 mul-if1-2 : tie.Need-mul-if1-2
 mul-if1-2 c = search needs
 
--- src/kept.rt:16:18
 shared-slice-read-if1-2 : tie.Need-shared-slice-read-if1-2
 shared-slice-read-if1-2 c = search needs
 
--- src/kept.rt:17:9
 returns : tie.Need-returns
 unfolding shadowedAt
 returns c =
     let a = c .before .before .before .args in
     rw (lt-leb (xAt (a .rows .now) (a .j)) (xAt (a .rows .now) (a .i)) (c .if1 .taken))
 
--- src/kept.rt:19:13
 add-if2 : tie.Need-add-if2
 add-if2 c = search needs
 
--- src/kept.rt:19:8
 mul-if2 : tie.Need-mul-if2
 mul-if2 c = search needs
 
--- src/kept.rt:19:8
 shared-slice-read-if2 : tie.Need-shared-slice-read-if2
 shared-slice-read-if2 c = search needs
 
--- src/kept.rt:19:27
 add-if2-2 : tie.Need-add-if2-2
 add-if2-2 c = search needs
 
--- src/kept.rt:19:22
 mul-if2-2 : tie.Need-mul-if2-2
 mul-if2-2 c = search needs
 
--- src/kept.rt:19:22
 shared-slice-read-if2-2 : tie.Need-shared-slice-read-if2-2
 shared-slice-read-if2-2 c = search needs
 
--- src/kept.rt:20:9
 returns-2 : tie.Need-returns-2
 unfolding shadowedAt
 returns-2 c =
@@ -64,39 +50,30 @@ returns-2 c =
       lt-leb (yAt (a .n) (a .rows .now) (a .j)) (yAt (a .n) (a .rows .now) (a .i)) (c .if2 .taken),
     )
 
--- src/kept.rt:22:10
 mul-result : tie.Need-mul-result
 mul-result c = search needs
 
--- src/kept.rt:22:10
 add-result : tie.Need-add-result
 add-result c = search needs
 
--- src/kept.rt:22:5
 mul-result-2 : tie.Need-mul-result-2
 mul-result-2 c = search needs
 
--- src/kept.rt:22:5
 shared-slice-read-result : tie.Need-shared-slice-read-result
 shared-slice-read-result c = search needs
 
--- src/kept.rt:22:29
 mul-result-3 : tie.Need-mul-result-3
 mul-result-3 c = search needs
 
--- src/kept.rt:22:29
 add-result-2 : tie.Need-add-result-2
 add-result-2 c = search needs
 
--- src/kept.rt:22:24
 mul-result-4 : tie.Need-mul-result-4
 mul-result-4 c = search needs
 
--- src/kept.rt:22:24
 shared-slice-read-result-2 : tie.Need-shared-slice-read-result-2
 shared-slice-read-result-2 c = search needs
 
--- src/kept.rt:12:1
 returns-3 : tie.Need-returns-3
 unfolding shadowedAt
 returns-3 c =

@@ -2,25 +2,17 @@
 use borrow.Author.Needs.{needs}
 use Rattle.maxima.proofs.kept.shadowed_first.Statement.{statement}
 use Rattle.maxima.proofs.kept.shadowed_first.Tie as tie
-use Rattle.maxima.proofs.kept.shadowed_first.Reads as reads
-use Rattle.maxima.proofs.kept.shadowed_first.Lts as lts
-use Rattle.maxima.proofs.kept.first_shadows.Reads as first-shadows-reads
-use Rattle.maxima.proofs.kept.some_shadows.Reads as some-shadows-reads
 use mathlib.Core.Path.{sym}
 
--- src/kept.rt:56:8
 first-shadows-requires : tie.Need-first-shadows-requires
 first-shadows-requires c κs = search needs
 
--- src/kept.rt:57:9
 returns : tie.Need-returns
 returns c = sym (c .before .first-shadows .ensures (c .if1 .taken))
 
--- src/kept.rt:59:5
 some-shadows-requires : tie.Need-some-shadows-requires
 some-shadows-requires c κs = search needs
 
--- src/kept.rt:52:1
 returns-2 : tie.Need-returns-2
 returns-2 c = search needs
 

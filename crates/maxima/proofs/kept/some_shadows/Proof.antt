@@ -1,9 +1,6 @@
 -- `some_shadows` meets its contract. The invariant is `Searching`: what is left of the list decides.
 use Rattle.maxima.proofs.kept.some_shadows.Statement.{statement}
 use Rattle.maxima.proofs.kept.some_shadows.Tie as tie
-use Rattle.maxima.proofs.kept.some_shadows.Reads as reads
-use Rattle.maxima.proofs.kept.some_shadows.Lts as lts
-use Rattle.maxima.proofs.kept.shadowed.Reads as shadowed-reads
 use Prim.Native.Nat.{_-_, _<_}
 use mathlib.Core.Path.{refl, sym, _∙_}
 use lib.ListN.{length}
@@ -19,45 +16,46 @@ Inv-loop n rows i kept k₀ k = Searching (shadowedAt n rows i) kept k
 abbrev μ-loop : tie.MeasureT-loop
 μ-loop n rows i kept k₀ k = length kept - k
 
--- src/kept.rt:42:5
 loop-holds : tie.Need-loop-holds Inv-loop μ-loop
 loop-holds c = record { upto = omega arith; rest = refl }
 
--- src/kept.rt:43:33
 mul-shadowed : tie.Need-mul-shadowed Inv-loop μ-loop
 mul-shadowed c = search needs
 
--- src/kept.rt:43:33
 shared-slice-read-shadowed : tie.Need-shared-slice-read-shadowed Inv-loop μ-loop
 shared-slice-read-shadowed c = search needs
 
--- src/kept.rt:43:33
 cast-shadowed : tie.Need-cast-shadowed Inv-loop μ-loop
 cast-shadowed c = omega (arith, c .shared-slice-known3 .given (c .before .before .loop .k))
 
--- src/kept.rt:43:12
 shadowed-requires : tie.Need-shadowed-requires Inv-loop μ-loop
 shadowed-requires c κs =
-    let e = c .before .before .before .before .before in
-    (e .pre .size, e .pre .vertex, every-at (λ p. p < e .args .n) (e .args .kept .now) (c .before .before .loop .k) (e .pre .below) (c .before .loop-test .taken))
+    let c5 = c .before .before .before .before .before in
+    let e = c5 in (
+      e .pre .size,
+      e .pre .vertex,
+      every-at (λ p. p < e .args .n) (e .args .kept .now) (c .before .before .loop .k) (e .pre .below)
+          (c .before .loop-test .taken),
+    )
 
--- src/kept.rt:44:13
 returns : tie.Need-returns Inv-loop μ-loop
-returns c = found _ _ _ (c .before .before .before .before .loop .inv) (c .before .before .before .loop-test .taken) (sym (c .before .shadowed .ensures) ∙ c .if1 .taken)
+returns c =
+    let c3 = c .before .before .before in
+    let c4 = c3 .before in
+    found _ _ _ (c4 .loop .inv) (c3 .loop-test .taken) (sym (c .before .shadowed .ensures) ∙ c .if1 .taken)
 
--- src/kept.rt:46:9
 add-k : tie.Need-add-k Inv-loop μ-loop
 add-k c = search needs
 
--- src/kept.rt:42:5
 loop-less : tie.Need-loop-less Inv-loop μ-loop
 loop-less c = search needs
 
--- src/kept.rt:42:5
 loop-again : tie.Need-loop-again Inv-loop μ-loop
-loop-again c = sought _ _ _ (c .before .before .before .before .loop .inv) (c .before .before .before .loop-test .taken) (sym (c .before .shadowed .ensures) ∙ c .if1 .left)
+loop-again c =
+    let c3 = c .before .before .before in
+    let c4 = c3 .before in
+    sought _ _ _ (c4 .loop .inv) (c3 .loop-test .taken) (sym (c .before .shadowed .ensures) ∙ c .if1 .left)
 
--- src/kept.rt:37:1
 returns-2 : tie.Need-returns-2 Inv-loop μ-loop
 returns-2 c = missed _ _ _ (c .before .loop .inv) (c .loop-test .left)
 

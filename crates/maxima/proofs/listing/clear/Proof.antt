@@ -1,8 +1,6 @@
 -- `clear` meets its contract. The invariant is `Clearing`: what is passed is zeros.
 use Rattle.maxima.proofs.listing.clear.Statement.{statement}
 use Rattle.maxima.proofs.listing.clear.Tie as tie
-use Rattle.maxima.proofs.listing.clear.Reads as reads
-use Rattle.maxima.proofs.listing.clear.Lts as lts
 use Prim.Native.Nat.{_-_}
 use mathlib.Core.Path.{refl}
 use Rattle.maxima.proofs.ListingLaws.{Clearing, clear-more, cleared}
@@ -15,35 +13,27 @@ Inv-loop marks₀ n i₀ marks i = Clearing n marks₀ marks i
 abbrev μ-loop : tie.MeasureT-loop
 μ-loop marks₀ n i₀ marks i = n - i
 
--- src/listing.rt:36:5
 loop-holds : tie.Need-loop-holds Inv-loop μ-loop
 loop-holds c = record { size = refl; upto = omega arith; zeros = λ p l. absurd (omega arith) }
 
--- src/listing.rt:37:9
 mul-marks : tie.Need-mul-marks Inv-loop μ-loop
 mul-marks c = search needs
 
--- src/listing.rt:37:9
 slice-write-marks : tie.Need-slice-write-marks Inv-loop μ-loop
 slice-write-marks c = search needs
 
--- src/listing.rt:38:9
 add-i : tie.Need-add-i Inv-loop μ-loop
 add-i c = search needs
 
--- src/listing.rt:36:5
 loop-less : tie.Need-loop-less Inv-loop μ-loop
 loop-less c = search needs
 
--- src/listing.rt:36:5
 loop-again : tie.Need-loop-again Inv-loop μ-loop
 loop-again c = clear-more _ _ _ _ (c .before .loop .inv) (c .loop-test .taken) (c .before .before .pre)
 
--- src/listing.rt:31:1
 same-length : tie.Need-same-length Inv-loop μ-loop
 same-length c = c .before .loop .inv .size
 
--- src/listing.rt:31:1
 returns : tie.Need-returns Inv-loop μ-loop
 returns c = cleared _ _ _ _ (c .before .loop .inv) (c .loop-test .left) (c .before .before .pre)
 

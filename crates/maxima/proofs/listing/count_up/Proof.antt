@@ -1,8 +1,6 @@
 -- `count_up` meets its contract. The invariant is `Counting`: what is passed is the numbers from 0 on.
 use Rattle.maxima.proofs.listing.count_up.Statement.{statement}
 use Rattle.maxima.proofs.listing.count_up.Tie as tie
-use Rattle.maxima.proofs.listing.count_up.Reads as reads
-use Rattle.maxima.proofs.listing.count_up.Lts as lts
 use Prim.Native.Nat.{_-_}
 use mathlib.Core.Path.{refl}
 use lib.ListN.{length}
@@ -16,39 +14,30 @@ Inv-loop order₀ i₀ order i = Counting order₀ order i
 abbrev μ-loop : tie.MeasureT-loop
 μ-loop order₀ i₀ order i = length order₀ - i
 
--- src/listing.rt:24:5
 loop-holds : tie.Need-loop-holds Inv-loop μ-loop
 loop-holds c = record { size = refl; upto = omega arith; so-far = refl }
 
--- src/listing.rt:25:20
 cast-order : tie.Need-cast-order Inv-loop μ-loop
 cast-order c = search needs
 
--- src/listing.rt:25:9
 mul-order : tie.Need-mul-order Inv-loop μ-loop
 mul-order c = search needs
 
--- src/listing.rt:25:9
 slice-write-order : tie.Need-slice-write-order Inv-loop μ-loop
 slice-write-order c = search needs
 
--- src/listing.rt:26:9
 add-i : tie.Need-add-i Inv-loop μ-loop
 add-i c = search needs
 
--- src/listing.rt:24:5
 loop-less : tie.Need-loop-less Inv-loop μ-loop
 loop-less c = search needs
 
--- src/listing.rt:24:5
 loop-again : tie.Need-loop-again Inv-loop μ-loop
 loop-again c = count-more _ _ _ (c .before .loop .inv) (omega (arith, c .before .loop .inv .size, c .loop-test .taken))
 
--- src/listing.rt:19:1
 same-length : tie.Need-same-length Inv-loop μ-loop
 same-length c = c .before .loop .inv .size
 
--- src/listing.rt:19:1
 returns : tie.Need-returns Inv-loop μ-loop
 returns c = counted-up _ _ _ (c .before .loop .inv) (omega (arith, c .before .loop .inv .size, c .loop-test .left))
 

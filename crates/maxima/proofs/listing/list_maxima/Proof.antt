@@ -2,13 +2,7 @@
 use borrow.Author.Needs.{needs}
 use Rattle.maxima.proofs.listing.list_maxima.Statement.{statement}
 use Rattle.maxima.proofs.listing.list_maxima.Tie as tie
-use Rattle.maxima.proofs.listing.list_maxima.Reads as reads
-use Rattle.maxima.proofs.listing.list_maxima.Lts as lts
-use Rattle.maxima.proofs.kept.gather.Reads as gather-reads
-use Rattle.maxima.proofs.listing.limit.Reads as limit-reads
-use Rattle.maxima.proofs.listing.list_sorted.Reads as list-sorted-reads
-use Rattle.maxima.proofs.sorting.keep.Reads as keep-reads
-use mathlib.Core.Path.{sym, _∙_}
+use mathlib.Core.Path.{sym}
 use Prim.Native.Nat.{_≤_}
 use mathlib.Core.List.{_++_}
 use lib.ListN.{length, drop}
@@ -16,61 +10,59 @@ use lib.Seq.{length-take-le, length-front}
 use Rattle.maxima.proofs.Keeping.{written-out}
 use native.Mathlib.Omega.{arith}
 
--- src/listing.rt:85:9
 limit-requires : tie.Need-limit-requires
 limit-requires c κs = search needs
 
--- src/listing.rt:86:33
 slice-relend-prefix-gather : tie.Need-slice-relend-prefix-gather
 slice-relend-prefix-gather c = search needs
 
--- src/listing.rt:86:33
 slice-aggregate-gather : tie.Need-slice-aggregate-gather
-slice-aggregate-gather c = sym (length-take-le _ (c .before .before .before .before .before .before .before .args .order .now) (omega (arith, c .before .limit .ensures, c .before .before .before .before .before .before .before .pre .for-order)))
+slice-aggregate-gather c =
+    let c7 = c .before .before .before .before .before .before .before in
+    sym (length-take-le _ (c7 .args .order .now) (omega (arith, c .before .limit .ensures, c7 .pre .for-order)))
 
--- src/listing.rt:86:9
 gather-requires : tie.Need-gather-requires
 gather-requires c κs = search needs
 
--- src/listing.rt:88:9
 keep-requires : tie.Need-keep-requires
 keep-requires c κs = search needs
 
--- src/listing.rt:89:9
 same-length : tie.Need-same-length
 same-length c = search needs
 
--- src/listing.rt:89:9
 same-length-2 : tie.Need-same-length-2
 same-length-2 c = search needs
 
--- src/listing.rt:89:9
 returns : tie.Need-returns
 returns c =
-    let g = c .before .before .before .before .before .before .before .before .gather in
-    let e = c .before .before .before .before .before .before .before .before .before .before .before .before .before .before .before .before in
-    let most = c .before .before .before .before .before .before .before .before .before .before .limit .result in
-    let l = length-take-le most (e .args .order .now) (omega (arith, c .before .before .before .before .before .before .before .before .before .before .limit .ensures, e .pre .for-order)) in
-    let fits : g .result ≤ length (g .last .1 .1 .0) = omega (arith, g .kept .1 .1 .0, l, c .before .before .before .before .before .if1 .taken) in
+    let c5 = c .before .before .before .before .before in
+    let c8 = c5 .before .before .before in
+    let c10 = c8 .before .before in
+    let e = c10 .before .before .before .before .before .before in
+    let g = c8 .gather in
+    let most = c10 .limit .result in
+    let l = length-take-le most (e .args .order .now) (omega (arith, c10 .limit .ensures, e .pre .for-order)) in
+    let fits : g .result ≤ length (g .last .1 .1 .0) = omega (arith, g .kept .1 .1 .0, l, c5 .if1 .taken) in
     written-out _ (g .last .1 .1 .0) _ _ _ _ fits (g .ensures fits) (c .before .before .keep .ensures)
 
--- src/listing.rt:91:26
 slice-relend-prefix-list-sorted : tie.Need-slice-relend-prefix-list-sorted
 slice-relend-prefix-list-sorted c = search needs
 
--- src/listing.rt:91:26
 slice-aggregate-list-sorted : tie.Need-slice-aggregate-list-sorted
 slice-aggregate-list-sorted c =
-    let e = c .before .before .before .before .before .before .before .before .before .before .before .before in
-    let l = length-front (e .args .order .now) (c .before .before .before .before .gather .last .1 .1 .0) (c .before .before .before .before .before .before .limit .result) (c .before .before .before .before .gather .kept .1 .1 .0) in
+    let c4 = c .before .before .before .before in
+    let c6 = c4 .before .before in
+    let e = c6 .before .before .before .before .before .before in
+    let l = length-front (e .args .order .now) (c4 .gather .last .1 .1 .0) (c6 .limit .result) (c4 .gather .kept .1 .1 .0) in
     sym (length-take-le _ _ (omega (arith, l, e .pre .for-order)))
 
--- src/listing.rt:91:5
 list-sorted-requires : tie.Need-list-sorted-requires
 list-sorted-requires c κs =
-    let e = c .before .before .before .before .before .before .before .before .before .before .before .before .before .before .before in
-    let l = length-front (e .args .order .now) (c .before .before .before .before .before .before .before .gather .last .1 .1 .0) (c .before .before .before .before .before .before .before .before .before .limit .result) (c .before .before .before .before .before .before .before .gather .kept .1 .1 .0) in
-    let n = length-take-le (e .args .n) (c .before .before .before .before .before .before .before .gather .last .1 .1 .0 ++ drop (c .before .before .before .before .before .before .before .before .before .limit .result) (e .args .order .now)) (omega (arith, l, e .pre .for-order)) in (
+    let c7 = c .before .before .before .before .before .before .before in
+    let c9 = c7 .before .before in
+    let e = c9 .before .before .before .before .before .before in
+    let l = length-front (e .args .order .now) (c7 .gather .last .1 .1 .0) (c9 .limit .result) (c7 .gather .kept .1 .1 .0) in
+    let n = length-take-le (e .args .n) (c7 .gather .last .1 .1 .0 ++ drop (c9 .limit .result) (e .args .order .now)) (omega (arith, l, e .pre .for-order)) in (
       record {
         table = e .pre .table;
         for-order = omega (arith, n);
@@ -81,23 +73,18 @@ list-sorted-requires c κs =
       n,
     )
 
--- src/listing.rt:81:1
 same-length-3 : tie.Need-same-length-3
 same-length-3 c = search needs
 
--- src/listing.rt:81:1
 same-length-4 : tie.Need-same-length-4
 same-length-4 c = search needs
 
--- src/listing.rt:81:1
 same-length-5 : tie.Need-same-length-5
 same-length-5 c = search needs
 
--- src/listing.rt:81:1
 same-length-6 : tie.Need-same-length-6
 same-length-6 c = search needs
 
--- src/listing.rt:81:1
 returns-2 : tie.Need-returns-2
 returns-2 c = search needs
 

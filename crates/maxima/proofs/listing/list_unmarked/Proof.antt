@@ -1,8 +1,6 @@
 -- `list_unmarked` meets its contract. The invariant is `Listing`: the unmarked of those passed, followed by what the list had.
 use Rattle.maxima.proofs.listing.list_unmarked.Statement.{statement}
 use Rattle.maxima.proofs.listing.list_unmarked.Tie as tie
-use Rattle.maxima.proofs.listing.list_unmarked.Reads as reads
-use Rattle.maxima.proofs.listing.list_unmarked.Lts as lts
 use Prim.Native.Nat.{_-_}
 use borrow.Author.Tests.{eq-eqb, ne-eqb}
 use lib.Dec.{eqb}
@@ -17,63 +15,60 @@ Inv-loop marks n list₀ count₀ i₀ list count i = Listing (λ k. eqb (getD m
 abbrev μ-loop : tie.MeasureT-loop
 μ-loop marks n list₀ count₀ i₀ list count i = n - i
 
--- src/listing.rt:49:5
 loop-holds : tie.Need-loop-holds Inv-loop μ-loop
 loop-holds c = unlisted _ _ _
 
--- src/listing.rt:50:12
 mul-if1 : tie.Need-mul-if1 Inv-loop μ-loop
 mul-if1 c = search needs
 
--- src/listing.rt:50:12
 shared-slice-read-if1 : tie.Need-shared-slice-read-if1 Inv-loop μ-loop
 shared-slice-read-if1 c = search needs
 
--- src/listing.rt:51:27
 cast-list : tie.Need-cast-list Inv-loop μ-loop
 cast-list c = search needs
 
--- src/listing.rt:51:13
 mul-list : tie.Need-mul-list Inv-loop μ-loop
-mul-list c = omega (arith, list-room _ _ _ _ _ _ (c .before .before .before .loop .inv) (c .before .before .loop-test .taken) (c .before .before .before .before .pre .1))
+mul-list c =
+    let c3 = c .before .before .before in
+    let c4 = c3 .before in
+    omega (arith, list-room _ _ _ _ _ _ (c3 .loop .inv) (c .before .before .loop-test .taken) (c4 .pre .1))
 
--- src/listing.rt:51:13
 slice-write-list : tie.Need-slice-write-list Inv-loop μ-loop
-slice-write-list c = list-room _ _ _ _ _ _ (c .before .before .before .loop .inv) (c .before .before .loop-test .taken) (c .before .before .before .before .pre .1)
+slice-write-list c =
+    let c3 = c .before .before .before in
+    let c4 = c3 .before in
+    list-room _ _ _ _ _ _ (c3 .loop .inv) (c .before .before .loop-test .taken) (c4 .pre .1)
 
--- src/listing.rt:52:13
 add-count : tie.Need-add-count Inv-loop μ-loop
 add-count c = search needs
 
--- src/listing.rt:53:13
 add-i : tie.Need-add-i Inv-loop μ-loop
 add-i c = search needs
 
--- src/listing.rt:49:5
 loop-less : tie.Need-loop-less Inv-loop μ-loop
 loop-less c = search needs
 
--- src/listing.rt:49:5
 loop-again : tie.Need-loop-again Inv-loop μ-loop
-loop-again c = write _ _ _ _ _ _ (c .before .before .before .loop .inv) (c .before .before .loop-test .taken) (c .before .before .before .before .pre .1) (eq-eqb _ 0 (c .if1 .taken))
+loop-again c =
+    let c3 = c .before .before .before in
+    let c4 = c3 .before in
+    write _ _ _ _ _ _ (c3 .loop .inv) (c .before .before .loop-test .taken) (c4 .pre .1) (eq-eqb _ 0 (c .if1 .taken))
 
--- src/listing.rt:55:13
 add-i-2 : tie.Need-add-i-2 Inv-loop μ-loop
 add-i-2 c = search needs
 
--- src/listing.rt:49:5
 loop-less-2 : tie.Need-loop-less-2 Inv-loop μ-loop
 loop-less-2 c = search needs
 
--- src/listing.rt:49:5
 loop-again-2 : tie.Need-loop-again-2 Inv-loop μ-loop
-loop-again-2 c = skip _ _ _ _ _ _ (c .before .before .before .loop .inv) (c .before .before .loop-test .taken) (c .before .before .before .before .pre .1) (ne-eqb _ 0 (c .if1 .left))
+loop-again-2 c =
+    let c3 = c .before .before .before in
+    let c4 = c3 .before in
+    skip _ _ _ _ _ _ (c3 .loop .inv) (c .before .before .loop-test .taken) (c4 .pre .1) (ne-eqb _ 0 (c .if1 .left))
 
--- src/listing.rt:43:1
 same-length : tie.Need-same-length Inv-loop μ-loop
 same-length c = listing-length _ _ _ _ _ _ (c .before .loop .inv) (c .before .before .pre .1)
 
--- src/listing.rt:43:1
 returns : tie.Need-returns Inv-loop μ-loop
 returns c = all-listed _ _ _ _ _ _ (c .before .loop .inv) (c .loop-test .left)
 

@@ -2,47 +2,49 @@
 use borrow.Author.Needs.{needs}
 use Rattle.octants.proofs.entry.too_short.Statement.{statement}
 use Rattle.octants.proofs.entry.too_short.Tie as tie
-use Rattle.octants.proofs.entry.too_short.Reads as reads
-use Rattle.octants.proofs.entry.too_short.Lts as lts
 use borrow.Author.Tests.{lt-ltb, le-ltb}
 
--- src/entry.rt:36:21
 mul-if1 : tie.Need-mul-if1
 mul-if1 c = search needs
 
--- src/entry.rt:37:9
 returns : tie.Need-returns
 returns c = rw (lt-ltb _ _ (c .if1 .taken))
 
--- src/entry.rt:39:18
 mul-if2 : tie.Need-mul-if2
 mul-if2 c = search needs
 
--- src/entry.rt:40:9
 returns-2 : tie.Need-returns-2
 returns-2 c = rw (le-ltb _ _ (c .before .before .if1 .left), lt-ltb _ _ (c .if2 .taken))
 
--- src/entry.rt:42:17
 mul-if3 : tie.Need-mul-if3
 mul-if3 c = search needs
 
--- src/entry.rt:43:9
 returns-3 : tie.Need-returns-3
 returns-3 c = rw (le-ltb _ _ (c .before .before .before .before .if1 .left), le-ltb _ _ (c .before .before .if2 .left), lt-ltb _ _ (c .if3 .taken))
 
--- src/entry.rt:45:17
 mul-if4 : tie.Need-mul-if4
 mul-if4 c = search needs
 
--- src/entry.rt:46:9
 returns-4 : tie.Need-returns-4
-returns-4 c = rw (le-ltb _ _ (c .before .before .before .before .before .before .if1 .left), le-ltb _ _ (c .before .before .before .before .if2 .left), le-ltb _ _ (c .before .before .if3 .left), lt-ltb _ _ (c .if4 .taken))
+returns-4 c =
+    let c4 = c .before .before .before .before in
+    let c6 = c4 .before .before in
+    rw (le-ltb _ _ (c6 .if1 .left), le-ltb _ _ (c4 .if2 .left), le-ltb _ _ (c .before .before .if3 .left), lt-ltb _ _ (c .if4 .taken))
 
--- src/entry.rt:49:9
 returns-5 : tie.Need-returns-5
-returns-5 c = rw (le-ltb _ _ (c .before .before .before .before .before .before .before .before .if1 .left), le-ltb _ _ (c .before .before .before .before .before .before .if2 .left), le-ltb _ _ (c .before .before .before .before .if3 .left), le-ltb _ _ (c .before .before .if4 .left), lt-ltb _ _ (c .if5 .taken))
+returns-5 c =
+    let c4 = c .before .before .before .before in
+    let c6 = c4 .before .before in
+    let c8 = c6 .before .before in
+    rw (
+      le-ltb _ _ (c8 .if1 .left),
+      le-ltb _ _ (c6 .if2 .left),
+      le-ltb _ _ (c4 .if3 .left),
+      le-ltb _ _ (c .before .before .if4 .left),
+      lt-ltb _ _
+          (c .if5 .taken),
+    )
 
--- src/entry.rt:52:9
 returns-6 : tie.Need-returns-6
 returns-6 c =
     rw (
@@ -54,7 +56,6 @@ returns-6 c =
       lt-ltb _ _ (c .if6 .taken),
     )
 
--- src/entry.rt:32:1
 returns-7 : tie.Need-returns-7
 returns-7 c =
     rw (

@@ -2,34 +2,28 @@
 use borrow.Author.Needs.{needs}
 use Rattle.octants.proofs.keys.put_keys.Statement.{statement}
 use Rattle.octants.proofs.keys.put_keys.Tie as tie
-use Rattle.octants.proofs.keys.put_keys.Reads as reads
-use Rattle.octants.proofs.keys.put_keys.Lts as lts
-use Rattle.octants.proofs.keys.put_axis.Reads as put-axis-reads
 use Rattle.octants.proofs.PartLaws.{keyed}
 
--- src/keys.rt:25:5
 put-axis-requires : tie.Need-put-axis-requires
 put-axis-requires c κs = search needs
 
--- src/keys.rt:26:5
 put-axis-requires-2 : tie.Need-put-axis-requires-2
 put-axis-requires-2 c κs = search needs
 
--- src/keys.rt:27:36
 mul-put-axis : tie.Need-mul-put-axis
 mul-put-axis c = search needs
 
--- src/keys.rt:27:5
 put-axis-requires-3 : tie.Need-put-axis-requires-3
 put-axis-requires-3 c κs = search needs
 
--- src/keys.rt:21:1
 same-length : tie.Need-same-length
 same-length c = search needs
 
--- src/keys.rt:21:1
 returns : tie.Need-returns
-returns c = keyed _ _ _ _ _ _ (c .before .before .before .before .before .before .before .before .before .before .put-axis .ensures) (c .before .before .before .before .before .before .put-axis2 .ensures) (c .before .before .put-axis3 .ensures)
+returns c =
+    let c6 = c .before .before .before .before .before .before in
+    let c10 = c6 .before .before .before .before in
+    keyed _ _ _ _ _ _ (c10 .put-axis .ensures) (c6 .put-axis2 .ensures) (c .before .before .put-axis3 .ensures)
 
 pub put-keys-spec : {M : Type 1} → statement M
 put-keys-spec =

@@ -1,55 +1,58 @@
--- `hide_of` meets its contract: the first axis that fails decides.
+-- `hide_of` meets its contract: by how many axes fail.
 use borrow.Author.Needs.{needs}
 use Rattle.octants.proofs.laying.hide_of.Statement.{statement}
 use Rattle.octants.proofs.laying.hide_of.Tie as tie
-use Rattle.octants.proofs.laying.hide_of.Reads as reads
-use Rattle.octants.proofs.laying.hide_of.Lts as lts
-use Rattle.octants.proofs.laying.inside.Reads as inside-reads
-use borrow.Author.Tests.{not-true, not-false}
-use mathlib.Core.Path.{refl, sym, _∙_}
-use mathlib.Core.Bool.{true, false}
-use Rattle.octants.proofs.EndLaws.{hide-is}
+use Rattle.shadows.specs.Nearness.{insideOf}
+use Rattle.octants.proofs.EndLaws.{at-most-one, hides-whole, hides-none}
+use native.Mathlib.Omega.{arith}
 
--- src/laying.rt:54:9
-inside-requires : tie.Need-inside-requires
-inside-requires c κs = search needs
+outside-requires : tie.Need-outside-requires
+outside-requires c κs = search needs
 
--- src/laying.rt:55:9
+outside-requires-2 : tie.Need-outside-requires-2
+outside-requires-2 c κs = search needs
+
+add-failed : tie.Need-add-failed
+add-failed c =
+    let a = c .before .before .args .a in
+    omega (arith, c .before .outside .ensures, c .outside2 .ensures, at-most-one (insideOf (a .x) 0x0080_0000), at-most-one (insideOf (a .y) 0x0080_0000))
+
+outside-requires-3 : tie.Need-outside-requires-3
+outside-requires-3 c κs = search needs
+
+add-failed-2 : tie.Need-add-failed-2
+add-failed-2 c =
+    let a = c .before .before .before .args .a in
+    omega (
+      arith,
+      c .before .before .outside .ensures,
+      c .before .outside2 .ensures,
+      c .outside3 .ensures,
+      at-most-one (insideOf (a .x) 0x0080_0000),
+      at-most-one (insideOf (a .y) 0x0080_0000),
+      at-most-one (insideOf (a .z) 0x0080_0000),
+    )
+
 returns : tie.Need-returns
-returns c = sym (hide-is (c .before .before .args .a) false _ _ (sym (c .before .inside .ensures) ∙ not-true _ (c .if1 .taken)) refl refl)
+returns c =
+    let c3 = c .before .before .before in
+    let c4 = c3 .before in
+    hides-whole (c4 .args .a) _ _ _ (c3 .outside .ensures) (c .before .before .outside2 .ensures) (c .before .outside3 .ensures) (c .if1 .taken)
 
--- src/laying.rt:57:9
-inside-requires-2 : tie.Need-inside-requires-2
-inside-requires-2 c κs = search needs
-
--- src/laying.rt:58:9
 returns-2 : tie.Need-returns-2
-returns-2 c = sym (hide-is (c .before .before .before .before .args .a) true false _ (sym (c .before .before .before .inside .ensures) ∙ not-false _ (c .before .before .if1 .left)) (sym (c .before .inside2 .ensures) ∙ not-true _ (c .if2 .taken)) refl)
-
--- src/laying.rt:60:9
-inside-requires-3 : tie.Need-inside-requires-3
-inside-requires-3 c κs = search needs
-
--- src/laying.rt:61:9
-returns-3 : tie.Need-returns-3
-returns-3 c =
-    sym (hide-is (c .before .before .before .before .before .before .args .a) true true false (sym (c .before .before .before .before .before .inside .ensures) ∙ not-false _ (c .before .before .before .before .if1 .left))
-    (sym (c .before .before .before .inside2 .ensures) ∙ not-false _ (c .before .before .if2 .left)) (sym (c .before .inside3 .ensures) ∙ not-true _ (c .if3 .taken)))
-
--- src/laying.rt:51:1
-returns-4 : tie.Need-returns-4
-returns-4 c =
-    sym (hide-is (c .before .before .before .before .before .before .args .a) true true true (sym (c .before .before .before .before .before .inside .ensures) ∙ not-false _ (c .before .before .before .before .if1 .left))
-    (sym (c .before .before .before .inside2 .ensures) ∙ not-false _ (c .before .before .if2 .left)) (sym (c .before .inside3 .ensures) ∙ not-false _ (c .if3 .left)))
+returns-2 c =
+    let c3 = c .before .before .before in
+    let c4 = c3 .before in
+    hides-none (c4 .args .a) _ _ _ (c3 .outside .ensures) (c .before .before .outside2 .ensures) (c .before .outside3 .ensures) (c .if1 .left)
 
 pub hide-of-spec : {M : Type 1} → statement M
 hide-of-spec =
     tie.close
     (tie.spec
-    inside-requires
+    outside-requires
+    outside-requires-2
+    add-failed
+    outside-requires-3
+    add-failed-2
     returns
-    inside-requires-2
-    returns-2
-    inside-requires-3
-    returns-3
-    returns-4)
+    returns-2)

@@ -2,36 +2,31 @@
 use borrow.Author.Needs.{needs}
 use Rattle.octants.proofs.laying.lay_rows.Statement.{statement}
 use Rattle.octants.proofs.laying.lay_rows.Tie as tie
-use Rattle.octants.proofs.laying.lay_rows.Reads as reads
-use Rattle.octants.proofs.laying.lay_rows.Lts as lts
-use Rattle.octants.proofs.laying.put_casts.Reads as put-casts-reads
-use Rattle.octants.proofs.laying.put_hides.Reads as put-hides-reads
-use Rattle.octants.proofs.laying.turn_axis.Reads as turn-axis-reads
 use Rattle.octants.proofs.PartLaws.{laid}
 
--- src/laying.rt:118:5
 turn-axis-requires : tie.Need-turn-axis-requires
 turn-axis-requires c κs = search needs
 
--- src/laying.rt:119:5
 turn-axis-requires-2 : tie.Need-turn-axis-requires-2
 turn-axis-requires-2 c κs = search needs
 
--- src/laying.rt:120:5
 put-casts-requires : tie.Need-put-casts-requires
 put-casts-requires c κs = search needs
 
--- src/laying.rt:121:5
 put-hides-requires : tie.Need-put-hides-requires
 put-hides-requires c κs = search needs
 
--- src/laying.rt:113:1
 same-length : tie.Need-same-length
 same-length c = search needs
 
--- src/laying.rt:113:1
 returns : tie.Need-returns
-returns c = λ ws k. laid (c .before .before .before .before .before .before .before .before .before .before .before .before .before .before .before .before .before .before .args .octant) _ ws _ _ _ _ _ _ k (c .before .before .before .before .before .before .before .before .before .before .before .before .before .before .turn-axis .ensures) (c .before .before .before .before .before .before .before .before .before .before .turn-axis2 .ensures) (c .before .before .before .before .before .before .put-casts .ensures) (c .before .before .put-hides .ensures)
+returns c =
+    let c6 = c .before .before .before .before .before .before in
+    let c10 = c6 .before .before .before .before in
+    let c14 = c10 .before .before .before .before in
+    let c18 = c14 .before .before .before .before in
+    λ ws k. laid (c18 .args .octant) _ ws _ _ _ _ _ _ k (c14 .turn-axis .ensures) (c10 .turn-axis2 .ensures) (c6 .put-casts .ensures)
+    (c .before .before .put-hides .ensures)
 
 pub lay-rows-spec : {M : Type 1} → statement M
 lay-rows-spec =

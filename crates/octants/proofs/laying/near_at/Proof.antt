@@ -2,55 +2,39 @@
 use borrow.Author.Needs.{needs}
 use Rattle.octants.proofs.laying.near_at.Statement.{statement}
 use Rattle.octants.proofs.laying.near_at.Tie as tie
-use Rattle.octants.proofs.laying.near_at.Reads as reads
-use Rattle.octants.proofs.laying.near_at.Lts as lts
-use Rattle.octants.proofs.laying.turned.Reads as turned-reads
-use mathlib.Core.Path.{ap}
-use Rattle.math.specs.declared.words3.Words3.{Words3}
 use Rattle.octants.specs.steps.Parts.{nearAt}
 use Rattle.maxima.specs.Rows.{xAt, yAt}
 
--- src/laying.rt:84:12
 mul-t6 : tie.Need-mul-t6
 mul-t6 c = search needs
 
--- src/laying.rt:84:12
 shared-slice-read-t8 : tie.Need-shared-slice-read-t8
 shared-slice-read-t8 c = search needs
 
--- src/laying.rt:85:17
 add-t9 : tie.Need-add-t9
 add-t9 c = search needs
 
--- src/laying.rt:85:12
 mul-t10 : tie.Need-mul-t10
 mul-t10 c = search needs
 
--- src/laying.rt:85:12
 shared-slice-read-t12 : tie.Need-shared-slice-read-t12
 shared-slice-read-t12 c = search needs
 
--- src/laying.rt:86:31
 mul-turned : tie.Need-mul-turned
 mul-turned c = search needs
 
--- src/laying.rt:86:31
 add-turned : tie.Need-add-turned
 add-turned c = search needs
 
--- src/laying.rt:86:26
 mul-turned-2 : tie.Need-mul-turned-2
 mul-turned-2 c = search needs
 
--- src/laying.rt:86:26
 shared-slice-read-turned : tie.Need-shared-slice-read-turned
 shared-slice-read-turned c = search needs
 
--- src/laying.rt:86:12
 turned-requires : tie.Need-turned-requires
 turned-requires c κs = search needs
 
--- src/laying.rt:79:1
 returns : tie.Need-returns
 unfolding nearAt
 returns c =

@@ -1,11 +1,7 @@
 -- `put_casts` meets its contract. The invariant is `Filling`: x and y of a row are as they were.
 use Rattle.octants.proofs.laying.put_casts.Statement.{statement}
 use Rattle.octants.proofs.laying.put_casts.Tie as tie
-use Rattle.octants.proofs.laying.put_casts.Reads as reads
-use Rattle.octants.proofs.laying.put_casts.Lts as lts
-use Rattle.octants.proofs.laying.cast_of.Reads as cast-of-reads
-use Rattle.octants.proofs.laying.near_at.Reads as near-at-reads
-use Prim.Native.Nat.{_+_, _*_, _-_}
+use Prim.Native.Nat.{_*_, _-_}
 use mathlib.Core.Path.{ap, _∙_}
 use Rattle.shadows.specs.Ranks.{castOf}
 use Rattle.octants.specs.steps.Parts.{nearAt}
@@ -19,54 +15,47 @@ Inv-loop falls n keys rows₀ p₀ rows p = Filling (λ q. castOf (nearAt falls 
 abbrev μ-loop : tie.MeasureT-loop
 μ-loop falls n keys rows₀ p₀ rows p = n - p
 
--- src/laying.rt:95:5
 loop-holds : tie.Need-loop-holds Inv-loop μ-loop
 loop-holds c = unfilled _ _ _ _
 
--- src/laying.rt:96:35
 near-at-requires : tie.Need-near-at-requires Inv-loop μ-loop
-near-at-requires c κs = (c .before .before .before .before .before .pre .0, omega (arith, c .before .before .loop .inv .len, c .before .before .before .before .before .pre .1), c .before .loop-test .taken)
+near-at-requires c κs =
+    let c5 = c .before .before .before .before .before in
+    (c5 .pre .0, omega (arith, c .before .before .loop .inv .len, c5 .pre .1), c .before .loop-test .taken)
 
--- src/laying.rt:96:27
 cast-of-requires : tie.Need-cast-of-requires Inv-loop μ-loop
 cast-of-requires c κs = search needs
 
--- src/laying.rt:96:14
 mul-rows : tie.Need-mul-rows Inv-loop μ-loop
 mul-rows c = search needs
 
--- src/laying.rt:96:14
 add-rows : tie.Need-add-rows Inv-loop μ-loop
 add-rows c = search needs
 
--- src/laying.rt:96:9
 mul-rows-2 : tie.Need-mul-rows-2 Inv-loop μ-loop
 mul-rows-2 c = search needs
 
--- src/laying.rt:96:9
 slice-write-rows : tie.Need-slice-write-rows Inv-loop μ-loop
 slice-write-rows c = omega (arith, c .before .before .before .before .loop .inv .len)
 
--- src/laying.rt:97:9
 add-p : tie.Need-add-p Inv-loop μ-loop
 add-p c = search needs
 
--- src/laying.rt:95:5
 loop-less : tie.Need-loop-less Inv-loop μ-loop
 loop-less c = search needs
 
--- src/laying.rt:95:5
 loop-again : tie.Need-loop-again Inv-loop μ-loop
 loop-again c =
-    let l = c .before .before .before .before .loop in
-    fill-more _ _ _ _ _ _ _ (l .inv) (c .before .before .before .loop-test .taken) (omega (arith, c .before .before .before .before .before .before .before .pre .1))
-    (c .cast-of .ensures ∙ ap castOf (c .before .near-at .ensures ∙ near-kept _ _ _ _ _ _ _ _ (omega arith) (l .inv) (c .before .before .before .loop-test .taken)))
+    let c3 = c .before .before .before in
+    let c4 = c3 .before in
+    let c7 = c4 .before .before .before in
+    let l = c4 .loop in
+    fill-more _ _ _ _ _ _ _ (l .inv) (c3 .loop-test .taken) (omega (arith, c7 .pre .1))
+    (c .cast-of .ensures ∙ ap castOf (c .before .near-at .ensures ∙ near-kept _ _ _ _ _ _ _ _ (omega arith) (l .inv) (c3 .loop-test .taken)))
 
--- src/laying.rt:90:1
 same-length : tie.Need-same-length Inv-loop μ-loop
 same-length c = c .before .loop .inv .len
 
--- src/laying.rt:90:1
 returns : tie.Need-returns Inv-loop μ-loop
 returns c = filled _ _ _ _ _ _ (c .before .loop .inv) (c .loop-test .left)
 

@@ -1,11 +1,7 @@
 -- `put_hides` meets its contract. The invariant is `Filling`: x and y of a row are as they were.
 use Rattle.octants.proofs.laying.put_hides.Statement.{statement}
 use Rattle.octants.proofs.laying.put_hides.Tie as tie
-use Rattle.octants.proofs.laying.put_hides.Reads as reads
-use Rattle.octants.proofs.laying.put_hides.Lts as lts
-use Rattle.octants.proofs.laying.hide_of.Reads as hide-of-reads
-use Rattle.octants.proofs.laying.near_at.Reads as near-at-reads
-use Prim.Native.Nat.{_+_, _*_, _-_}
+use Prim.Native.Nat.{_*_, _-_}
 use mathlib.Core.Path.{ap, _∙_}
 use Rattle.shadows.specs.Ranks.{hideOf}
 use Rattle.octants.specs.steps.Parts.{nearAt}
@@ -19,54 +15,47 @@ Inv-loop falls n keys rows₀ p₀ rows p = Filling (λ q. hideOf (nearAt falls 
 abbrev μ-loop : tie.MeasureT-loop
 μ-loop falls n keys rows₀ p₀ rows p = n - p
 
--- src/laying.rt:106:5
 loop-holds : tie.Need-loop-holds Inv-loop μ-loop
 loop-holds c = unfilled _ _ _ _
 
--- src/laying.rt:107:35
 near-at-requires : tie.Need-near-at-requires Inv-loop μ-loop
-near-at-requires c κs = (c .before .before .before .before .before .pre .0, omega (arith, c .before .before .loop .inv .len, c .before .before .before .before .before .pre .1), c .before .loop-test .taken)
+near-at-requires c κs =
+    let c5 = c .before .before .before .before .before in
+    (c5 .pre .0, omega (arith, c .before .before .loop .inv .len, c5 .pre .1), c .before .loop-test .taken)
 
--- src/laying.rt:107:27
 hide-of-requires : tie.Need-hide-of-requires Inv-loop μ-loop
 hide-of-requires c κs = search needs
 
--- src/laying.rt:107:14
 mul-rows : tie.Need-mul-rows Inv-loop μ-loop
 mul-rows c = search needs
 
--- src/laying.rt:107:14
 add-rows : tie.Need-add-rows Inv-loop μ-loop
 add-rows c = search needs
 
--- src/laying.rt:107:9
 mul-rows-2 : tie.Need-mul-rows-2 Inv-loop μ-loop
 mul-rows-2 c = search needs
 
--- src/laying.rt:107:9
 slice-write-rows : tie.Need-slice-write-rows Inv-loop μ-loop
 slice-write-rows c = omega (arith, c .before .before .before .before .loop .inv .len)
 
--- src/laying.rt:108:9
 add-p : tie.Need-add-p Inv-loop μ-loop
 add-p c = search needs
 
--- src/laying.rt:106:5
 loop-less : tie.Need-loop-less Inv-loop μ-loop
 loop-less c = search needs
 
--- src/laying.rt:106:5
 loop-again : tie.Need-loop-again Inv-loop μ-loop
 loop-again c =
-    let l = c .before .before .before .before .loop in
-    fill-more _ _ _ _ _ _ _ (l .inv) (c .before .before .before .loop-test .taken) (omega (arith, c .before .before .before .before .before .before .before .pre .1))
-    (c .hide-of .ensures ∙ ap hideOf (c .before .near-at .ensures ∙ near-kept _ _ _ _ _ _ _ _ (omega arith) (l .inv) (c .before .before .before .loop-test .taken)))
+    let c3 = c .before .before .before in
+    let c4 = c3 .before in
+    let c7 = c4 .before .before .before in
+    let l = c4 .loop in
+    fill-more _ _ _ _ _ _ _ (l .inv) (c3 .loop-test .taken) (omega (arith, c7 .pre .1))
+    (c .hide-of .ensures ∙ ap hideOf (c .before .near-at .ensures ∙ near-kept _ _ _ _ _ _ _ _ (omega arith) (l .inv) (c3 .loop-test .taken)))
 
--- src/laying.rt:101:1
 same-length : tie.Need-same-length Inv-loop μ-loop
 same-length c = c .before .loop .inv .len
 
--- src/laying.rt:101:1
 returns : tie.Need-returns Inv-loop μ-loop
 returns c = filled _ _ _ _ _ _ (c .before .loop .inv) (c .loop-test .left)
 

@@ -1,9 +1,6 @@
 -- `turn_axis` meets its contract. The invariant is `Filling`.
 use Rattle.octants.proofs.laying.turn_axis.Statement.{statement}
 use Rattle.octants.proofs.laying.turn_axis.Tie as tie
-use Rattle.octants.proofs.laying.turn_axis.Reads as reads
-use Rattle.octants.proofs.laying.turn_axis.Lts as lts
-use Rattle.octants.proofs.laying.turned.Reads as turned-reads
 use Prim.Native.Nat.{_+_, _-_}
 use lib.ListN.{getD}
 use Rattle.shadows.specs.Nearness.{turned}
@@ -16,55 +13,45 @@ Inv-loop falls n keys rows₀ at p₀ rows p = Filling (λ q. turned falls (getD
 abbrev μ-loop : tie.MeasureT-loop
 μ-loop falls n keys rows₀ at p₀ rows p = n - p
 
--- src/laying.rt:72:5
 loop-holds : tie.Need-loop-holds Inv-loop μ-loop
 loop-holds c = unfilled _ _ _ _
 
--- src/laying.rt:73:43
 add-turned : tie.Need-add-turned Inv-loop μ-loop
 add-turned c = search needs
 
--- src/laying.rt:73:38
 mul-turned : tie.Need-mul-turned Inv-loop μ-loop
 mul-turned c = search needs
 
--- src/laying.rt:73:38
 shared-slice-read-turned : tie.Need-shared-slice-read-turned Inv-loop μ-loop
 shared-slice-read-turned c = search needs
 
--- src/laying.rt:73:24
 turned-requires : tie.Need-turned-requires Inv-loop μ-loop
 turned-requires c κs = search needs
 
--- src/laying.rt:73:14
 add-rows : tie.Need-add-rows Inv-loop μ-loop
 add-rows c = search needs
 
--- src/laying.rt:73:9
 mul-rows : tie.Need-mul-rows Inv-loop μ-loop
 mul-rows c = search needs
 
--- src/laying.rt:73:9
 slice-write-rows : tie.Need-slice-write-rows Inv-loop μ-loop
 slice-write-rows c = search needs
 
--- src/laying.rt:74:9
 add-p : tie.Need-add-p Inv-loop μ-loop
 add-p c = search needs
 
--- src/laying.rt:72:5
 loop-less : tie.Need-loop-less Inv-loop μ-loop
 loop-less c = search needs
 
--- src/laying.rt:72:5
 loop-again : tie.Need-loop-again Inv-loop μ-loop
-loop-again c = fill-more _ _ _ _ _ _ _ (c .before .before .before .loop .inv) (c .before .before .loop-test .taken) (c .before .before .before .before .before .before .pre .1) (c .turned .ensures)
+loop-again c =
+    let c3 = c .before .before .before in
+    let c6 = c3 .before .before .before in
+    fill-more _ _ _ _ _ _ _ (c3 .loop .inv) (c .before .before .loop-test .taken) (c6 .pre .1) (c .turned .ensures)
 
--- src/laying.rt:67:1
 same-length : tie.Need-same-length Inv-loop μ-loop
 same-length c = c .before .loop .inv .len
 
--- src/laying.rt:67:1
 returns : tie.Need-returns Inv-loop μ-loop
 returns c = filled _ _ _ _ _ _ (c .before .loop .inv) (c .loop-test .left)
 

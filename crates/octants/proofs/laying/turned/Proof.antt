@@ -2,28 +2,21 @@
 use borrow.Author.Needs.{needs}
 use Rattle.octants.proofs.laying.turned.Statement.{statement}
 use Rattle.octants.proofs.laying.turned.Tie as tie
-use Rattle.octants.proofs.laying.turned.Reads as reads
-use Rattle.octants.proofs.laying.turned.Lts as lts
 use borrow.Author.Tests.{eq-eqb, ne-eqb}
 use native.Mathlib.Omega.{arith}
 
--- src/laying.rt:16:9
 returns : tie.Need-returns
 returns c = search needs
 
--- src/laying.rt:19:9
 returns-2 : tie.Need-returns-2
 returns-2 c = rw (c .before .if1 .left, eq-eqb (c .before .before .args .key) 0 (c .if2 .taken))
 
--- src/laying.rt:21:5
 sub-result : tie.Need-sub-result
 sub-result c = search needs
 
--- src/laying.rt:21:5
 add-result : tie.Need-add-result
 add-result c = search needs
 
--- src/laying.rt:12:1
 returns-3 : tie.Need-returns-3
 returns-3 c = rw (c .before .if1 .left, ne-eqb (c .before .before .args .key) 0 (c .if2 .left)) (omega arith)
 

@@ -2,44 +2,33 @@
 use borrow.Author.Needs.{needs}
 use Rattle.octants.proofs.lists.counts_of.Statement.{statement}
 use Rattle.octants.proofs.lists.counts_of.Tie as tie
-use Rattle.octants.proofs.lists.counts_of.Reads as reads
-use Rattle.octants.proofs.lists.counts_of.Lts as lts
 use mathlib.Core.Path.{refl}
 use Rattle.octants.specs.steps.Lists.{countsIn}
 
--- src/lists.rt:76:13
 shared-slice-read-t3 : tie.Need-shared-slice-read-t3
 shared-slice-read-t3 c = search needs
 
--- src/lists.rt:77:13
 shared-slice-read-t5 : tie.Need-shared-slice-read-t5
 shared-slice-read-t5 c = search needs
 
--- src/lists.rt:78:13
 shared-slice-read-t7 : tie.Need-shared-slice-read-t7
 shared-slice-read-t7 c = search needs
 
--- src/lists.rt:79:13
 shared-slice-read-t9 : tie.Need-shared-slice-read-t9
 shared-slice-read-t9 c = search needs
 
--- src/lists.rt:80:13
 shared-slice-read-t11 : tie.Need-shared-slice-read-t11
 shared-slice-read-t11 c = search needs
 
--- src/lists.rt:81:13
 shared-slice-read-t13 : tie.Need-shared-slice-read-t13
 shared-slice-read-t13 c = search needs
 
--- src/lists.rt:82:13
 shared-slice-read-t15 : tie.Need-shared-slice-read-t15
 shared-slice-read-t15 c = search needs
 
--- src/lists.rt:83:13
 shared-slice-read-t17 : tie.Need-shared-slice-read-t17
 shared-slice-read-t17 c = search needs
 
--- src/lists.rt:71:1
 returns : tie.Need-returns
 unfolding countsIn
 returns c = refl

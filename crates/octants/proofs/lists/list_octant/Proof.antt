@@ -2,18 +2,12 @@
 use borrow.Author.Needs.{needs}
 use Rattle.octants.proofs.lists.list_octant.Statement.{statement}
 use Rattle.octants.proofs.lists.list_octant.Tie as tie
-use Rattle.octants.proofs.lists.list_octant.Reads as reads
-use Rattle.octants.proofs.lists.list_octant.Lts as lts
-use Rattle.maxima.proofs.listing.list_maxima.Reads as list-maxima-reads
-use Rattle.octants.proofs.laying.lay_rows.Reads as lay-rows-reads
 use Rattle.octants.proofs.PartLaws.{rows-of, octant-written}
 use native.Mathlib.Omega.{arith}
 
--- src/lists.rt:42:5
 lay-rows-requires : tie.Need-lay-rows-requires
 lay-rows-requires c κs = search needs
 
--- src/lists.rt:43:5
 list-maxima-requires : tie.Need-list-maxima-requires
 list-maxima-requires c κs =
     let p = c .before .before .before .before .before .before .before .before .before .before .before .before .before .before .before .pre in
@@ -26,29 +20,26 @@ list-maxima-requires c κs =
       for-list = p .1;
     }
 
--- src/lists.rt:29:1
 same-length : tie.Need-same-length
 same-length c = search needs
 
--- src/lists.rt:29:1
 same-length-2 : tie.Need-same-length-2
 same-length-2 c = search needs
 
--- src/lists.rt:29:1
 same-length-3 : tie.Need-same-length-3
 same-length-3 c = search needs
 
--- src/lists.rt:29:1
 same-length-4 : tie.Need-same-length-4
 same-length-4 c = search needs
 
--- src/lists.rt:29:1
 same-length-5 : tie.Need-same-length-5
 same-length-5 c = search needs
 
--- src/lists.rt:29:1
 returns : tie.Need-returns
-returns c = λ ws k. octant-written _ ws _ _ (c .before .before .before .before .before .before .before .before .before .before .before .before .before .before .before .before .lay-rows .ensures ws k) _ _ _ (c .before .before .before .before .before .before .before .before .list-maxima .ensures)
+returns c =
+    let c8 = c .before .before .before .before .before .before .before .before in
+    let c16 = c8 .before .before .before .before .before .before .before .before in
+    λ ws k. octant-written _ ws _ _ (c16 .lay-rows .ensures ws k) _ _ _ (c8 .list-maxima .ensures)
 
 pub list-octant-spec : {M : Type 1} → statement M
 list-octant-spec =
