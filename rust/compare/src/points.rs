@@ -14,7 +14,7 @@ pub enum Style {
     /// (t, t, -t): in six directions none shadows another.
     Line,
     Sphere,
-    /// All the same.
+    /// All the same finite point.
     Equal,
     /// Small whole numbers, anywhere or in a plane: many ties.
     Grid,
@@ -24,6 +24,8 @@ pub enum Style {
     Mixed,
     /// Zeros, ones, infinities and NaN, of both signs.
     Core,
+    /// A few points of such coordinates, repeated.
+    Few,
     /// Every hard word.
     Hard,
     /// Subnormal numbers and zeros of both signs: a difference is the least number there is.
@@ -38,7 +40,7 @@ pub enum Style {
 pub const LONG: [Style; 8] =
     [Style::Random, Style::Plane, Style::Line, Style::Sphere, Style::Equal, Style::Grid, Style::Nan, Style::Mixed];
 
-pub const STYLES: [Style; 13] = [
+pub const STYLES: [Style; 14] = [
     Style::Random,
     Style::Plane,
     Style::Line,
@@ -48,6 +50,7 @@ pub const STYLES: [Style; 13] = [
     Style::Nan,
     Style::Mixed,
     Style::Core,
+    Style::Few,
     Style::Hard,
     Style::Subnormal,
     Style::Large,
@@ -91,9 +94,11 @@ impl Points {
             Style::Plane => (0..n).map(|_| self.in_plane(1 << 20)).collect(),
             Style::Line => self.line(n),
             Style::Sphere => (0..n).map(|_| self.on_sphere()).collect(),
-            Style::Equal => {
-                let one = if self.random.once_in(2) { self.unit() } else { self.word(Style::Hard) };
-                vec![[one, self.unit(), 0.0]; n]
+            Style::Equal => vec![[self.unit(), self.unit(), 0.0]; n],
+            Style::Few => {
+                let some = 1 + self.random.below(4);
+                let pool = self.of(some, Style::Core);
+                (0..n).map(|_| self.random.pick(&pool)).collect()
             }
             Style::Grid => {
                 let (plane, around) = (self.random.once_in(2), self.random.pick(&[1, 3, 12, 60]));
