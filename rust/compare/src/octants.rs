@@ -214,6 +214,23 @@ impl Written {
     }
 }
 
+/// No list and one as long as may be or longer, the last address and the one behind it, room enough and one byte less: also
+/// refusals in their order.
+fn written_at_the_limit() -> Vec<Written> {
+    let mut cases = Vec::new();
+    for (list, len) in [(0, 0), (0, VERTICES), (7, VERTICES), (0, VERTICES + 1), (7, VERTICES + 1)] {
+        let mut lists: [Vec<u32>; 8] = Default::default();
+        lists[list] = (0..len as u32).collect();
+        let last = u64::MAX - 96 - 4 * len as u64;
+        for address in [last, last + 1] {
+            let case = Written { lists: lists.clone(), address, room: 0 };
+            let room = case.needed();
+            cases.extend([Written { room, ..case.clone() }, Written { room: room - 1, ..case }]);
+        }
+    }
+    cases
+}
+
 fn written(r: &mut Random) -> Written {
     let longest = r.once_in(4_000);
     let mut list = || {
@@ -265,9 +282,9 @@ fn written_differs(case: &Written, ours: Write, seed: u64) -> Outcome {
 /// The bytes of lists that hold anything.
 pub fn bytes(seed: u64, cases: u64, ours: Write) -> Line {
     let of = Operation { name: "octant_bytes", what: "bytes", refusals: &[1, 2, 12], limit: VERTICES };
-    let mut random = Random::new(seed);
+    let (mut fixed, mut random) = (written_at_the_limit(), Random::new(seed));
     let case = || {
-        let case = written(&mut random);
+        let case = fixed.pop().unwrap_or_else(|| written(&mut random));
         let len = case.lists.iter().map(Vec::len).max().unwrap_or(0);
         (case, len)
     };
