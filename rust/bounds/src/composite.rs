@@ -32,6 +32,12 @@ pub const WITHOUT_TREE: usize = 5;
 /// A child of a composite: a mark, its box, margin and transform. Any floats will do.
 ///
 /// It is lent to the library as it lies in memory: 24 words.
+///
+/// ```
+/// # use bounds::{Child, Mat4, Vec3};
+/// let child = Child::new(Vec3::ZERO, Vec3::new(1.0, 1.0, 1.0), 0.04, Mat4::identity());
+/// assert!(child.present != 0 && Child::ABSENT.present == 0);
+/// ```
 #[derive(Clone, Copy, Debug, PartialEq)]
 #[allow(missing_docs)]
 #[repr(C)]
@@ -81,6 +87,17 @@ pub struct Composite {
 }
 
 /// A composite's tree, in buffers of its own.
+///
+/// ```
+/// # use bounds::{Child, Composite};
+/// let mut children = [Child { present: 1, ..Child::ABSENT }; 7];
+/// children[3] = Child::ABSENT;
+/// let tree = Composite::prepare(&children)?.tree.expect("seven children");
+/// assert_eq!(tree.order, [0, 1, 2, 4, 5, 6]);
+/// assert_eq!(tree.node_bytes.len(), 16 * tree.built.nodes_capacity as usize);
+/// assert_eq!(tree.tree_bytes.len(), 16 * tree.built.trees_count as usize);
+/// # Ok::<(), bounds::Refusal>(())
+/// ```
 #[derive(Clone, Debug, PartialEq)]
 pub struct CompositeTree {
     /// Its values.

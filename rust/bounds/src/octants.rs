@@ -23,6 +23,14 @@ use crate::{ffi, Refusal, Vec3};
 pub const VERTICES: usize = 32_768;
 
 /// Eight lists of vertex indices, one for each direction: bits 0, 1 and 2 of its number turn x, y and z around.
+///
+/// ```
+/// # use bounds::{calculate_octants, Vec3};
+/// let octants = calculate_octants(&[Vec3::ZERO, Vec3::new(0.0, 0.0, 1.0)])?;
+/// let [up, _, _, _, down, ..] = octants.items;
+/// assert_eq!((up, down), (vec![1], vec![0])); // bit 2 turns z
+/// # Ok::<(), bounds::Refusal>(())
+/// ```
 #[derive(Clone, Debug, Default, PartialEq, Eq)]
 #[allow(missing_docs)]
 pub struct Octants {
