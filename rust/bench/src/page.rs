@@ -104,6 +104,12 @@ fn cell(value: Option<f64>, digits: usize) -> String {
     value.map_or("–".to_string(), |x| format!("{x:.digits$}"))
 }
 
+/// The library's time by another's; of a very small one two digits that say something.
+fn ratio(r: &Row, to: Side) -> String {
+    let ratio = r.ratio(to);
+    cell(ratio, if ratio.is_some_and(|ratio| ratio < 0.01) { 4 } else { 2 })
+}
+
 fn row(left: &str, cells: &[String]) -> String {
     let cells: String = cells.iter().map(|cell| format!(" {cell} |")).collect();
     format!("| {left} |{cells}\n")
@@ -151,7 +157,7 @@ fn lists(series: &[Series], kind: Kind, size: &str, one: &str) -> String {
     rows(series, kind, head, |name, r| {
         let micros = |side| cell(r.time(side).map(|t| t / 1e3), 1);
         let mut cells = vec![r.size.to_string(), micros(Side::Library), micros(Side::Reference)];
-        cells.extend([cell(r.each(Side::Library), 1), cell(r.ratio(Side::Reference), 2)]);
+        cells.extend([cell(r.each(Side::Library), 1), ratio(r, Side::Reference)]);
         cells.extend(instructions(r, &BOTH, counted));
         Some(row(name, &cells))
     })
@@ -164,7 +170,7 @@ fn walks(series: &[Series]) -> String {
     rows(series, Kind::Walk, head, |name, r| {
         let mut cells = vec![r.size.to_string()];
         cells.extend(THREE.map(|side| cell(r.each(side), 2)));
-        cells.extend([Side::Plain, Side::Tuned].map(|side| cell(r.ratio(side), 2)));
+        cells.extend([Side::Plain, Side::Tuned].map(|side| ratio(r, side)));
         cells.extend(instructions(r, &THREE, counted));
         Some(row(name, &cells))
     })
@@ -191,7 +197,7 @@ fn calls(series: &[Series], kind: Kind, left: &str, size: &str) -> String {
     rows(series, kind, head, |name, r| {
         let mut cells = vec![r.size.to_string()];
         cells.extend(BOTH.map(|side| cell(r.each(side), 2)));
-        cells.push(cell(r.ratio(Side::Reference), 2));
+        cells.push(ratio(r, Side::Reference));
         cells.extend(instructions(r, &BOTH, counted));
         Some(row(name, &cells))
     })

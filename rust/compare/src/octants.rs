@@ -1,7 +1,7 @@
 //! `calculate_octants` and the octants' bytes: one side's answers held to the reference's.
 //!
 //! Lists of 32,768 points of the kinds that a port could be slow on are held to a time limit too. The reference itself takes
-//! seconds to minutes on some of them: of these it is given a sample, and the others are held to the plain sweep, which the
+//! up to ten seconds on some of them: of these it is given a sample, and the others are held to the plain sweep, which the
 //! tests hold to the definition and to the reference.
 
 use crate::lent::Lent;

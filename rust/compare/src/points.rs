@@ -61,8 +61,8 @@ impl Style {
     /// The reference takes so much time on a list of 32,768 that only one in so many is given to it.
     pub fn asked_once_in(self) -> usize {
         match self {
-            Style::Plane | Style::Line | Style::Nan | Style::Mixed => 100,
-            Style::Sphere | Style::Grid => 20,
+            Style::Plane | Style::Line | Style::Nan | Style::Mixed => 50,
+            Style::Sphere | Style::Grid => 5,
             _ => 1,
         }
     }
