@@ -1,6 +1,7 @@
 //! Times the sides in turn, so that a slow moment of the machine meets all of them, and takes the least.
 
 use crate::subjects::{Pass, Queries, Side, Subject};
+use compare::clock::clock;
 use std::time::Duration;
 
 /// One size of a subject. Times are of a whole pass, in nanoseconds.
@@ -107,32 +108,6 @@ fn sample(pass: &mut Pass, passes: u32) -> f64 {
     let begun = clock();
     (0..passes).for_each(|_| pass());
     (clock() - begun).as_nanos() as f64 / passes as f64
-}
-
-/// The time that this thread had a processor: a shared machine takes it away now and then.
-#[cfg(all(target_os = "linux", target_pointer_width = "64"))]
-fn clock() -> Duration {
-    #[repr(C)]
-    struct Timespec {
-        seconds: i64,
-        nanoseconds: i64,
-    }
-    unsafe extern "C" {
-        fn clock_gettime(clock: i32, time: *mut Timespec) -> i32;
-    }
-    const THREAD_CPUTIME: i32 = 3;
-    let mut time = Timespec { seconds: 0, nanoseconds: 0 };
-    // SAFETY: the system's struct, exclusively borrowed; where the clock is missing it is left as it is.
-    unsafe { clock_gettime(THREAD_CPUTIME, &mut time) };
-    Duration::new(time.seconds as u64, time.nanoseconds as u32)
-}
-
-/// The time that passes.
-#[cfg(not(all(target_os = "linux", target_pointer_width = "64")))]
-fn clock() -> Duration {
-    use std::sync::LazyLock;
-    static BEGUN: LazyLock<std::time::Instant> = LazyLock::new(std::time::Instant::now);
-    BEGUN.elapsed()
 }
 
 #[cfg(test)]

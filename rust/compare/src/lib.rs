@@ -12,10 +12,12 @@
 //! - [`octants`], over what [`points`] makes, and [`composites`].
 //! - [`exhaustive`]: operations of one word over all 2^32.
 //! - [`vectors`]: a sample of the reference's answers as a text file.
+//! - [`clock`]: the time that a thread had a processor.
 //! - [`lent`]: buffers for operations that write into what they are lent.
 
 pub mod build;
 pub mod check;
+pub mod clock;
 pub mod composites;
 pub mod deep;
 pub mod exhaustive;

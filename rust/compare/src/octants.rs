@@ -4,6 +4,7 @@
 //! up to ten seconds on some of them: of these it is given a sample, and the others are held to the plain sweep, which the
 //! tests hold to the definition and to the reference.
 
+use crate::clock::clock;
 use crate::lent::Lent;
 use crate::meshes::{compared, Operation, Outcome};
 use crate::plain::octants as plain;
@@ -12,7 +13,7 @@ use crate::random::Random;
 use crate::report::{Line, Progress};
 use oracle::geometry::{self as reference, VERTICES};
 use oracle::Vec3;
-use std::time::{Duration, Instant};
+use std::time::Duration;
 
 /// Points, the lists' words and the words to work in; answers how many indices each list has.
 pub type Calculate = fn(&[Vec3], &mut [u32], &mut [u32]) -> Result<[usize; 8], u32>;
@@ -20,7 +21,7 @@ pub type Calculate = fn(&[Vec3], &mut [u32], &mut [u32]) -> Result<[usize; 8], u
 /// Lists and an address, into lent bytes.
 pub type Write = fn(&[Vec<u32>; 8], u64, &mut [u8]) -> Result<(), u32>;
 
-/// In which a list of 32,768 has to be answered.
+/// In which a list of 32,768 has to be answered, by the time that the thread had a processor.
 const LIMIT: Duration = Duration::from_millis(500);
 
 /// Of so many cases one is a list of 32,768 of each kind.
@@ -85,9 +86,9 @@ fn expected(case: &Case) -> Result<[Vec<u32>; 8], u32> {
 fn differs(case: &Case, expected: &Result<[Vec<u32>; 8], u32>, ours: Calculate, seed: u64) -> Result<Duration, String> {
     let n = case.points.len();
     let (mut lists, mut work) = (Lent::<u32>::new(case.lists, seed), Lent::<u32>::new(case.work, !seed));
-    let begun = Instant::now();
+    let begun = clock();
     let answer = ours(&case.points, lists.buffer(), work.buffer());
-    let taken = begun.elapsed();
+    let taken = clock() - begun;
     let counts = expected.as_ref().map(|lists| lists.each_ref().map(Vec::len)).map_err(|&number| number);
     if answer != counts {
         return Err(format!("{answer:?}, expected {counts:?}"));
@@ -186,11 +187,9 @@ fn long_one(
     }
     let all = Ok(all);
     let mut taken = differs(&case, &all, ours, seed)?;
-    for _ in 0..2 {
-        if taken > LIMIT {
-            // A busy machine may have taken it.
-            taken = taken.min(differs(&case, &all, ours, seed)?);
-        }
+    if taken > LIMIT {
+        // A busy machine may have taken it.
+        taken = taken.min(differs(&case, &all, ours, seed)?);
     }
     long.longest = long.longest.max(taken);
     long.most = long.most.max(all.as_ref().map_or(0, indices));
@@ -367,7 +366,8 @@ mod tests {
     #[test]
     fn slow_octants_are_found() {
         let slow: Calculate = |vertices, lists, work| {
-            std::thread::sleep(LIMIT + Duration::from_millis(1));
+            let begun = clock();
+            while clock() - begun <= LIMIT {}
             plain::calculate(vertices, lists, work)
         };
         let mut long = Long::default();
