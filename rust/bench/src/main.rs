@@ -4,10 +4,12 @@
 //! also docs/BENCH.md and docs/bench.svg. `vector-code` looks at a library's object code instead.
 //! Exit status: 1 where vector code is missing, 2 where it could not be run.
 
+mod composites;
 mod instructions;
 mod lists;
 mod machine;
 mod measure;
+mod octants;
 mod page;
 mod plot;
 mod polygons;

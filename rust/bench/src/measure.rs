@@ -1,12 +1,13 @@
 //! Times the sides in turn, so that a slow moment of the machine meets all of them, and takes the least.
 
 use crate::subjects::{Pass, Queries, Side, Subject};
+use compare::clock::clock;
 use std::time::Duration;
 
 /// One size of a subject. Times are of a whole pass, in nanoseconds.
 pub struct Row {
     pub size: usize,
-    /// What a pass does: so many boxes, records, polygons or calls.
+    /// What a pass does: so many boxes, records, polygons, vertices, children or calls.
     pub units: usize,
     pub times: Vec<(Side, f64)>,
     pub instructions: Vec<(Side, u64)>,
@@ -18,7 +19,7 @@ impl Row {
         self.times.iter().find(|(of, _)| *of == side).map(|(_, time)| *time)
     }
 
-    /// Nanoseconds of one box, record, polygon or call.
+    /// Nanoseconds of one of them.
     pub fn each(&self, side: Side) -> Option<f64> {
         Some(self.time(side)? / self.units.max(1) as f64)
     }
@@ -42,7 +43,7 @@ pub struct Series {
 /// A sample lasts at least this long, so that the clock's own steps do not show.
 const LEAST: Duration = Duration::from_millis(1);
 
-/// After this long a size has samples enough, if it has a few.
+/// After this long a side has samples enough, if it has a few.
 const ENOUGH: Duration = Duration::from_secs(10);
 pub const FEWEST: usize = 3;
 
@@ -55,25 +56,39 @@ pub fn row(subject: &Subject, size: usize, samples: usize, seed: u64) -> Row {
     Row { size, units: work.units, times, instructions: Vec::new(), queries: work.queries }
 }
 
-/// The least time of each pass. What else runs on the machine only adds time.
-fn least(passes: &mut [(Side, Pass)], samples: usize) -> Vec<(Side, f64)> {
-    let begun = clock();
-    let first = |(side, pass): &mut (Side, Pass)| {
-        let (times, time) = passes_a_sample(pass);
-        (times, (*side, time))
-    };
-    let (times, mut least): (Vec<u32>, Vec<(Side, f64)>) = passes.iter_mut().map(first).unzip();
-    let mut taken = 1;
-    loop {
-        let spent = clock() - begun;
-        if taken >= samples || spent > ENOUGH && taken >= FEWEST || spent > LONG {
-            return least;
-        }
-        for (at, (_, pass)) in passes.iter_mut().enumerate() {
-            least[at].1 = least[at].1.min(sample(pass, times[at]));
-        }
-        taken += 1;
+/// A side's samples so far.
+struct Sampled {
+    side: Side,
+    /// Passes of one sample.
+    passes: u32,
+    taken: usize,
+    spent: Duration,
+    least: f64,
+}
+
+impl Sampled {
+    fn enough(&self, samples: usize) -> bool {
+        self.taken >= samples || self.spent > ENOUGH && self.taken >= FEWEST || self.spent > LONG
     }
+}
+
+/// The least time of each pass. What else runs on the machine only adds time. A side that has enough waits for no other:
+/// of a slow one there are few samples, of a quick one beside it not.
+fn least(passes: &mut [(Side, Pass)], samples: usize) -> Vec<(Side, f64)> {
+    let first = |(side, pass): &mut (Side, Pass)| {
+        let begun = clock();
+        let (passes, least) = passes_a_sample(pass);
+        Sampled { side: *side, passes, taken: 1, spent: clock() - begun, least }
+    };
+    let mut sampled: Vec<Sampled> = passes.iter_mut().map(first).collect();
+    while sampled.iter().any(|s| !s.enough(samples)) {
+        for (s, (_, pass)) in sampled.iter_mut().zip(passes.iter_mut()).filter(|(s, _)| !s.enough(samples)) {
+            let begun = clock();
+            s.least = s.least.min(sample(pass, s.passes));
+            (s.taken, s.spent) = (s.taken + 1, s.spent + (clock() - begun));
+        }
+    }
+    sampled.into_iter().map(|s| (s.side, s.least)).collect()
 }
 
 /// How many passes make a sample, and the first.
@@ -95,32 +110,6 @@ fn sample(pass: &mut Pass, passes: u32) -> f64 {
     (clock() - begun).as_nanos() as f64 / passes as f64
 }
 
-/// The time that this thread had a processor: a shared machine takes it away now and then.
-#[cfg(all(target_os = "linux", target_pointer_width = "64"))]
-fn clock() -> Duration {
-    #[repr(C)]
-    struct Timespec {
-        seconds: i64,
-        nanoseconds: i64,
-    }
-    unsafe extern "C" {
-        fn clock_gettime(clock: i32, time: *mut Timespec) -> i32;
-    }
-    const THREAD_CPUTIME: i32 = 3;
-    let mut time = Timespec { seconds: 0, nanoseconds: 0 };
-    // SAFETY: the system's struct, exclusively borrowed; where the clock is missing it is left as it is.
-    unsafe { clock_gettime(THREAD_CPUTIME, &mut time) };
-    Duration::new(time.seconds as u64, time.nanoseconds as u32)
-}
-
-/// The time that passes.
-#[cfg(not(all(target_os = "linux", target_pointer_width = "64")))]
-fn clock() -> Duration {
-    use std::sync::LazyLock;
-    static BEGUN: LazyLock<std::time::Instant> = LazyLock::new(std::time::Instant::now);
-    BEGUN.elapsed()
-}
-
 #[cfg(test)]
 mod tests {
     use super::*;
@@ -137,5 +126,21 @@ mod tests {
         let times = least(&mut passes, 3);
         assert_eq!(times.iter().map(|(side, _)| *side).collect::<Vec<_>>(), [Side::Library, Side::Reference]);
         assert!(times[0].1 > 0.0 && times[0].1 * 5.0 < times[1].1, "{times:?}");
+    }
+
+    #[test]
+    fn a_side_has_enough_by_its_number_or_its_time() {
+        let side = |taken, seconds| Sampled {
+            side: Side::Library,
+            passes: 1,
+            taken,
+            spent: Duration::from_secs(seconds),
+            least: 1.0,
+        };
+        for (taken, seconds, enough) in
+            [(30, 1, false), (31, 1, true), (2, 11, false), (3, 11, true), (3, 9, false), (1, 19, false), (1, 21, true)]
+        {
+            assert_eq!(side(taken, seconds).enough(31), enough, "{taken} samples, {seconds} s");
+        }
     }
 }

@@ -1,4 +1,4 @@
-//! What was measured as a page: tables of builds, walks, queries, polygons and steps, and what they were measured with.
+//! What was measured as a page: a table of each kind, and what they were measured with.
 
 use crate::machine;
 use crate::measure::{Row, Series, FEWEST};
@@ -16,8 +16,8 @@ pub fn page(series: &[Series], samples: usize, seed: u64) -> String {
     format!(
         "# Speed\n\n\
          The proved library and the reference, on the same inputs (seed {seed}), one thread, timed in turn in one run by\n\
-         the time that the thread had a processor: the least of {samples} samples, of {FEWEST} or more where they would take over 10\n\
-         seconds, and of one or two where one takes that long. A ratio is the library's time by another's: below 1 the\n\
+         the time that the thread had a processor: the least of {samples} samples, of {FEWEST} or more of a side whose samples would\n\
+         take over 10 seconds, and of one or two where one takes that long. A ratio is the library's time by another's: below 1 the\n\
          library is faster. {counts}\n\n\
          Made by `cargo run --release -p bench -- --write{option}` in rust/:\n\n{}\n\
          ![Ratios over size](bench.svg)\n\n\
@@ -31,10 +31,12 @@ pub fn page(series: &[Series], samples: usize, seed: u64) -> String {
 
 /// The tables of what was measured, each under its heading.
 pub fn tables(series: &[Series]) -> String {
-    let parts = [("Builds", BUILDS, builds(series)), ("Walks", WALKS, walks(series))];
+    let parts = [("Builds", BUILDS, lists(series, Kind::Build, "boxes", "box")), ("Walks", WALKS, walks(series))];
     let more = [
         ("Queries", QUERIES, queries(series)),
         ("Polygons", POLYGONS, calls(series, Kind::Polygon, "operation", "polygons")),
+        ("Octants", OCTANTS, lists(series, Kind::Octants, "vertices", "vertex")),
+        ("Composites", COMPOSITES, lists(series, Kind::Composite, "children", "child")),
         ("Steps", STEPS, calls(series, Kind::Step, "step", "calls")),
     ];
     let whole = |(title, text, table): &(&str, &str, String)| match table.is_empty() {
@@ -74,6 +76,19 @@ random seed, hash maps anew. Box (over 32,768 vertices), read and write are a ca
 it. Times and instructions are those of one polygon.
 ";
 
+const OCTANTS: &str = "\
+All eight lists: of the library a call of `bounds::octants::calculate_octants_in`, into buffers that are lent again and
+again; of the reference its `calculate_octants`. Random vertices lie in a cube; in the plane (x + y + z = 0) and on the
+line (t, t, -t) few shadow one another, nor do NaN, and the reference looks through all that it has kept for each
+vertex. Instructions are those of one vertex.
+";
+
+const COMPOSITES: &str = "\
+Of the library `bounds::composite::child_boxes` and `composite_tree`, from children to bytes; of the reference its
+`Composite::prepare`, which makes lists of flags and transforms too, and its records not yet bytes. The children are
+boxes of 1 to 10, turned, and placed over 400. Instructions are those of one child.
+";
+
 const STEPS: &str = "\
 A step of the library is a call into it; the reference's is compiled into the loop. A processor learns the branches of
 1,000 inputs, not those of 100,000. Times and instructions are those of one call.
@@ -87,6 +102,12 @@ fn head(left: &str, columns: &[&str]) -> String {
 
 fn cell(value: Option<f64>, digits: usize) -> String {
     value.map_or("–".to_string(), |x| format!("{x:.digits$}"))
+}
+
+/// The library's time by another's; of a very small one two digits that say something.
+fn ratio(r: &Row, to: Side) -> String {
+    let ratio = r.ratio(to);
+    cell(ratio, if ratio.is_some_and(|ratio| ratio < 0.01) { 4 } else { 2 })
 }
 
 fn row(left: &str, cells: &[String]) -> String {
@@ -110,7 +131,7 @@ fn counted(series: &[Series], kind: Kind) -> bool {
     series.iter().any(|s| s.subject.kind == kind && s.rows.iter().any(|r| !r.instructions.is_empty()))
 }
 
-fn with_instructions(names: &[&'static str], sides: &[Side], counted: bool) -> Vec<&'static str> {
+fn with_instructions<'a>(names: &[&'a str], sides: &[Side], counted: bool) -> Vec<&'a str> {
     let column = |side: &Side| match side {
         Side::Library => "instructions",
         Side::Reference => "reference's",
@@ -127,14 +148,16 @@ fn instructions(r: &Row, sides: &[Side], counted: bool) -> Vec<String> {
 const BOTH: [Side; 2] = [Side::Library, Side::Reference];
 const THREE: [Side; 3] = [Side::Library, Side::Plain, Side::Tuned];
 
-fn builds(series: &[Series]) -> String {
-    let counted = counted(series, Kind::Build);
-    let names = ["boxes", "library, µs", "reference, µs", "library, ns a box", "ratio"];
+/// Times of whole lists, and of one of what they hold, beside the reference's.
+fn lists(series: &[Series], kind: Kind, size: &str, one: &str) -> String {
+    let counted = counted(series, kind);
+    let each = format!("library, ns a {one}");
+    let names = [size, "library, µs", "reference, µs", &each, "ratio"];
     let head = head("list", &with_instructions(&names, &BOTH, counted));
-    rows(series, Kind::Build, head, |name, r| {
+    rows(series, kind, head, |name, r| {
         let micros = |side| cell(r.time(side).map(|t| t / 1e3), 1);
         let mut cells = vec![r.size.to_string(), micros(Side::Library), micros(Side::Reference)];
-        cells.extend([cell(r.each(Side::Library), 1), cell(r.ratio(Side::Reference), 2)]);
+        cells.extend([cell(r.each(Side::Library), 1), ratio(r, Side::Reference)]);
         cells.extend(instructions(r, &BOTH, counted));
         Some(row(name, &cells))
     })
@@ -147,7 +170,7 @@ fn walks(series: &[Series]) -> String {
     rows(series, Kind::Walk, head, |name, r| {
         let mut cells = vec![r.size.to_string()];
         cells.extend(THREE.map(|side| cell(r.each(side), 2)));
-        cells.extend([Side::Plain, Side::Tuned].map(|side| cell(r.ratio(side), 2)));
+        cells.extend([Side::Plain, Side::Tuned].map(|side| ratio(r, side)));
         cells.extend(instructions(r, &THREE, counted));
         Some(row(name, &cells))
     })
@@ -169,12 +192,12 @@ fn queries(series: &[Series]) -> String {
 /// Times of one polygon or call beside the reference's.
 fn calls(series: &[Series], kind: Kind, left: &str, size: &str) -> String {
     let counted = counted(series, kind);
-    let names = ["library, ns", "reference, ns", "ratio"];
-    let head = head(left, &[&[size], &with_instructions(&names, &BOTH, counted)[..]].concat());
+    let names = [size, "library, ns", "reference, ns", "ratio"];
+    let head = head(left, &with_instructions(&names, &BOTH, counted));
     rows(series, kind, head, |name, r| {
         let mut cells = vec![r.size.to_string()];
         cells.extend(BOTH.map(|side| cell(r.each(side), 2)));
-        cells.push(cell(r.ratio(Side::Reference), 2));
+        cells.push(ratio(r, Side::Reference));
         cells.extend(instructions(r, &BOTH, counted));
         Some(row(name, &cells))
     })

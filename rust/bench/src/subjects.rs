@@ -1,16 +1,16 @@
 //! What is timed: the sides of an operation over the same inputs.
 
 use crate::lists::{self, inputs, spread, Tame};
-use crate::{polygons, walks};
+use crate::{composites, octants, polygons, walks};
 use bounds::bvh::{build_bvh, records_len, work_len, BvhItem};
 use bounds::{float, math, Mat4, Vec3};
 use oracle::{float as source, math as reference, tree, Aabb};
+use std::cell::Cell;
 use std::hint::black_box;
-use std::sync::atomic::{AtomicUsize, Ordering};
-use std::sync::Arc;
+use std::rc::Rc;
 
 /// Goes once over all inputs.
-pub type Pass = Box<dyn FnMut() + Send>;
+pub type Pass = Box<dyn FnMut()>;
 
 #[derive(Clone, Copy, Debug, PartialEq, Eq)]
 pub enum Side {
@@ -42,6 +42,8 @@ pub enum Kind {
     Build,
     Walk,
     Polygon,
+    Octants,
+    Composite,
     Step,
 }
 
@@ -58,7 +60,7 @@ pub struct Subject {
 
 pub struct Work {
     pub passes: Vec<(Side, Pass)>,
-    /// What a pass does: so many boxes, records, polygons or calls.
+    /// What a pass does: so many boxes, records, polygons, vertices, children or calls.
     pub units: usize,
     pub queries: Option<Queries>,
 }
@@ -89,27 +91,28 @@ pub fn vec3(p: [f32; 3]) -> Vec3 {
 fn builds(boxes: Vec<Aabb>, threshold: u32) -> Work {
     let n = boxes.len();
     let items: Vec<Option<Aabb>> = boxes.iter().copied().map(Some).collect();
-    let mut theirs = tree::builder(&items, threshold as usize);
+    let theirs = tree::builder(&items, threshold as usize);
     let items: Vec<BvhItem> = boxes.into_iter().map(|b| BvhItem::new(vec3(b.min), vec3(b.max))).collect();
     let (mut nodes, mut trees) = (vec![0; records_len(n)], vec![0; records_len(n)]);
     let (mut order, mut work) = (vec![0; n], vec![0; work_len(n)]);
-    let mut ours = move || {
+    let ours = move || {
         let built = build_bvh(black_box(&items), threshold, &mut nodes, &mut trees, &mut order, &mut work);
         built.expect("a list within the limits").nodes_count as usize
     };
-    let agreed = Arc::new(AtomicUsize::new(0));
-    let also = agreed.clone();
-    let passes: [(Side, Pass); 2] = [
-        (Side::Library, Box::new(move || agree(&agreed, ours()))),
-        (Side::Reference, Box::new(move || agree(&also, theirs()))),
-    ];
-    Work { passes: passes.into(), units: n, queries: None }
+    agreeing(ours, theirs, n)
 }
 
-/// All builds of a list have as many nodes.
-fn agree(before: &AtomicUsize, nodes: usize) {
-    let before = before.swap(black_box(nodes), Ordering::Relaxed);
-    assert!(before == 0 || before == nodes, "the same tree: {before} nodes, {nodes}");
+/// The two sides, each of which answers a number: nodes of a tree or indices in all. They are the same at each pass.
+pub fn agreeing(ours: impl FnMut() -> usize + 'static, theirs: impl FnMut() -> usize + 'static, units: usize) -> Work {
+    fn pass(mut side: impl FnMut() -> usize + 'static, agreed: Rc<Cell<Option<usize>>>) -> Pass {
+        Box::new(move || {
+            let answer = black_box(side());
+            assert_eq!(agreed.replace(Some(answer)).unwrap_or(answer), answer, "the same tree or lists");
+        })
+    }
+    let agreed = Rc::default();
+    let passes = [(Side::Library, pass(ours, Rc::clone(&agreed))), (Side::Reference, pass(theirs, agreed))];
+    Work { passes: passes.into(), units, queries: None }
 }
 
 /// One call after another: `black_box` keeps the compiler from taking several at once, or none.
@@ -131,7 +134,8 @@ fn calls<T: Copy + Send + 'static, A, B>(
 }
 
 pub fn all() -> Vec<Subject> {
-    builds_of_lists().into_iter().chain(walks::all()).chain(polygons::all()).chain(steps()).collect()
+    let lists = builds_of_lists().into_iter().chain(walks::all()).chain(polygons::all());
+    lists.chain(octants::all()).chain(composites::all()).chain(steps()).collect()
 }
 
 fn builds_of_lists() -> Vec<Subject> {

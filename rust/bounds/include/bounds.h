@@ -135,21 +135,29 @@ static inline size_t bounds_part(size_t least, size_t *left) {
     return part;
 }
 
-/* bounds_build_bvh in one work buffer, of which bounds_work_len(n) words are needed: each part gets its length or what
- * is left, and the last all that is left. */
+/* Where the six parts of a build's work buffer begin, and where the last one ends: each part gets its length or what is
+ * left, and the last all that is left. */
+static inline void bounds_build_parts(size_t entry_count, size_t work_len, size_t at[7]) {
+    size_t n = entry_count < 32767 ? entry_count : 32767, left = work_len;
+    const size_t least[5] = {7 * n, n, n, n, 8 * (2 * n + 1)};
+    at[0] = 0;
+    for (int i = 0; i < 5; i++)
+        at[i + 1] = at[i] + bounds_part(least[i], &left);
+    at[6] = work_len;
+}
+
+/* bounds_build_bvh in one work buffer, of which bounds_work_len(n) words are needed. */
 static inline bounds_build_answer bounds_build_bvh_in(const bounds_item *items, size_t item_count, uint32_t threshold,
                                                       uint8_t *node_bytes, size_t node_bytes_len,
                                                       uint8_t *tree_bytes, size_t tree_bytes_len,
                                                       uint16_t *order, size_t order_len,
                                                       uint32_t *work, size_t work_len) {
-    size_t n = item_count < 32767 ? item_count : 32767, left = work_len;
-    size_t entries = bounds_part(7 * n, &left), places = bounds_part(n, &left);
-    size_t temp = bounds_part(n, &left), stack = bounds_part(n, &left), rows = bounds_part(8 * (2 * n + 1), &left);
-    uint32_t *places_at = work + entries, *temp_at = places_at + places, *stack_at = temp_at + temp;
-    uint32_t *rows_at = stack_at + stack;
-    return bounds_build_bvh(items, item_count, threshold, node_bytes, node_bytes_len, tree_bytes, tree_bytes_len, order,
-                            order_len, work, entries, places_at, places, temp_at, temp, stack_at, stack,
-                            rows_at, rows, (float *)(rows_at + rows), left);
+    size_t at[7];
+    bounds_build_parts(item_count, work_len, at);
+    return bounds_build_bvh(items, item_count, threshold, node_bytes, node_bytes_len, tree_bytes, tree_bytes_len,
+                            order, order_len, work, at[1], work + at[1], at[2] - at[1], work + at[2], at[3] - at[2],
+                            work + at[3], at[4] - at[3], work + at[4], at[5] - at[4],
+                            (float *)(work + at[5]), at[6] - at[5]);
 }
 
 /* Writes the 128 bytes of a tree's header. Refusals 1 (over 65,535 trees), 2 (under 128 bytes), in this order. */
@@ -276,6 +284,104 @@ bounds_materials_answer bounds_build_materials(size_t polygon_count, const uint8
 bounds_vec3 bounds_quantum(bounds_aabb b);
 bounds_vertex bounds_stored_vertex(bounds_vec3 v, bounds_vec3 quantum);
 bounds_vec3 bounds_read_back(bounds_vertex v, bounds_vec3 quantum);
+
+/* ---- octants ----
+ *
+ * Of eight directions (bits 0, 1 and 2 of its number turn x, y and z around) the vertices that no other one shadows.
+ * Vertex b shadows a where on each axis b - a, times -1 if the axis is turned, is at least 0; of vertices that shadow
+ * one another the first is listed. A NaN shadows nothing and is not shadowed, and two equal infinities do not shadow
+ * one another.
+ */
+
+typedef struct {
+    uint32_t refusal;
+    uint32_t c0, c1, c2, c3, c4, c5, c6, c7;  /* indices in each list; 0 where refused */
+} bounds_octants_answer;
+
+/* Words of keys, rows, order, temp and marks together for so many vertices: 10 each. */
+uint64_t bounds_octants_work_len(uint32_t vertices);
+
+/* Lists the octants' vertices, of three words each. Refusals 1 (over 32,768 vertices), 2, in this order. Of n vertices
+ * list k, rising, begins at word k * n of `lists`, of which 8n are needed; the other words stay as they were. What these
+ * hold does not matter, nor what they hold afterwards:
+ *   keys   3n are needed
+ *   rows   4n
+ *   order  n
+ *   temp   n
+ *   marks  n */
+bounds_octants_answer bounds_calculate_octants(size_t vertex_count, const uint32_t *vertices, size_t vertices_len,
+                                               uint32_t *lists, size_t lists_len, uint32_t *keys, size_t keys_len,
+                                               uint32_t *rows, size_t rows_len, uint32_t *order, size_t order_len,
+                                               uint32_t *temp, size_t temp_len, uint32_t *marks, size_t marks_len);
+
+/* bounds_calculate_octants in one work buffer, of which bounds_octants_work_len(n) words are needed. */
+static inline bounds_octants_answer bounds_calculate_octants_in(size_t vertex_count,
+                                                                const uint32_t *vertices, size_t vertices_len,
+                                                                uint32_t *lists, size_t lists_len,
+                                                                uint32_t *work, size_t work_len) {
+    size_t n = vertex_count < 32768 ? vertex_count : 32768, left = work_len;
+    size_t keys = bounds_part(3 * n, &left), rows = bounds_part(4 * n, &left);
+    size_t order = bounds_part(n, &left), temp = bounds_part(n, &left);
+    uint32_t *rows_at = work + keys, *order_at = rows_at + rows, *temp_at = order_at + order;
+    return bounds_calculate_octants(vertex_count, vertices, vertices_len, lists, lists_len, work, keys, rows_at, rows,
+                                    order_at, order, temp_at, temp, temp_at + temp, left);
+}
+
+/* Writes eight lists of indices as the bytes of a block at this address: eight counts of four bytes; eight pointers of
+ * eight, of list k the address + 96 + 4 * (indices in the lists before k), also where it is empty; the lists, four bytes
+ * an index; 32 zeros. These are 128 + 4 * (all indices), and what lies behind stays as it was. Refusals 1 (a list over
+ * 32,768 indices), 2 (fewer bytes), 12 (address + 96 + 4 * (all indices) over 2^64 - 1), in this order. */
+uint32_t bounds_write_octants(uint64_t address, const uint32_t *l0, size_t l0_len, const uint32_t *l1, size_t l1_len,
+                              const uint32_t *l2, size_t l2_len, const uint32_t *l3, size_t l3_len,
+                              const uint32_t *l4, size_t l4_len, const uint32_t *l5, size_t l5_len,
+                              const uint32_t *l6, size_t l6_len, const uint32_t *l7, size_t l7_len,
+                              uint8_t *out, size_t out_len);
+
+/* ---- composites ----
+ *
+ * A child is 24 words: a mark, 0 for absent; the box's min x, y, z and max x, y, z; the margin; the transform, row after
+ * row.
+ */
+
+typedef struct {
+    uint32_t present;      /* 1, or 0 and a box of zeros */
+    bounds_vec3 min, max;
+} bounds_child_box;
+
+/* Writes 32 bytes a child: min x, y, z, the word 1; max x, y, z, the margin; 32 zeros where it is absent. Words are
+ * copied. What lies behind stays as it was. Refusals 1 (over 32,767 children), 2 (under 24 words or 32 bytes a child), in
+ * this order. */
+uint32_t bounds_child_boxes(size_t child_count, const uint32_t *children, size_t children_len,
+                            uint8_t *out, size_t out_len);
+
+/* The box of child k through its transform, if it is present and has all its 24 words. */
+bounds_child_box bounds_computed_box(const uint32_t *children, size_t children_len, size_t k);
+
+/* The tree over the children's boxes through their transforms, as bounds_build_bvh makes it at threshold 1, with its
+ * buffers. Of at most 5 children, absent ones included, there is none: refusal and all values are 0 (a tree has a node),
+ * and no buffer is looked at. Refusals 1 (over 32,767 children), 2 (under 24 words a child, or a buffer too short), 4
+ * (over 32,767 nodes), in this order. */
+bounds_build_answer bounds_composite_tree(size_t child_count, const uint32_t *children, size_t children_len,
+                                          uint8_t *node_bytes, size_t node_bytes_len,
+                                          uint8_t *tree_bytes, size_t tree_bytes_len, uint16_t *order, size_t order_len,
+                                          uint32_t *entries, size_t entries_len, uint32_t *places, size_t places_len,
+                                          uint32_t *temp, size_t temp_len, uint32_t *stack, size_t stack_len,
+                                          uint32_t *rows, size_t rows_len, float *centres, size_t centres_len);
+
+/* bounds_composite_tree in one work buffer, of which bounds_work_len(n) words are needed. */
+static inline bounds_build_answer bounds_composite_tree_in(size_t child_count,
+                                                           const uint32_t *children, size_t children_len,
+                                                           uint8_t *node_bytes, size_t node_bytes_len,
+                                                           uint8_t *tree_bytes, size_t tree_bytes_len,
+                                                           uint16_t *order, size_t order_len,
+                                                           uint32_t *work, size_t work_len) {
+    size_t at[7];
+    bounds_build_parts(child_count, work_len, at);
+    return bounds_composite_tree(child_count, children, children_len, node_bytes, node_bytes_len,
+                                 tree_bytes, tree_bytes_len, order, order_len, work, at[1],
+                                 work + at[1], at[2] - at[1], work + at[2], at[3] - at[2], work + at[3], at[4] - at[3],
+                                 work + at[4], at[5] - at[4], (float *)(work + at[5]), at[6] - at[5]);
+}
 
 #ifdef __cplusplus
 }

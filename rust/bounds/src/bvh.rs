@@ -171,7 +171,12 @@ pub fn build_bvh(
 ) -> Result<BuiltTree, Refusal> {
     let answer = ffi::build_bvh(items, threshold, node_bytes, tree_bytes, order, cut(work, items.len()));
     Refusal::check(answer.refusal)?;
-    Ok(BuiltTree {
+    Ok(built(&answer))
+}
+
+/// The values of an answer that is no refusal.
+pub(crate) fn built(answer: &ffi::BuildAnswer) -> BuiltTree {
+    BuiltTree {
         nodes_count: answer.nodes as u32,
         nodes_capacity: answer.capacity as u32,
         trees_count: answer.trees as u32,
@@ -181,7 +186,7 @@ pub fn build_bvh(
         bb_center: answer.scale.cen,
         quantum_inverse: answer.scale.inverse,
         quantum: answer.scale.quantum,
-    })
+    }
 }
 
 /// Writes the [`HEADER`] bytes of a tree's header; what lies behind stays as it was.
@@ -215,10 +220,15 @@ pub fn tree_header(out: &mut [u8], bvh: &Bvh) -> Result<(), Refusal> {
 
 /// The work buffer in six parts: entries, places, temp, stack, rows, centres. Each gets its length or what is left, and
 /// the last all that is left: the library then finds a part too short where the whole is.
-fn cut(work: &mut [u32], entries: usize) -> [&mut [u32]; 6] {
+pub(crate) fn cut(work: &mut [u32], entries: usize) -> [&mut [u32]; 6] {
     let n = entries.min(ENTRIES);
-    let mut rest = work;
-    [7 * n, n, n, n, 8 * (2 * n + 1), usize::MAX].map(|len| {
+    parts(work, [7 * n, n, n, n, 8 * (2 * n + 1), usize::MAX])
+}
+
+/// A buffer in parts of these lengths, each of which gets its length or what is left.
+pub(crate) fn parts<const N: usize>(buffer: &mut [u32], lengths: [usize; N]) -> [&mut [u32]; N] {
+    let mut rest = buffer;
+    lengths.map(|len| {
         let whole = std::mem::take(&mut rest);
         let part;
         (part, rest) = whole.split_at_mut(len.min(whole.len()));

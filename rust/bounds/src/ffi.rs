@@ -7,6 +7,7 @@
 #![allow(unsafe_code)]
 
 use crate::bvh::BvhItem;
+use crate::composite::Child;
 use crate::geometry::{BoundMaterial, BoundVertex};
 use crate::math::{Mat4, Vec3, Vec4};
 use crate::walk::Records;
@@ -474,6 +475,227 @@ const _: () = {
     assert!(size_of::<BoundVertex>() == 6 && align_of::<BoundVertex>() == 2);
 };
 
+// ---- octants and composites
+
+/// `bounds_octants_answer`.
+#[derive(Clone, Copy)]
+#[repr(C)]
+pub struct OctantsAnswer {
+    pub refusal: u32,
+    pub counts: [u32; 8],
+}
+
+/// `bounds_child_box`.
+#[derive(Clone, Copy)]
+#[repr(C)]
+pub struct ChildBox {
+    pub present: u32,
+    pub min: Vec3,
+    pub max: Vec3,
+}
+
+unsafe extern "C" {
+    pub safe fn bounds_octants_work_len(vertices: u32) -> u64; // any number; 10 of them stay below 2^64
+
+    // Memory is reached, and only through each pointer and the length behind it: called below, with slices.
+    fn bounds_calculate_octants(
+        vertex_count: usize,
+        vertices: *const u32,
+        vertices_len: usize,
+        lists: *mut u32,
+        lists_len: usize,
+        keys: *mut u32,
+        keys_len: usize,
+        rows: *mut u32,
+        rows_len: usize,
+        order: *mut u32,
+        order_len: usize,
+        temp: *mut u32,
+        temp_len: usize,
+        marks: *mut u32,
+        marks_len: usize,
+    ) -> OctantsAnswer;
+    fn bounds_write_octants(
+        address: u64,
+        l0: *const u32,
+        l0_len: usize,
+        l1: *const u32,
+        l1_len: usize,
+        l2: *const u32,
+        l2_len: usize,
+        l3: *const u32,
+        l3_len: usize,
+        l4: *const u32,
+        l4_len: usize,
+        l5: *const u32,
+        l5_len: usize,
+        l6: *const u32,
+        l6_len: usize,
+        l7: *const u32,
+        l7_len: usize,
+        out: *mut u8,
+        out_len: usize,
+    ) -> u32;
+    fn bounds_child_boxes(
+        child_count: usize,
+        children: *const u32,
+        children_len: usize,
+        out: *mut u8,
+        out_len: usize,
+    ) -> u32;
+    fn bounds_computed_box(children: *const u32, children_len: usize, k: usize) -> ChildBox;
+    fn bounds_composite_tree(
+        child_count: usize,
+        children: *const u32,
+        children_len: usize,
+        node_bytes: *mut u8,
+        node_bytes_len: usize,
+        tree_bytes: *mut u8,
+        tree_bytes_len: usize,
+        order: *mut u16,
+        order_len: usize,
+        entries: *mut u32,
+        entries_len: usize,
+        places: *mut u32,
+        places_len: usize,
+        temp: *mut u32,
+        temp_len: usize,
+        stack: *mut u32,
+        stack_len: usize,
+        rows: *mut u32,
+        rows_len: usize,
+        centres: *mut f32,
+        centres_len: usize,
+    ) -> BuildAnswer;
+}
+
+/// `bounds_calculate_octants`; what it works in is lent in five parts: keys, rows, order, temp and marks.
+pub fn calculate_octants(
+    vertex_count: usize,
+    vertices: &[u32],
+    lists: &mut [u32],
+    [keys, rows, order, temp, marks]: [&mut [u32]; 5],
+) -> OctantsAnswer {
+    // SAFETY: each pointer comes from a slice and goes with that slice's length, and all its cells are initialised. The
+    // vertices are only read; the others, being exclusive borrows, overlap neither them nor one another. The count may be
+    // any number: the library reaches vertices and lists only where it found the slices long enough for them.
+    unsafe {
+        bounds_calculate_octants(
+            vertex_count,
+            vertices.as_ptr(),
+            vertices.len(),
+            lists.as_mut_ptr(),
+            lists.len(),
+            keys.as_mut_ptr(),
+            keys.len(),
+            rows.as_mut_ptr(),
+            rows.len(),
+            order.as_mut_ptr(),
+            order.len(),
+            temp.as_mut_ptr(),
+            temp.len(),
+            marks.as_mut_ptr(),
+            marks.len(),
+        )
+    }
+}
+
+/// `bounds_write_octants`.
+pub fn write_octants(address: u64, lists: [&[u32]; 8], out: &mut [u8]) -> u32 {
+    let [l0, l1, l2, l3, l4, l5, l6, l7] = lists;
+    // SAFETY: each pointer comes from a slice and goes with that slice's length. The lists are only read, and may be one
+    // another's; the output, an exclusive borrow, overlaps none of them. Any address will do: it is a number.
+    unsafe {
+        bounds_write_octants(
+            address,
+            l0.as_ptr(),
+            l0.len(),
+            l1.as_ptr(),
+            l1.len(),
+            l2.as_ptr(),
+            l2.len(),
+            l3.as_ptr(),
+            l3.len(),
+            l4.as_ptr(),
+            l4.len(),
+            l5.as_ptr(),
+            l5.len(),
+            l6.as_ptr(),
+            l6.len(),
+            l7.as_ptr(),
+            l7.len(),
+            out.as_mut_ptr(),
+            out.len(),
+        )
+    }
+}
+
+/// The children's words, 24 each, as they lie in memory.
+pub fn child_words(children: &[Child]) -> &[u32] {
+    // SAFETY: a child is `repr(C)`, a u32 and 23 f32, 96 bytes without padding and aligned as a u32 is (checked below),
+    // and each pattern of a float's bits is a u32. The words are borrowed for as long as the children.
+    unsafe { std::slice::from_raw_parts(children.as_ptr().cast(), 24 * children.len()) }
+}
+
+/// `bounds_child_boxes`.
+pub fn child_boxes(child_count: usize, children: &[u32], out: &mut [u8]) -> u32 {
+    // SAFETY: each pointer comes from a slice and goes with that slice's length; the output, an exclusive borrow, does
+    // not overlap the children, which are only read. The count may be any number: the library reaches children and bytes
+    // only where it found the slices long enough for them.
+    unsafe { bounds_child_boxes(child_count, children.as_ptr(), children.len(), out.as_mut_ptr(), out.len()) }
+}
+
+/// `bounds_computed_box`.
+pub fn computed_box(children: &[u32], k: usize) -> ChildBox {
+    // SAFETY: the pointer comes from a slice, which is only read, and goes with its length. Any number will do: the
+    // library reads a child only where the slice has all its words.
+    unsafe { bounds_computed_box(children.as_ptr(), children.len(), k) }
+}
+
+/// `bounds_composite_tree`; what it works in is lent in the six parts of [`build_bvh`].
+pub fn composite_tree(
+    child_count: usize,
+    children: &[u32],
+    node_bytes: &mut [u8],
+    tree_bytes: &mut [u8],
+    order: &mut [u16],
+    [entries, places, temp, stack, rows, centres]: [&mut [u32]; 6],
+) -> BuildAnswer {
+    // SAFETY: as for `build_bvh`, the children being only read. The count may be any number: the library reaches children
+    // only where it found the slice long enough for them.
+    unsafe {
+        bounds_composite_tree(
+            child_count,
+            children.as_ptr(),
+            children.len(),
+            node_bytes.as_mut_ptr(),
+            node_bytes.len(),
+            tree_bytes.as_mut_ptr(),
+            tree_bytes.len(),
+            order.as_mut_ptr(),
+            order.len(),
+            entries.as_mut_ptr(),
+            entries.len(),
+            places.as_mut_ptr(),
+            places.len(),
+            temp.as_mut_ptr(),
+            temp.len(),
+            stack.as_mut_ptr(),
+            stack.len(),
+            rows.as_mut_ptr(),
+            rows.len(),
+            centres.as_mut_ptr().cast::<f32>(),
+            centres.len(),
+        )
+    }
+}
+
+const _: () = {
+    assert!(size_of::<OctantsAnswer>() == 36 && align_of::<OctantsAnswer>() == 4);
+    assert!(size_of::<Child>() == 96 && align_of::<Child>() == 4);
+    assert!(size_of::<ChildBox>() == 28 && align_of::<ChildBox>() == 4);
+};
+
 #[cfg(test)]
 mod tests {
     use super::*;
@@ -531,5 +753,111 @@ mod tests {
         assert_eq!(answer(32_767, 7 * ENTRIES), (2, 0, 0));
         assert_eq!(answer(32_768, 7 * ENTRIES), (1, 0, 0));
         assert_eq!(answer(usize::MAX, 7 * ENTRIES), (1, 0, 0));
+    }
+
+    /// Vertices, lists, keys, rows, order, temp and marks of so many vertices.
+    fn octant_lengths(n: usize) -> [usize; 7] {
+        [3 * n, 8 * n, 3 * n, 4 * n, n, n, n]
+    }
+
+    fn octants(n: usize, lengths: [usize; 7]) -> (OctantsAnswer, Vec<u32>) {
+        let mut buffers = lengths.map(|len| vec![7; len]);
+        let [vertices, lists, work @ ..] = buffers.each_mut().map(|part| &mut part[..]);
+        (calculate_octants(n, vertices, lists, work), buffers[1].clone())
+    }
+
+    #[test]
+    fn each_buffer_of_octants_is_checked() {
+        const VERTICES: usize = 3;
+        let lengths = octant_lengths(VERTICES);
+        let (answer, lists) = octants(VERTICES, lengths);
+        assert_eq!((answer.refusal, answer.counts), (0, [1; 8]), "of equal vertices the first");
+        for at in 0..lengths.len() {
+            let (mut longer, mut shorter) = (lengths, lengths);
+            longer[at] += 1;
+            let (same, same_lists) = octants(VERTICES, longer);
+            assert_eq!((same.refusal, same.counts, &same_lists[..24]), (0, [1; 8], &lists[..]), "buffer {at} longer");
+            assert!(same_lists[24..].iter().all(|&word| word == 7), "what lies behind stays");
+            shorter[at] -= 1;
+            let (refused, untouched) = octants(VERTICES, shorter);
+            assert_eq!((refused.refusal, refused.counts), (2, [0; 8]), "buffer {at} shorter");
+            assert!(untouched.iter().all(|&word| word == 7), "buffer {at} shorter");
+        }
+        assert_eq!(lengths[2..].iter().sum::<usize>() as u64, bounds_octants_work_len(VERTICES as u32));
+    }
+
+    #[test]
+    fn octants_are_refused_by_their_number_first() {
+        for n in [32_769, usize::MAX / 8, usize::MAX] {
+            assert_eq!(octants(n, [0; 7]).0.refusal, 1, "{n}");
+        }
+        assert_eq!(octants(32_768, [0; 7]).0.refusal, 2);
+        assert_eq!(octants(0, [0; 7]).0.refusal, 0);
+    }
+
+    const CHILDREN: usize = 6;
+    /// Children, nodes, trees, order, and the parts of the work buffer.
+    const COMPOSITE: [usize; 10] = [
+        24 * CHILDREN,
+        16 * (2 * CHILDREN + 1),
+        16 * (2 * CHILDREN + 1),
+        CHILDREN,
+        7 * CHILDREN,
+        CHILDREN,
+        CHILDREN,
+        CHILDREN,
+        8 * (2 * CHILDREN + 1),
+        4 * CHILDREN,
+    ];
+
+    fn composite(n: usize, lengths: [usize; 10]) -> (BuildAnswer, [Vec<u8>; 2], Vec<u16>) {
+        let [children, nodes, trees, order, work @ ..] = lengths;
+        let (children, mut records) = (vec![1; children], [vec![7; nodes], vec![7; trees]]);
+        let (mut order, mut work) = (vec![7; order], work.map(|len| vec![0; len]));
+        let work = work.each_mut().map(|part| &mut part[..]);
+        let [nodes, trees] = &mut records;
+        let built = composite_tree(n, &children, nodes, trees, &mut order, work);
+        (built, records, order)
+    }
+
+    fn untouched((_, records, order): &(BuildAnswer, [Vec<u8>; 2], Vec<u16>)) -> bool {
+        records.iter().flatten().all(|&byte| byte == 7) && order.iter().all(|&place| place == 7)
+    }
+
+    #[test]
+    fn each_buffer_of_a_composite_is_checked_above_five_children() {
+        let built = composite(CHILDREN, COMPOSITE);
+        assert_eq!((built.0.refusal, built.0.nodes, built.0.capacity, built.0.present), (0, 11, 13, 6));
+        for at in 0..COMPOSITE.len() {
+            let (mut longer, mut shorter) = (COMPOSITE, COMPOSITE);
+            longer[at] += 1;
+            assert_eq!(composite(CHILDREN, longer).0.refusal, 0, "buffer {at} longer");
+            shorter[at] -= 1;
+            let refused = composite(CHILDREN, shorter);
+            assert_eq!((refused.0.refusal, refused.0.nodes), (2, 0), "buffer {at} shorter");
+            assert!(untouched(&refused), "buffer {at} shorter");
+        }
+        let none = composite(CHILDREN - 1, [3; 10]);
+        assert_eq!((none.0.refusal, none.0.nodes, none.0.capacity, none.0.trees), (0, 0, 0, 0));
+        assert!(untouched(&none));
+        for (n, refusal) in [(0, 0), (5, 0), (6, 2), (32_767, 2), (32_768, 1), (usize::MAX, 1)] {
+            assert_eq!(composite(n, [0; 10]).0.refusal, refusal, "{n} children");
+        }
+    }
+
+    #[test]
+    fn children_are_read_only_where_they_are_whole() {
+        let words = [1; 48];
+        let boxes = |n, len, room| {
+            let mut out = vec![7; room];
+            let refusal = child_boxes(n, &words[..len], &mut out);
+            assert!(refusal == 0 || out.iter().all(|&byte| byte == 7));
+            refusal
+        };
+        assert_eq!((boxes(2, 48, 64), boxes(2, 47, 64), boxes(2, 48, 63)), (0, 2, 2));
+        assert_eq!((boxes(0, 0, 0), boxes(32_767, 0, 0), boxes(32_768, 0, 0), boxes(usize::MAX, 48, 64)), (0, 2, 1, 1));
+        let present = |len, k| computed_box(&words[..len], k).present;
+        assert_eq!((present(48, 0), present(48, 1), present(47, 1), present(48, 2)), (1, 1, 0, 0));
+        assert_eq!((present(0, 0), present(48, usize::MAX), present(48, usize::MAX / 24)), (0, 0, 0));
     }
 }

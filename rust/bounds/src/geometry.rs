@@ -12,6 +12,7 @@
 //! # Ok::<(), bounds::Refusal>(())
 //! ```
 
+use crate::bvh::parts;
 use crate::ffi::{self, PolygonC};
 use crate::{BvhItem, Refusal, Vec3};
 
@@ -198,13 +199,7 @@ pub fn update_edge_indices(polygons: &mut [u8], n: usize, work: &mut [u32]) -> R
 /// all that is left: the library then finds a part too short where the whole is.
 fn cut(work: &mut [u32], polygons: usize) -> [&mut [u32]; 5] {
     let part = 3 * polygons.min(32_767);
-    let mut rest = work;
-    [part, part, part, part, usize::MAX].map(|len| {
-        let whole = std::mem::take(&mut rest);
-        let part;
-        (part, rest) = whole.split_at_mut(len.min(whole.len()));
-        part
-    })
+    parts(work, [part, part, part, part, usize::MAX])
 }
 
 /// A material of a geometry.

@@ -6,7 +6,9 @@
 //! - [`float`]: one float step each, on values and on words (a float's 32 bits).
 //! - [`math`]: points, boxes and transforms.
 //! - [`bvh`]: the tree over a list of boxes, and its header.
+//! - [`composite`]: a composite's children, their boxes and the tree over them.
 //! - [`geometry`]: polygons, their links and materials, stored vertices.
+//! - [`octants`]: the vertices of a geometry that no other one shadows, in eight directions.
 //! - [`premises`]: whether a list meets what the walk's promise asks.
 //! - [`walk`](mod@walk): the walk over a tree's records.
 //! - [`refusal`]: what an operation turns down, by its number and in words.
@@ -14,16 +16,20 @@
 #![warn(missing_docs)]
 
 pub mod bvh;
+pub mod composite;
 mod ffi;
 pub mod float;
 pub mod geometry;
 pub mod math;
+pub mod octants;
 pub mod premises;
 pub mod refusal;
 pub mod walk;
 
 pub use bvh::{build_bvh, tree_header, BuiltTree, Bvh, BvhItem};
+pub use composite::{Child, Composite};
 pub use geometry::{build_materials, polygon_items, update_edge_indices, BoundMaterial, BoundVertex, Polygon};
 pub use math::{Mat4, Vec3, Vec4};
+pub use octants::{calculate_octants, Octants};
 pub use premises::ordinary;
 pub use refusal::Refusal;

@@ -150,7 +150,7 @@ impl Vec4 {
 impl Mat4 {
     /// The transform that leaves finite points where they are.
     #[inline]
-    pub fn identity() -> Mat4 {
+    pub const fn identity() -> Mat4 {
         Mat4([1.0, 0.0, 0.0, 0.0, 0.0, 1.0, 0.0, 0.0, 0.0, 0.0, 1.0, 0.0, 0.0, 0.0, 0.0, 1.0])
     }
 

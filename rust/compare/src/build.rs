@@ -89,7 +89,7 @@ pub fn run(seed: u64, cases: u64) -> Line {
 }
 
 /// Bytes, bytes, places and words that the buffers have to have.
-fn needed(entries: usize) -> [usize; 4] {
+pub(crate) fn needed(entries: usize) -> [usize; 4] {
     [records_len(entries), records_len(entries), entries, work_len(entries)]
 }
 
@@ -122,7 +122,7 @@ fn differs(case: &Case, theirs: &Result<Built, u32>, seed: u64) -> Result<(), St
     work.check_guards().map_err(|e| format!("work buffer: {e}"))?;
     let (node_bytes, tree_bytes, places): (&[u8], &[u8], Vec<u16>) = match (&answer, theirs) {
         (Ok(ours), Ok(theirs)) => {
-            values(ours, theirs, case)?;
+            values(ours, theirs, case.items.iter().flatten().count(), f32::to_bits)?;
             (&theirs.node_bytes, &theirs.tree_bytes, theirs.order.iter().map(|&place| place as u16).collect())
         }
         (Err(ours), Err(theirs)) if ours.number() == *theirs => (&[], &[], Vec::new()),
@@ -138,21 +138,21 @@ pub(crate) fn ours(item: Option<Aabb>) -> BvhItem {
     BvhItem::from(item.map(|b| [vec3(b.min), vec3(b.max)]))
 }
 
-fn vec3(p: [f32; 3]) -> Vec3 {
+pub(crate) fn vec3(p: [f32; 3]) -> Vec3 {
     Vec3::new(p[0], p[1], p[2])
 }
 
-/// The box is copied: its bits. The rest was made: any NaN is one.
-fn values(ours: &BuiltTree, theirs: &Built, case: &Case) -> Result<(), String> {
-    let present = case.items.iter().flatten().count();
+/// The values of a tree over so many present items. The box is copied from theirs, and `of_box` is what counts of its floats:
+/// all bits, where they were given. The rest was made: any NaN is one.
+pub(crate) fn values(ours: &BuiltTree, theirs: &Built, present: usize, of_box: fn(f32) -> u32) -> Result<(), String> {
     let counts = [ours.nodes_count, ours.nodes_capacity, ours.trees_count, ours.items_count];
     let expected = [theirs.nodes_count, theirs.nodes.len(), theirs.trees.len(), present];
     if counts.map(|n| n as usize) != expected {
         return Err(format!("nodes, capacity, trees, items: {counts:?}, expected {expected:?}"));
     }
     let floats = [
-        ("min", ours.bb_min, theirs.min, f32::to_bits as fn(f32) -> u32),
-        ("max", ours.bb_max, theirs.max, f32::to_bits),
+        ("min", ours.bb_min, theirs.min, of_box),
+        ("max", ours.bb_max, theirs.max, of_box),
         ("cen", ours.bb_center, theirs.cen, made),
         ("inverse", ours.quantum_inverse, theirs.inverse, made),
         ("quantum", ours.quantum, theirs.quantum, made),

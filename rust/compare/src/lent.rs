@@ -48,22 +48,37 @@ impl<T: Cell> Lent<T> {
     /// `Err` with the first cell that is neither as `written` says (from the buffer's start) nor as it was before.
     /// A refusal is checked with nothing written.
     pub fn check(&self, written: &[T]) -> Result<(), String> {
+        self.check_parts(&[(0, written)])
+    }
+
+    /// Likewise where parts were written, each from its place on; they rise and do not overlap.
+    pub fn check_parts(&self, written: &[(usize, &[T])]) -> Result<(), String> {
         let len = self.cells.len() - 2 * GUARD;
-        if written.len() > len {
-            return Err(format!("{} cells are to be written, {len} were lent", written.len()));
-        }
-        for (i, &cell) in self.cells.iter().enumerate() {
-            let at = i as isize - GUARD as isize;
-            let expected = i.checked_sub(GUARD).and_then(|at| written.get(at).copied());
-            let (expected, what) = match expected {
-                Some(value) => (value, "written"),
-                None => (pattern(self.seed, i), "untouched"),
-            };
-            if cell != expected {
-                return Err(format!("cell {at} of {len} holds {cell:?}, expected {expected:?} ({what})"));
+        let mut from = 0;
+        for (at, part) in written {
+            self.untouched(from, GUARD + at)?;
+            let end = at + part.len();
+            if end > len {
+                return Err(format!("{end} cells are to be written, {len} were lent"));
             }
+            if let Some(i) = (0..part.len()).find(|&i| self.cells[GUARD + at + i] != part[i]) {
+                return Err(self.wrong(GUARD + at + i, part[i], "written"));
+            }
+            from = GUARD + end;
         }
-        Ok(())
+        self.untouched(from, self.cells.len())
+    }
+
+    fn untouched(&self, from: usize, to: usize) -> Result<(), String> {
+        match (from..to).find(|&i| self.cells[i] != pattern(self.seed, i)) {
+            Some(i) => Err(self.wrong(i, pattern(self.seed, i), "untouched")),
+            None => Ok(()),
+        }
+    }
+
+    fn wrong(&self, i: usize, expected: T, what: &str) -> String {
+        let (at, len) = (i as isize - GUARD as isize, self.cells.len() - 2 * GUARD);
+        format!("cell {at} of {len} holds {:?}, expected {expected:?} ({what})", self.cells[i])
     }
 }
 
@@ -91,6 +106,20 @@ mod tests {
         lent.buffer()[4] ^= 1;
         assert!(lent.check(&[7, 8]).is_err(), "a cell past what was written");
         assert_eq!(lent.check_guards(), Ok(()));
+    }
+
+    #[test]
+    fn parts_are_checked_and_what_lies_between() {
+        let mut lent = Lent::<u32>::new(6, 5);
+        lent.buffer()[0] = 1;
+        lent.buffer()[3..5].copy_from_slice(&[2, 3]);
+        assert_eq!(lent.check_parts(&[(0, &[1]), (2, &[]), (3, &[2, 3])]), Ok(()));
+        assert!(lent.check_parts(&[(0, &[1]), (3, &[2])]).is_err(), "a cell too many");
+        assert!(lent.check_parts(&[(0, &[1]), (3, &[2, 4])]).is_err());
+        assert!(lent.check_parts(&[(3, &[2, 3])]).is_err(), "a cell before");
+        assert!(lent.check_parts(&[(5, &[0, 0])]).is_err(), "more than was lent");
+        lent.buffer()[2] ^= 1;
+        assert!(lent.check_parts(&[(0, &[1]), (3, &[2, 3])]).is_err(), "a cell between");
     }
 
     #[test]

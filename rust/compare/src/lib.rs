@@ -9,12 +9,16 @@
 //!   queries of [`queries`].
 //! - [`polygons`], [`meshes`], [`vertices`]: polygon records and boxes, materials and links, stored vertices. The tests
 //!   hold [`plain`], the same steps in plain Rust, against the reference too.
+//! - [`octants`], over what [`points`] makes, and [`composites`].
 //! - [`exhaustive`]: operations of one word over all 2^32.
 //! - [`vectors`]: a sample of the reference's answers as a text file.
+//! - [`clock`]: the time that a thread had a processor.
 //! - [`lent`]: buffers for operations that write into what they are lent.
 
 pub mod build;
 pub mod check;
+pub mod clock;
+pub mod composites;
 pub mod deep;
 pub mod exhaustive;
 pub mod header;
@@ -22,9 +26,11 @@ pub mod inputs;
 pub mod lent;
 pub mod lists;
 pub mod meshes;
+pub mod octants;
 pub mod operation;
 pub mod pairs;
 pub mod plain;
+pub mod points;
 pub mod polygons;
 pub mod promises;
 pub mod proved;

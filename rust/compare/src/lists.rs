@@ -122,7 +122,8 @@ impl Lists {
         }
     }
 
-    fn slack(&mut self) -> [isize; 4] {
+    /// By how much the buffers differ from what they need: seldom, and seldom too short.
+    pub fn slack(&mut self) -> [isize; 4] {
         let r = &mut self.random;
         let mut slack = [0; 4];
         match r.below(32) {

@@ -1,24 +1,29 @@
 //! `compare [OP..] [--seed S] [--cases N] [--stride N] [--threads N] [--write-vectors FILE]`
 //!
 //! OP is `float`, `math`, `tree`, `walk`, `pair`, `exhaustive`, `all` (these six, and what is meant without an OP) or an
-//! operation's name; those of `tree` are `build` and `header`. Those of `geometry`
-//! are asked for by name.
+//! operation's name; those of `tree` are `build` and `header`. Those of `geometry`, `octants` (the lists and `octant_bytes`)
+//! and `composite` are asked for by name.
 //! Exit status: 0 all the same, 1 a mismatch, 2 it could not be run.
 
 use compare::exhaustive::{self, Extent};
-use compare::{build, check, header, meshes, operation, pairs, polygons, proved, report, vectors, vertices, walks};
+use compare::{build, check, composites, header, meshes, octants, operation, pairs};
+use compare::{polygons, proved, report, vectors, vertices, walks};
 use std::process::ExitCode;
 
 const USAGE: &str = "usage: compare [OP..] [--seed S] [--cases N] [--stride N] [--threads N] [--write-vectors FILE]
-  OP                    float, math, tree, walk, pair, exhaustive, all, geometry, or an operation's name
+  OP                    float, math, tree, walk, pair, exhaustive, all, geometry, octants, composite,
+                        or an operation's name
   --seed S              of the random inputs (default 1)
-  --cases N             of each operation (default 1000000)
+  --cases N             of each operation (default 1000000); of octants a 25,000th are lists of 32,768 of each kind
   --stride N            exhaustive: only every N-th word (default 1: all of them), from one that the seed gives
   --threads N           exhaustive: default 1
   --write-vectors FILE  writes a sample of the reference's answers, and compares only the OPs that are named";
 
 /// The group, and its operations.
 const GEOMETRY: [&str; 8] = ["geometry", "polygon", "items", "materials", "links", "quantum", "stored", "read_back"];
+
+/// Asked for by name too.
+const MORE: [&str; 3] = ["octants", "octant_bytes", "composite"];
 
 struct Arguments {
     ops: Vec<String>,
@@ -58,6 +63,7 @@ fn run(a: &Arguments) -> Result<Vec<report::Line>, String> {
     let known = |op: &str| {
         ["all", "exhaustive", "tree", "build", "header", "walk", "pair"].contains(&op)
             || GEOMETRY.contains(&op)
+            || MORE.contains(&op)
             || operations.iter().any(|o| o.group == op || o.name == op)
     };
     if let Some(op) = a.ops.iter().find(|op| !known(op)) {
@@ -91,6 +97,7 @@ fn run(a: &Arguments) -> Result<Vec<report::Line>, String> {
         lines.extend(exhaustive::NAMES.iter().filter_map(|name| exhaustive::run(name, extent)));
     }
     lines.extend(geometry(a));
+    lines.extend(more(a));
     Ok(lines)
 }
 
@@ -112,6 +119,22 @@ fn geometry(a: &Arguments) -> Vec<report::Line> {
     }
     for op in vertices::operations().iter().filter(|op| named(op.name)) {
         lines.push(check::run(op, a.seed, a.cases));
+    }
+    lines
+}
+
+fn more(a: &Arguments) -> Vec<report::Line> {
+    let mut lines = Vec::new();
+    let named = |names: &[&str]| a.ops.iter().any(|op| names.contains(&op.as_str()));
+    if named(&["octants"]) {
+        lines.push(octants::lists(a.seed, a.cases, proved::octants));
+        lines.push(octants::long(a.seed, a.cases, proved::octants));
+    }
+    if named(&["octants", "octant_bytes"]) {
+        lines.push(octants::bytes(a.seed, a.cases, proved::octant_bytes));
+    }
+    if named(&["composite"]) {
+        lines.push(composites::run(a.seed, a.cases, &proved::COMPOSITE));
     }
     lines
 }

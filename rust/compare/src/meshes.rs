@@ -155,7 +155,7 @@ fn expected_materials(case: &Materials) -> Result<(Vec<u8>, Vec<u8>), u32> {
 }
 
 /// How large an answer is, or the refusal; `Err` with what is not the same.
-type Outcome = Result<Result<usize, u32>, String>;
+pub(crate) type Outcome = Result<Result<usize, u32>, String>;
 
 fn materials_differ(case: &Materials, ours: BuildMaterials, seed: u64) -> Outcome {
     let expected = expected_materials(case);
@@ -202,37 +202,38 @@ fn links_differ(case: &Links, ours: UpdateLinks, seed: u64) -> Outcome {
     Ok(expected.map(|records| records.chunks_exact(RECORD).filter(|r| kind(r) == 0).count()))
 }
 
-/// An operation's name, what its answers count, and its refusals.
-struct Operation {
-    name: &'static str,
-    what: &'static str,
-    refusals: &'static [usize],
+/// An operation's name, what its answers count, its refusals, and its longest lists.
+pub(crate) struct Operation {
+    pub name: &'static str,
+    pub what: &'static str,
+    pub refusals: &'static [usize],
+    pub limit: usize,
 }
 
 /// How often each refusal was reached, how many answers, the largest of them, and how many lists were as long as can be.
 #[derive(Default)]
 struct Reached {
-    refusals: [u64; 9],
+    refusals: [u64; 14],
     largest: usize,
     longest: u64,
 }
 
 impl Reached {
-    fn note(&mut self, outcome: Result<usize, u32>, len: usize) {
+    fn note(&mut self, outcome: Result<usize, u32>, longest: bool) {
         self.refusals[outcome.err().unwrap_or(0) as usize] += 1;
         self.largest = self.largest.max(outcome.unwrap_or(0));
-        self.longest += (len == LIMIT) as u64;
+        self.longest += longest as u64;
     }
 
     fn lines(&self, of: &Operation) -> Vec<String> {
         let refused = of.refusals.iter().map(|&number| format!("refused {number}: {}", self.refusals[number]));
         let answered = format!("answered: {}; most {}: {}", self.refusals[0], of.what, self.largest);
-        refused.chain([answered, format!("lists of {LIMIT}: {}", self.longest)]).collect()
+        refused.chain([answered, format!("lists of {}: {}", of.limit, self.longest)]).collect()
     }
 }
 
 /// `cases` lists with their lengths; of those that differ the shortest is shown.
-fn compared<C: std::fmt::Debug>(
+pub(crate) fn compared<C: std::fmt::Debug>(
     of: Operation,
     cases: u64,
     mut case: impl FnMut() -> (C, usize),
@@ -243,7 +244,7 @@ fn compared<C: std::fmt::Debug>(
     for done in 0..cases {
         let (case, len) = case();
         match differs(&case, done) {
-            Ok(outcome) => reached.note(outcome, len),
+            Ok(outcome) => reached.note(outcome, len == of.limit),
             Err(why) => {
                 mismatches += 1;
                 if shortest.as_ref().is_none_or(|(before, _)| len < *before) {
@@ -261,7 +262,7 @@ fn compared<C: std::fmt::Debug>(
 }
 
 pub fn materials(seed: u64, cases: u64, ours: BuildMaterials) -> Line {
-    let of = Operation { name: "materials", what: "materials", refusals: &[1, 2] };
+    let of = Operation { name: "materials", what: "materials", refusals: &[1, 2], limit: LIMIT };
     let mut meshes = Meshes::new(seed);
     let case = || {
         let case = meshes.materials();
@@ -272,7 +273,7 @@ pub fn materials(seed: u64, cases: u64, ours: BuildMaterials) -> Line {
 }
 
 pub fn links(seed: u64, cases: u64, ours: UpdateLinks) -> Line {
-    let of = Operation { name: "links", what: "triangles", refusals: &[1, 2, 6] };
+    let of = Operation { name: "links", what: "triangles", refusals: &[1, 2, 6], limit: LIMIT };
     let mut meshes = Meshes::new(seed);
     let case = || {
         let case = meshes.links();

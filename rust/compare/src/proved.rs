@@ -1,8 +1,11 @@
-//! The library's side of a geometry's steps, in the comparison's own types.
+//! The library's side of a geometry's and a composite's steps, in the comparison's own types.
 
+use crate::composites;
 use crate::lent::Lent;
 use crate::polygons::Sides;
+use bounds::composite::{child_boxes, composite_tree, Child};
 use bounds::geometry::{self as library, BoundMaterial, BoundVertex};
+use bounds::octants::{calculate_octants, calculate_octants_in, Octants};
 use bounds::Refusal;
 use oracle::polygon::{Material, Polygon, LIMIT};
 use oracle::{Aabb, Vec3};
@@ -31,7 +34,7 @@ fn theirs(p: library::Polygon) -> Polygon {
     }
 }
 
-fn point([x, y, z]: Vec3) -> bounds::Vec3 {
+pub(crate) fn point([x, y, z]: Vec3) -> bounds::Vec3 {
     bounds::Vec3::new(x, y, z)
 }
 
@@ -95,3 +98,31 @@ pub fn stored(v: Vec3, quantum: Vec3) -> [i16; 3] {
 pub fn read_back([x, y, z]: [i16; 3], quantum: Vec3) -> Vec3 {
     coordinates(BoundVertex(x, y, z).to_vec(point(quantum)))
 }
+
+/// Of a few points the lists in buffers of their own have to be the same.
+pub fn octants(points: &[Vec3], lists: &mut [u32], work: &mut [u32]) -> Result<[usize; 8], u32> {
+    let points: Vec<bounds::Vec3> = points.iter().copied().map(point).collect();
+    let counts = calculate_octants_in(&points, lists, work).map_err(Refusal::number)?;
+    let n = points.len();
+    if n < 6 {
+        let items = std::array::from_fn(|k| lists[k * n..k * n + counts[k]].to_vec());
+        assert_eq!(calculate_octants(&points), Ok(Octants { items }));
+    }
+    Ok(counts)
+}
+
+/// Where there is room, both ways of writing have to give the same.
+pub fn octant_bytes(lists: &[Vec<u32>; 8], address: u64, out: &mut [u8]) -> Result<(), u32> {
+    let octants = Octants { items: lists.clone() };
+    octants.write_to(address, out).map_err(Refusal::number)?;
+    assert_eq!(octants.write(address).as_deref(), Ok(&out[..octants.length()]));
+    Ok(())
+}
+
+pub const COMPOSITE: composites::Sides = composites::Sides {
+    boxes: |children, out| child_boxes(children, out).map_err(Refusal::number),
+    computed: Child::computed_box,
+    tree: |children, nodes, trees, order, work| {
+        composite_tree(children, nodes, trees, order, work).map_err(Refusal::number)
+    },
+};

@@ -32,6 +32,10 @@ answers! {
         }
     }
 
+    /// `Composite::prepare` alone, to be timed: each call makes flags, boxes, transforms and tree anew, and answers the
+    /// number of nodes, 0 without a tree. Nothing is refused.
+    fn preparer(children: &[Option<Child>]) -> Box<dyn FnMut() -> usize> { inside::preparer(children) }
+
     /// Its child boxes alone. Refusal 1.
     fn child_boxes(children: &[Option<Child>]) -> Result<Vec<u8>, Refused> {
         at_most(children.len(), LIMIT)?;

@@ -76,6 +76,9 @@ answers! {
         Ok(inside::octants(shrunk))
     }
 
+    /// `calculate_octants` alone, to be timed: each call answers how many indices there are in all. Nothing is refused.
+    fn shadower(shrunk: &[Vec3]) -> Box<dyn FnMut() -> usize + Send> { inside::shadower(shrunk) }
+
     /// bounds.rs, `Octants::write`, at this address. Refusals 1, 12.
     fn octant_bytes(lists: &[Vec<u32>; 8], address: u64) -> Result<Vec<u8>, Refused> {
         for list in lists {

@@ -3,5 +3,6 @@
 
 pub mod links;
 pub mod materials;
+pub mod octants;
 pub mod polygon;
 pub mod vertex;

@@ -16,3 +16,14 @@ pub fn bytes_at(g: &Graph, block: &dyn Block, address: u64) -> Result<Vec<u8>> {
 pub fn bytes(g: &Graph, id: BlockId) -> Vec<u8> {
     bytes_at(g, &*g.blocks[id.0 as usize], 0).expect("an array of records has no error")
 }
+
+/// How many blocks there are.
+pub fn count(g: &Graph) -> usize {
+    g.blocks.len()
+}
+
+/// Only the first so many blocks are kept.
+pub fn forget(g: &mut Graph, count: usize) {
+    g.blocks.truncate(count);
+    g.positions.truncate(count);
+}

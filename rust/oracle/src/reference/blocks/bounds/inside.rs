@@ -1,7 +1,7 @@
 //! Private functions and blocks of the bounds, as values of the oracle.
 
 use super::super::bvh::inside::read_out;
-use super::super::inside::{bytes, bytes_at};
+use super::super::inside::{bytes, bytes_at, count, forget};
 use super::*;
 use crate::composite::Child;
 use crate::geometry::{Prepared, Quantised};
@@ -168,10 +168,19 @@ pub fn edges(polygons: &[Plain]) -> Vec<Plain> {
 
 // ─── octants ────────────────────────────────────────────────────────────────
 
-pub fn octants(shrunk: &[crate::Vec3]) -> [Vec<u32>; 8] {
+fn shrunk_to(shrunk: &[crate::Vec3]) -> Geometry {
     let mut geo = empty(BoundKind::Geometry);
     geo.vertices_shrunk = Some(shrunk.iter().map(|&p| v(p)).collect());
-    geo.calculate_octants().items
+    geo
+}
+
+pub fn octants(shrunk: &[crate::Vec3]) -> [Vec<u32>; 8] {
+    shrunk_to(shrunk).calculate_octants().items
+}
+
+pub fn shadower(shrunk: &[crate::Vec3]) -> Box<dyn FnMut() -> usize + Send> {
+    let geo = shrunk_to(shrunk);
+    Box::new(move || black_box(&geo).calculate_octants().items.iter().map(Vec::len).sum())
 }
 
 pub fn octant_bytes(lists: &[Vec<u32>; 8], address: u64) -> Vec<u8> {
@@ -262,7 +271,7 @@ fn prepared(g: &Graph, geo: &Geometry, tree: Option<tree::Built>) -> Prepared {
 
 // ─── composites ─────────────────────────────────────────────────────────────
 
-pub fn composite(children: &[Option<Child>]) -> crate::composite::Composite {
+fn of_children(children: &[Option<Child>]) -> (Graph, Composite) {
     let mut g = Graph::new();
     let mut made = Composite::new(BoundCommon::new(BoundKind::Composite));
     for child in children {
@@ -274,6 +283,21 @@ pub fn composite(children: &[Option<Child>]) -> crate::composite::Composite {
         });
         made.children.push(block);
     }
+    (g, made)
+}
+
+pub fn preparer(children: &[Option<Child>]) -> Box<dyn FnMut() -> usize> {
+    let (mut g, mut made) = of_children(children);
+    let before = count(&g);
+    Box::new(move || {
+        forget(&mut g, before);
+        black_box(&mut made).prepare(black_box(&mut g));
+        made.bvh.map_or(0, |id| g.get::<Bvh>(id).nodes_count as usize)
+    })
+}
+
+pub fn composite(children: &[Option<Child>]) -> crate::composite::Composite {
+    let (mut g, mut made) = of_children(children);
     made.prepare(&mut g);
     // At threshold 1 the order list holds the present places.
     let order = || (0..children.len()).filter(|&i| children[i].is_some()).collect();
