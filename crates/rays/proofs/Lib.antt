@@ -1,0 +1,5 @@
+mod CheckLaws
+pub mod CountLaws
+mod RayLaws
+mod RowLaws
+mod SomeLaws
