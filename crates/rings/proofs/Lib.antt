@@ -1,0 +1,7 @@
+mod FirstLaws
+mod MovingLaws
+mod NormalLaws
+mod RingLaws
+mod Scanning
+mod SideLaws
+pub mod VertexLaws

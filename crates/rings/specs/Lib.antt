@@ -1,0 +1,6 @@
+pub mod Firsts
+pub mod Meshes
+pub mod Moving
+pub mod Normals
+pub mod Rings
+pub mod steps
