@@ -2,4 +2,5 @@ mod CheckLaws
 pub mod CountLaws
 mod RayLaws
 mod RowLaws
-mod SomeLaws
+pub mod SomeLaws
+mod TriangleLaws

@@ -124,7 +124,7 @@ module _ {cs : List ℕ} {n : ℕ} {tri : List ℕ} {t : ℕ} (laid : Laid cs n 
       ∙ not-not (anyOf (λ p. hits ray (facetOver cs ws p) && not (ownOf cs i p)) (trianglesOf cs n))
 
   -- a corner in one of the three rows is missing
-  some-missing : (v : ℕ) → missingIn tri t v ≡ anyOf (missing cs v) (trianglesOf cs n)
+  pub some-missing : (v : ℕ) → missingIn tri t v ≡ anyOf (missing cs v) (trianglesOf cs n)
   some-missing v =
       let ts = trianglesOf cs n in
       let past : ℕ → Bool = λ k. leb v (getD tri k 0) in

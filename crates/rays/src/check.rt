@@ -25,7 +25,7 @@ fn way_back(vertex: Vec3, shrunk: Vec3) -> Ray
 }
 
 // Some triangle has a corner that is none of the v vertices.
-fn missing_corner(tri: &[u32], t: usize, v: usize) -> bool
+pub fn missing_corner(tri: &[u32], t: usize, v: usize) -> bool
     requires { ⌜ (3 * t ≤ length (now tri)) × (t < 32768) ⌝ }
     ensures { λ r. ⌜ r ≡ missingIn (now (tri .entry)) t v ⌝ }
 {

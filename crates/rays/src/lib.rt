@@ -3,4 +3,5 @@ pub mod check;
 pub mod faces;
 pub mod rays;
 pub mod rows;
+pub mod triangles;
 pub mod vertices;

@@ -21,6 +21,16 @@ pub record Laid (cs : List ℕ) (n : ℕ) (tri : List ℕ) (t : ℕ) : Type 0 wh
   pub second : (k : ℕ) → k < t → getD tri (t + k) 0 ≡ getD cs (3 * getD (trianglesOf cs n) k 0 + 1) 0
   pub third : (k : ℕ) → k < t → getD tri (2 * t + k) 0 ≡ getD cs (3 * getD (trianglesOf cs n) k 0 + 2) 0
 
+-- polygon p stored as triangle k of t
+abbrev pub putTriangle : List ℕ → ℕ → ℕ → List ℕ → ℕ → List ℕ
+putTriangle tri t k cs p = set (set (set tri k (getD cs (3 * p) 0)) (t + k) (getD cs (3 * p + 1) 0)) (2 * t + k) (getD cs (3 * p + 2) 0)
+
+-- What laying the triangles of n polygons asks: their corners, and room for as many triangles.
+pub record Layable (cs : List ℕ) (n : ℕ) (tri : List ℕ) : Type 0 where
+  pub corners : 3 * n ≤ length cs
+  pub room : 3 * n ≤ length tri
+  pub few : n < 32768
+
 -- the point whose coordinates stand in three rows of t, the first of them at `at`
 abbrev pub columnAt : List Float → ℕ → ℕ → Vec3
 columnAt rows t at = record { x = getD rows at nan; y = getD rows (at + t) nan; z = getD rows (at + 2 * t) nan }
