@@ -5,3 +5,4 @@ mod RingLaws
 mod Scanning
 mod SideLaws
 pub mod VertexLaws
+pub mod WorkLaws

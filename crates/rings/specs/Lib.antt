@@ -4,3 +4,4 @@ pub mod Moving
 pub mod Normals
 pub mod Rings
 pub mod steps
+pub mod Triples
