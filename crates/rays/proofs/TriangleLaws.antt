@@ -2,19 +2,18 @@
 use Prim.Native.Nat.{ℕ, zero, suc, _+_, _*_, _≤_, _<_}
 use native.Mathlib.Omega.{arith}
 use native.Mathlib.Numerals.{add-one}
-use mathlib.Core.Path.{_≡_, refl, sym, ap, ap₂, subst, _∙_}
+use mathlib.Core.Path.{_≡_, refl, sym, ap, subst, _∙_}
 use mathlib.Core.Bool.{Bool, true, false, not, cond}
 use mathlib.Core.List.{List, [], _∷_, _++_, append-nil}
-use lib.Dec.{eqb}
 use lib.ListN.{length, getD, set, length-set, length-append, List·getD-append}
 use lib.Seq.{getD-set-same, getD-set-other}
 use borrow.Author.Count.{below-more}
 use borrow.Author.Tests.{eq-eqb, ne-eqb}
-use Rattle.base.specs.Lists.{oneIf, sift, upFrom}
+use Rattle.base.specs.Lists.{oneIf, sift}
 use Rattle.corners.specs.Corners.{none, there}
 use Rattle.edges.proofs.UpFromLaws.{counting-more}
 use Rattle.rays.specs.Checks.{trianglesOf}
-use Rattle.rays.specs.steps.Rows.{putTriangle, Laid}
+use Rattle.rays.specs.steps.Rows.{putTriangle}
 
 one-length : (b : Bool) (p : ℕ) → length (cond b (p ∷ []) []) ≡ oneIf b
 one-length true p = refl

@@ -1,9 +1,8 @@
 // A ray against a triangle, with no branch: each test that fails counts one, so that the loop over triangles compiles to vector code.
 use math::vec3::Vec3;
 ghost use mathlib.Core.Path.{_≡_};
-ghost use mathlib.Core.Bool.{not, _&&_};
+ghost use mathlib.Core.Bool.{not};
 ghost use lib.Ieee.{lt, le};
-ghost use lib.Dec.{eqb};
 ghost use Rattle.float32.specs.Signs.{absOf};
 ghost use Rattle.math.specs.Vec3s.{tolerance};
 ghost use Rattle.rays.specs.steps.Counting.{Failed};

@@ -1,4 +1,4 @@
-// The triangles in rows, and how many of them a ray hits. Each function is called at one place, so that it is inlined and the loop compiles to vector code.
+// The triangles in rows, and how many of them a ray hits. The loop has no branch but its own, so that it compiles to vector code.
 use crate::rays::Facet;
 use crate::rays::Ray;
 use math::vec3::Vec3;

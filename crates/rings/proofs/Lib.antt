@@ -1,4 +1,5 @@
 mod FirstLaws
+pub mod LinkedLaws
 mod MovingLaws
 mod NormalLaws
 mod RingLaws

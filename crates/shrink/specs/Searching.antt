@@ -1,5 +1,4 @@
 -- Rule S7 on a mesh (bounds.rs, calculate_verts_shrunk): the margins are tried one after the other. Definitions only.
-use Prim.Native.Nat.{ℕ}
 use mathlib.Core.Bool.{Bool}
 use lib.Ieee.{Float}
 use Rattle.rays.specs.Checks.{passes}

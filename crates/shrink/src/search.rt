@@ -1,8 +1,6 @@
 // The margins are tried one after the other, each half of the one before, until one passes.
 use crate::margin::Margin;
-ghost use mathlib.Core.Path.{_≡_};
 ghost use Prim.Native.Nat.{_*_};
-ghost use lib.ListN.{length};
 ghost use Rattle.rings.specs.Meshes.{meshOf};
 ghost use Rattle.shrink.specs.steps.Work.{Searchable, Tried, Found};
 

@@ -59,8 +59,7 @@ returns-2 : tie.Need-returns-2
 returns-2 c =
     λ cs n laid.
     let a =
-    c .before .before .before .before .before .before .before .before .before .before .before .before .before .before .before .before .before .before
-    .args in
+    c .before .before .before .before .before .before .before .before .before .before .before .before .before .before .before .before .before .before .args in
     c .none-fails2 .ensures
     ∙ ap (λ (m : Bool). noneTo (a .v) (failsIn (a .tri .now) (a .t) m (a .old .now) (a .new .now)))
     (sym (c .before .before .before .before .before .before .before .before .before .before .before .if1 .left)

@@ -40,8 +40,7 @@ cast-hits-in c =
     omega (
       arith,
       c .before .before .before .before .before .before .before .before .before .before .before .pre .0 .lent .few-vertices,
-      c .before .before
-          .before .before .before .before .before .before .before .before .before .pre .1,
+      c .before .before .before .before .before .before .before .before .before .before .before .pre .1,
     )
 
 hits-in-requires : tie.Need-hits-in-requires
@@ -52,8 +51,7 @@ cast-hits-in-2 c =
     omega (
       arith,
       c .before .before .before .before .before .before .before .before .before .before .before .before .pre .0 .lent .few-vertices,
-      c .before
-          .before .before .before .before .before .before .before .before .before .before .before .pre .1,
+      c .before .before .before .before .before .before .before .before .before .before .before .before .pre .1,
     )
 
 hits-in-requires-2 : tie.Need-hits-in-requires-2
@@ -70,8 +68,7 @@ add-result c =
       count-few (a .t) (struck (a .tri .now) (a .olds .now) (a .t) (a .i) ray),
       count-few
           (a .t) (struck (a .tri .now) (a .news .now) (a .t) (a .i) ray),
-      c .before .before .before .before .before .before .before .before .before .before
-          .before .before .before .pre .0 .lent .old-rows .few,
+      c .before .before .before .before .before .before .before .before .before .before .before .before .before .pre .0 .lent .old-rows .few,
     )
 
 returns-3 : tie.Need-returns-3

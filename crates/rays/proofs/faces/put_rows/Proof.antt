@@ -53,8 +53,7 @@ cast-vertex-at-2 : tie.Need-cast-vertex-at-2 Inv-loop μ-loop
 cast-vertex-at-2 c =
     omega (
       arith,
-      c .shared-slice-known4 .given (c .before .before .before .before .before .before .before .before .args .t + c .before .before .before
-          .before .loop .k),
+      c .shared-slice-known4 .given (c .before .before .before .before .before .before .before .before .args .t + c .before .before .before .before .loop .k),
     )
 
 vertex-at-requires-2 : tie.Need-vertex-at-requires-2 Inv-loop μ-loop
@@ -102,8 +101,7 @@ add-k c =
     omega (
       arith,
       c .before .before .before .before .before .before .before .before .before .before .before .loop-test .taken,
-      c .before .before .before
-          .before .before .before .before .before .before .before .before .before .before .before .before .before .pre .rows-in .few,
+      c .before .before .before .before .before .before .before .before .before .before .before .before .before .before .before .before .pre .rows-in .few,
     )
 
 loop-less : tie.Need-loop-less Inv-loop μ-loop

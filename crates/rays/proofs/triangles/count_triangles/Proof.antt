@@ -42,8 +42,7 @@ add-t c =
       one-or-none (there (a .corners .now) (3 * l .p)),
       l .inv .1,
       c .before .before .loop-test .taken,
-      c .before
-          .before .before .before .before .pre .1,
+      c .before .before .before .before .before .pre .1,
     )
 
 add-p : tie.Need-add-p Inv-loop μ-loop

@@ -1,7 +1,7 @@
 -- `triangles::put_triangles` meets its contract. The loop's invariant: the triangles before p stand in the rows.
 use Rattle.rays.proofs.triangles.put_triangles.Statement.{statement}
 use Rattle.rays.proofs.triangles.put_triangles.Tie as tie
-use Prim.Native.Nat.{ℕ, _+_, _-_, _*_, _≤_, _<_}
+use Prim.Native.Nat.{ℕ, _+_, _-_, _≤_, _<_}
 use mathlib.Core.List.{List, [], _∷_, _++_}
 use mathlib.Core.Path.{_≡_, refl, sym, ap, subst, _∙_}
 use lib.ListN.{length, length-append}

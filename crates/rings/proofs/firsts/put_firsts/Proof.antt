@@ -63,8 +63,7 @@ add-s c =
     omega (
       arith,
       c .before .before .before .before .before .before .before .before .before .before .before .before .before .before .pre .1,
-      c .before
-          .before .before .before .before .before .loop-test .taken,
+      c .before .before .before .before .before .before .loop-test .taken,
     )
 
 loop-less : tie.Need-loop-less Inv-loop μ-loop

@@ -39,8 +39,7 @@ loop-holds c =
       ring-length = refl;
       ns-length = refl;
       points-length = refl;
-      size = c .before .before .before .before .before
-          .before .before .before .pre .1;
+      size = c .before .before .before .before .before .before .before .before .pre .1;
       written = refl;
     }
 
@@ -57,8 +56,7 @@ put-point-requires c κs =
     omega (
       arith,
       c .before .before .before .before .before .before .before .before .before .loop .inv .size,
-      c .before .before .before .before .before
-          .before .before .before .loop-test .taken,
+      c .before .before .before .before .before .before .before .before .loop-test .taken,
     )
 
 add-i : tie.Need-add-i Inv-loop μ-loop

@@ -55,8 +55,7 @@ add-put-normal c =
       arith,
       c .before .before .before .before .before .before .before .before .before .before .before .pre .2,
       c .before .loop-test .taken,
-      c .before
-          .before .loop .inv .room,
+      c .before .before .loop .inv .room,
       c .before .before .before .before .before .before .before .before .before .before .before .good,
     )
 
@@ -68,8 +67,7 @@ shared-slice-read-wide c =
     omega (
       arith,
       c .before .before .before .before .before .before .before .before .before .before .before .before .pre .1,
-      c .before .before .loop-test
-          .taken,
+      c .before .before .loop-test .taken,
     )
 
 wide-requires : tie.Need-wide-requires Inv-loop μ-loop

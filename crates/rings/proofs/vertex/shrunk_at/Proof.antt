@@ -13,8 +13,7 @@ vertex-at-requires c κs =
     omega (
       arith,
       c .before .before .before .before .before .before .before .pre .0 .vertices-in,
-      c .before .before .before .before .before .before .before
-          .pre .1,
+      c .before .before .before .before .before .before .before .pre .1,
     )
 
 mul-wide : tie.Need-mul-wide
@@ -25,8 +24,7 @@ shared-slice-read-wide c =
     omega (
       arith,
       c .before .before .before .before .before .before .before .before .before .pre .0 .firsts-in,
-      c .before .before .before .before .before
-          .before .before .before .before .pre .1,
+      c .before .before .before .before .before .before .before .before .before .pre .1,
     )
 
 wide-requires : tie.Need-wide-requires
@@ -47,8 +45,7 @@ cast-ring c =
     omega (
       arith,
       c .before .before .before .before .before .before .before .before .before .before .before .pre .0 .few,
-      c .before .before .before .before
-          .before .before .before .before .before .before .before .pre .1,
+      c .before .before .before .before .before .before .before .before .before .before .before .pre .1,
     )
 
 ring-requires : tie.Need-ring-requires

@@ -51,8 +51,7 @@ add-i c =
     omega (
       arith,
       c .before .before .before .before .before .before .before .loop-test .taken,
-      c .before .before .before .before .before .before .before
-          .before .before .before .fits .v .fits,
+      c .before .before .before .before .before .before .before .before .before .before .fits .v .fits,
     )
 
 loop-less : tie.Need-loop-less Inv-loop μ-loop
