@@ -1,0 +1,6 @@
+mod CheckLaws
+pub mod CountLaws
+mod RayLaws
+mod RowLaws
+pub mod SomeLaws
+mod TriangleLaws

@@ -1,0 +1,4 @@
+pub mod Checks
+pub mod Rays
+pub mod steps
+pub mod Vertices

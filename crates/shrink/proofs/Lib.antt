@@ -1,0 +1,3 @@
+pub mod AllTried
+mod SearchLaws
+mod WholeLaws

@@ -1,0 +1,5 @@
+pub mod Clamping
+pub mod Margins
+pub mod Searching
+pub mod Shrinking
+pub mod steps
