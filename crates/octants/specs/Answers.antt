@@ -12,7 +12,15 @@ use Rattle.octants.specs.declared.lists.OctantCounts.{OctantCounts}
 unfoldable pub withCounts : OctantCounts → OctantsAnswer
 withCounts c =
     record {
-      refusal = 0; c0 = c .c0; c1 = c .c1; c2 = c .c2; c3 = c .c3; c4 = c .c4; c5 = c .c5; c6 = c .c6; c7 = c .c7;
+      refusal = 0;
+      c0 = c .c0;
+      c1 = c .c1;
+      c2 = c .c2;
+      c3 = c .c3;
+      c4 = c .c4;
+      c5 = c .c5;
+      c6 = c .c6;
+      c7 = c .c7;
     }
 
 -- a refusal by its number, and no lists

@@ -1,19 +1,13 @@
 -- The extremes of words that are no NaN's, by their floats: the float that is chosen is no NaN, and its word is the one that is chosen.
-use Prim.Native.Nat.{ℕ, _+_, _*_, _/_, _<_}
+use Prim.Native.Nat.{ℕ, _<_}
 use mathlib.Core.Path.{_≡_, refl, sym, ap, ap₂, subst, _∙_}
 use mathlib.Core.Bool.{Bool, true, false, not, cond, _&&_, _||_, true≢false}
-use mathlib.Core.List.{List}
-use lib.Dec.{T, ltb}
-use lib.ListN.{length, getD}
+use lib.Dec.{T}
 use lib.Ieee.{Float, binary32, ofBits, toBits, isNan, lt}
 use lib.Ieee.Bits.{toBits-ofBits, nanBits-is}
-use native.Mathlib.Omega.{arith}
-use Rattle.entries.specs.Plain.{Number, Plain}
+use Rattle.entries.specs.Plain.{Number}
 use Rattle.float32.specs.Extremes.{vminOf, vmaxOf, vminWord, vmaxWord}
 use Rattle.float32.proofs.Patterns.{no-nan}
-use Rattle.polygon_boxes.specs.Boxes.{vertexWords}
-use Rattle.polygon_boxes.specs.Numbers.{Numbers}
-use Rattle.math.specs.declared.words3.Words3.{Words3}
 
 abbrev pub Word : ℕ → Type 0
 Word n = n < 0x1_0000_0000
@@ -74,14 +68,6 @@ pub word-by : (x : Float) (n : ℕ) → Of x n → toBits binary32 x ≡ n
 word-by x n g = ap (toBits binary32) (g .is) ∙ word-of n (g .good)
 
 -- ---- vertices
-
-pub vertex-numbers : (plain : Bool) (ws : List ℕ) → Plain plain ws → plain ≡ true → (i : ℕ) → Numbers (vertexWords ws i)
-unfolding vertexWords
-vertex-numbers plain ws p e i = go (ltb i (length ws / 3))
-  where
-    go : (b : Bool) → Numbers (cond b (record { x = getD ws (3 * i) 0; y = getD ws (3 * i + 1) 0; z = getD ws (3 * i + 2) 0 }) (record { x = 0; y = 0; z = 0 }))
-    go true = (p .numbers e (3 * i), p .numbers e (3 * i + 1), p .numbers e (3 * i + 2))
-    go false = (omega arith, omega arith, omega arith)
 
 -- ---- tests
 

@@ -4,8 +4,8 @@ use math::words3::Words3;
 use polygon::halves::half_at;
 use polygon::reading::polygon_at;
 use polygon_boxes::PolygonBox;
-use polygon_boxes::all_three;
-use polygon_boxes::bbox_with;
+use polygon_boxes::bbox;
+use polygon_boxes::numbers::all_three;
 use polygon_boxes::numbers::high3;
 use polygon_boxes::numbers::low3;
 use polygon_boxes::vertex_words;
@@ -14,7 +14,6 @@ ghost use Prim.Native.Nat.{_+_, _*_, _≤_};
 ghost use lib.ListN.{length};
 ghost use lib.Seq.{sets};
 ghost use Rattle.base.specs.Lists.{over};
-ghost use Rattle.entries.specs.Plain.{Plain};
 ghost use Rattle.polygon.specs.Polygons.{polygonAt};
 ghost use Rattle.polygon_boxes.specs.Boxes.{threeBox, bboxOf};
 ghost use Rattle.polygon_boxes.specs.Numbers.{Numbers};
@@ -57,41 +56,30 @@ fn put_three(items: &mut [u32], at: usize, a: Words3, b: Words3, c: Words3)
 }
 
 // The entry of the polygon whose record begins at `from`.
-fn put_one(
-    polygons: &[u8],
-    from: usize,
-    vertices: &[u32],
-    plain: bool,
-    items: &mut [u32],
-    at: usize,
-)
-    requires { ⌜ (from + 16 ≤ length (now polygons)) × (at + 7 ≤ length (now items)) × (Plain plain (now vertices)) ⌝ }
+fn put_one(polygons: &[u8], from: usize, vertices: &[u32], items: &mut [u32], at: usize)
+    requires { ⌜ (from + 16 ≤ length (now polygons)) × (at + 7 ≤ length (now items)) ⌝ }
     ensures { λ _. ⌜ now (items .exit) ≡ sets (now (items .entry)) at (itemWords (bboxOf (polygonAt (now (polygons .entry)) from) (now (vertices .entry)))) ⌝ }
 {
     if half_at(polygons, from) % 8 == 0 {
         let a = vertex_words(vertices, half_at(polygons, from + 4) % 32768);
         let b = vertex_words(vertices, half_at(polygons, from + 6) % 32768);
         let c = vertex_words(vertices, half_at(polygons, from + 8) % 32768);
-        if all_three(a, b, c, plain) {
+        if all_three(a, b, c) {
             put_three(items, at, a, b, c);
             return;
         }
     }
-    put_item(
-        items,
-        at,
-        bbox_with(polygon_at(polygons, from), vertices, plain),
-    );
+    put_item(items, at, bbox(polygon_at(polygons, from), vertices));
 }
 
 // The entries of the first n records.
-fn put_items(n: usize, polygons: &[u8], vertices: &[u32], plain: bool, items: &mut [u32])
-    requires { ⌜ (16 * n ≤ length (now polygons)) × (7 * n ≤ length (now items)) × (Plain plain (now vertices)) ⌝ }
+fn put_items(n: usize, polygons: &[u8], vertices: &[u32], items: &mut [u32])
+    requires { ⌜ (16 * n ≤ length (now polygons)) × (7 * n ≤ length (now items)) ⌝ }
     ensures { λ _. ⌜ now (items .exit) ≡ over (itemsOf n (now (polygons .entry)) (now (vertices .entry))) (now (items .entry)) ⌝ }
 {
     let mut i = 0;
     while i < n {
-        put_one(polygons, 16 * i, vertices, plain, items, 7 * i);
+        put_one(polygons, 16 * i, vertices, items, 7 * i);
         i += 1;
     }
 }
@@ -120,6 +108,6 @@ pub fn polygon_items(n: usize, polygons: &[u8], vertices: &[u32], items: &mut [u
     if !kinds_known(polygons, n) {
         return Items::UnknownKind;
     }
-    put_items(n, polygons, vertices, false, items);
+    put_items(n, polygons, vertices, items);
     Items::Boxed
 }

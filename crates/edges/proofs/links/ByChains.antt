@@ -31,7 +31,8 @@ module _ (cs heads nexts : List ℕ) (w : Enterable cs heads nexts) (s : ℕ) (h
   both-below : (getD cs s 0 < length heads) × (getD cs (nextOf s) 0 < length heads)
   both-below = (
     w .below s h t,
-    w .below (nextOf s) (leads-within s (length cs) h (w .corners .threes)) (ap not (ne-eqb (getD cs (nextOf s) 0) none (λ q. omega (arith, q, both-small .1)))),
+    w .below (nextOf s) (leads-within s (length cs) h (w .corners .threes))
+        (ap not (ne-eqb (getD cs (nextOf s) 0) none (λ q. omega (arith, q, both-small .1)))),
   )
 
   pub corners-below : (lowOf (keyOf cs) s < length heads) × (highOf (keyOf cs) s < length heads)

@@ -2,98 +2,74 @@
 use borrow.Author.Needs.{needs}
 use Rattle.polygon_items.proofs.put_item.Statement.{statement}
 use Rattle.polygon_items.proofs.put_item.Tie as tie
-use Rattle.polygon_items.proofs.put_item.Reads as reads
-use Rattle.polygon_items.proofs.put_item.Lts as lts
 use lib.ListN.{length-set}
 use Rattle.polygon_items.specs.Items.{itemWords}
 use Rattle.polygon_items.proofs.ItemLaws.{seven-stores}
 use native.Mathlib.Omega.{arith}
 
--- src/lib.rt:28:5
 mul-items : tie.Need-mul-items
 mul-items c = search needs
 
--- src/lib.rt:28:5
 slice-write-items : tie.Need-slice-write-items
 slice-write-items c = search needs
 
--- src/lib.rt:29:11
 add-items : tie.Need-add-items
 add-items c = search needs
 
--- src/lib.rt:29:5
 mul-items-2 : tie.Need-mul-items-2
 mul-items-2 c = search needs
 
--- src/lib.rt:29:5
 slice-write-items-2 : tie.Need-slice-write-items-2
 slice-write-items-2 c = simp length-set (omega arith)
 
--- src/lib.rt:30:11
 add-items-2 : tie.Need-add-items-2
 add-items-2 c = search needs
 
--- src/lib.rt:30:5
 mul-items-3 : tie.Need-mul-items-3
 mul-items-3 c = search needs
 
--- src/lib.rt:30:5
 slice-write-items-3 : tie.Need-slice-write-items-3
 slice-write-items-3 c = simp length-set (omega arith)
 
--- src/lib.rt:31:11
 add-items-3 : tie.Need-add-items-3
 add-items-3 c = search needs
 
--- src/lib.rt:31:5
 mul-items-4 : tie.Need-mul-items-4
 mul-items-4 c = search needs
 
--- src/lib.rt:31:5
 slice-write-items-4 : tie.Need-slice-write-items-4
 slice-write-items-4 c = simp length-set (omega arith)
 
--- src/lib.rt:32:11
 add-items-4 : tie.Need-add-items-4
 add-items-4 c = search needs
 
--- src/lib.rt:32:5
 mul-items-5 : tie.Need-mul-items-5
 mul-items-5 c = search needs
 
--- src/lib.rt:32:5
 slice-write-items-5 : tie.Need-slice-write-items-5
 slice-write-items-5 c = simp length-set (omega arith)
 
--- src/lib.rt:33:11
 add-items-5 : tie.Need-add-items-5
 add-items-5 c = search needs
 
--- src/lib.rt:33:5
 mul-items-6 : tie.Need-mul-items-6
 mul-items-6 c = search needs
 
--- src/lib.rt:33:5
 slice-write-items-6 : tie.Need-slice-write-items-6
 slice-write-items-6 c = simp length-set (omega arith)
 
--- src/lib.rt:34:11
 add-items-6 : tie.Need-add-items-6
 add-items-6 c = search needs
 
--- src/lib.rt:34:5
 mul-items-7 : tie.Need-mul-items-7
 mul-items-7 c = search needs
 
--- src/lib.rt:34:5
 slice-write-items-7 : tie.Need-slice-write-items-7
 slice-write-items-7 c = simp length-set (omega arith)
 
--- src/lib.rt:24:1
 same-length : tie.Need-same-length
 same-length c = search needs
 
--- src/lib.rt:24:1
 returns : tie.Need-returns
 unfolding itemWords
 returns c =

@@ -2,130 +2,103 @@
 use borrow.Author.Needs.{needs}
 use Rattle.polygon_items.proofs.put_three.Statement.{statement}
 use Rattle.polygon_items.proofs.put_three.Tie as tie
-use Rattle.polygon_items.proofs.put_three.Reads as reads
-use Rattle.polygon_items.proofs.put_three.Lts as lts
-use Rattle.polygon_boxes.proofs.numbers.high3.Reads as high3-reads
-use Rattle.polygon_boxes.proofs.numbers.low3.Reads as low3-reads
 use lib.ListN.{length-set}
 use mathlib.Core.Path.{_∙_}
 use Rattle.polygon_items.proofs.ItemLaws.{seven-stores, three-words}
 use native.Mathlib.Omega.{arith}
 
--- src/lib.rt:51:5
 mul-items : tie.Need-mul-items
 mul-items c = search needs
 
--- src/lib.rt:51:5
 slice-write-items : tie.Need-slice-write-items
 slice-write-items c = search needs
 
--- src/lib.rt:52:21
 low3-requires : tie.Need-low3-requires
 low3-requires c κs = search needs
 
--- src/lib.rt:52:11
 add-items : tie.Need-add-items
 add-items c = search needs
 
--- src/lib.rt:52:5
 mul-items-2 : tie.Need-mul-items-2
 mul-items-2 c = search needs
 
--- src/lib.rt:52:5
 slice-write-items-2 : tie.Need-slice-write-items-2
 slice-write-items-2 c = simp length-set (omega arith)
 
--- src/lib.rt:53:21
 low3-requires-2 : tie.Need-low3-requires-2
 low3-requires-2 c κs = search needs
 
--- src/lib.rt:53:11
 add-items-2 : tie.Need-add-items-2
 add-items-2 c = search needs
 
--- src/lib.rt:53:5
 mul-items-3 : tie.Need-mul-items-3
 mul-items-3 c = search needs
 
--- src/lib.rt:53:5
 slice-write-items-3 : tie.Need-slice-write-items-3
 slice-write-items-3 c = simp length-set (omega arith)
 
--- src/lib.rt:54:21
 low3-requires-3 : tie.Need-low3-requires-3
 low3-requires-3 c κs = search needs
 
--- src/lib.rt:54:11
 add-items-3 : tie.Need-add-items-3
 add-items-3 c = search needs
 
--- src/lib.rt:54:5
 mul-items-4 : tie.Need-mul-items-4
 mul-items-4 c = search needs
 
--- src/lib.rt:54:5
 slice-write-items-4 : tie.Need-slice-write-items-4
 slice-write-items-4 c = simp length-set (omega arith)
 
--- src/lib.rt:55:21
 high3-requires : tie.Need-high3-requires
 high3-requires c κs = search needs
 
--- src/lib.rt:55:11
 add-items-4 : tie.Need-add-items-4
 add-items-4 c = search needs
 
--- src/lib.rt:55:5
 mul-items-5 : tie.Need-mul-items-5
 mul-items-5 c = search needs
 
--- src/lib.rt:55:5
 slice-write-items-5 : tie.Need-slice-write-items-5
 slice-write-items-5 c = simp length-set (omega arith)
 
--- src/lib.rt:56:21
 high3-requires-2 : tie.Need-high3-requires-2
 high3-requires-2 c κs = search needs
 
--- src/lib.rt:56:11
 add-items-5 : tie.Need-add-items-5
 add-items-5 c = search needs
 
--- src/lib.rt:56:5
 mul-items-6 : tie.Need-mul-items-6
 mul-items-6 c = search needs
 
--- src/lib.rt:56:5
 slice-write-items-6 : tie.Need-slice-write-items-6
 slice-write-items-6 c = simp length-set (omega arith)
 
--- src/lib.rt:57:21
 high3-requires-3 : tie.Need-high3-requires-3
 high3-requires-3 c κs = search needs
 
--- src/lib.rt:57:11
 add-items-6 : tie.Need-add-items-6
 add-items-6 c = search needs
 
--- src/lib.rt:57:5
 mul-items-7 : tie.Need-mul-items-7
 mul-items-7 c = search needs
 
--- src/lib.rt:57:5
 slice-write-items-7 : tie.Need-slice-write-items-7
 slice-write-items-7 c = simp length-set (omega arith)
 
--- src/lib.rt:47:1
 same-length : tie.Need-same-length
 same-length c = search needs
 
--- src/lib.rt:47:1
 returns : tie.Need-returns
 returns c =
-    let s = c .before .before .before .before .before .before .before .args in
-    seven-stores (s .items .now) (s .at) 1 (c .before .before .before .before .before .low3 .result) (c .before .before .before .before .low32 .result) (c .before .before .before .low33 .result) (c .before .before .high3 .result) (c .before .high32 .result)
+    let c4 = c .before .before .before .before in
+    let c5 = c4 .before in
+    let c7 = c5 .before .before in
+    let s = c7 .args in
+    seven-stores (s .items .now) (s .at) 1 (c5 .low3 .result) (c4 .low32 .result) (c .before .before .before .low33 .result)
+    (c .before .before .high3 .result) (c .before .high32 .result)
     (c .high33 .result)
-    ∙ three-words (s .items .now) (s .at) (s .a) (s .b) (s .c) (c .before .before .before .before .before .low3 .ensures) (c .before .before .before .before .low32 .ensures) (c .before .before .before .low33 .ensures) (c .before .before .high3 .ensures)
+    ∙ three-words (s .items .now) (s .at) (s .a) (s .b) (s .c) (c5 .low3 .ensures) (c4 .low32 .ensures) (c .before .before .before .low33 .ensures)
+    (c .before .before .high3 .ensures)
     (c .before .high32 .ensures) (c .high33 .ensures)
 
 pub put-three-spec : {M : Type 1} → statement M

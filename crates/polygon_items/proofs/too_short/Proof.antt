@@ -2,23 +2,17 @@
 use borrow.Author.Needs.{needs}
 use Rattle.polygon_items.proofs.too_short.Statement.{statement}
 use Rattle.polygon_items.proofs.too_short.Tie as tie
-use Rattle.polygon_items.proofs.too_short.Reads as reads
-use Rattle.polygon_items.proofs.too_short.Lts as lts
 use borrow.Author.Tests.{lt-ltb, le-ltb}
 
--- src/lib.rt:64:19
 mul-if1 : tie.Need-mul-if1
 mul-if1 c = search needs
 
--- src/lib.rt:65:9
 returns : tie.Need-returns
 returns c = rw (lt-ltb _ _ (c .if1 .taken))
 
--- src/lib.rt:67:13
 mul-result : tie.Need-mul-result
 mul-result c = search needs
 
--- src/lib.rt:60:1
 returns-2 : tie.Need-returns-2
 returns-2 c = rw (le-ltb _ _ (c .if1 .left))
 

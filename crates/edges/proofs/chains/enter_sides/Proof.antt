@@ -1,9 +1,6 @@
 -- `enter_sides`: the sides from s on are entered.
 use Rattle.edges.proofs.chains.enter_sides.Statement.{statement}
 use Rattle.edges.proofs.chains.enter_sides.Tie as tie
-use Rattle.edges.proofs.chains.enter_sides.Reads as reads
-use Rattle.edges.proofs.chains.enter_sides.Lts as lts
-use Rattle.edges.proofs.chains.enter_side.Reads as enter-side-reads
 use Prim.Native.Nat.{ℕ, _+_, _-_, _%_, _≤_, _<_}
 use mathlib.Core.Path.{_≡_, refl, sym, ap, subst, _∙_}
 use lib.ListN.{length}
@@ -20,23 +17,18 @@ Inv-loop corners heads₀ nexts₀ s₀ heads nexts s =
 abbrev μ-loop : tie.MeasureT-loop
 μ-loop corners heads₀ nexts₀ s₀ heads nexts s = s
 
--- src/chains.rt:87:5
 loop-holds : tie.Need-loop-holds Inv-loop μ-loop
 loop-holds c = let p = c .before .before .before .pre in (omega arith, p .0 .corners .threes, refl, refl, p .0, none-entered _ _ _ (p .1))
 
--- src/chains.rt:88:9
 sub-s : tie.Need-sub-s Inv-loop μ-loop
 sub-s c = omega arith
 
--- src/chains.rt:89:34
 cast-t7 : tie.Need-cast-t7 Inv-loop μ-loop
 cast-t7 c = omega arith
 
--- src/chains.rt:89:34
 add-t8 : tie.Need-add-t8 Inv-loop μ-loop
 add-t8 c = omega arith
 
--- src/chains.rt:89:9
 enter-side-requires : tie.Need-enter-side-requires Inv-loop μ-loop
 enter-side-requires c κs =
     let l = c .before .before .before .loop in (
@@ -46,77 +38,78 @@ enter-side-requires c κs =
       from-as _ _ _ _ _ (omega (arith, l .inv .1, c .before .before .loop-test .taken)) (l .inv .5),
     )
 
--- src/chains.rt:90:34
 cast-t7-2 : tie.Need-cast-t7-2 Inv-loop μ-loop
 cast-t7-2 c = omega arith
 
--- src/chains.rt:90:34
 add-t8-2 : tie.Need-add-t8-2 Inv-loop μ-loop
 add-t8-2 c = omega arith
 
--- src/chains.rt:90:49
 add-enter-side : tie.Need-add-enter-side Inv-loop μ-loop
 add-enter-side c = omega arith
 
--- src/chains.rt:90:9
 enter-side-requires-2 : tie.Need-enter-side-requires-2 Inv-loop μ-loop
 enter-side-requires-2 c κs =
-    let l = c .before .before .before .before .before .before .before .before .before .before .loop in
-    let t = c .before .before .before .before .before .before .enter-side in (
+    let c6 = c .before .before .before .before .before .before in
+    let c9 = c6 .before .before .before in
+    let c10 = c9 .before in
+    let l = c10 .loop in
+    let t = c6 .enter-side in (
       still-enterable _ _ _ _ _ (l .inv .4) (t .kept .1 .1 .1 .0 ∙ l .inv .2) (t .kept .1 .1 .1 .1 .0 ∙ l .inv .3),
-      omega (arith, l .inv .0, l .inv .1, c .before .before .before .before .before .before .before .before .before .loop-test .taken),
-      second-leads _ (omega (arith, l .inv .0, l .inv .1, c .before .before .before .before .before .before .before .before .before .loop-test .taken)),
+      omega (arith, l .inv .0, l .inv .1, c9 .loop-test .taken),
+      second-leads _ (omega (arith, l .inv .0, l .inv .1, c9 .loop-test .taken)),
       from-as _ _ _ _ _ (omega arith) (t .ensures),
     )
 
--- src/chains.rt:91:34
 cast-t7-3 : tie.Need-cast-t7-3 Inv-loop μ-loop
 cast-t7-3 c = omega arith
 
--- src/chains.rt:91:45
 add-enter-side-2 : tie.Need-add-enter-side-2 Inv-loop μ-loop
 add-enter-side-2 c = omega arith
 
--- src/chains.rt:91:9
 enter-side-requires-3 : tie.Need-enter-side-requires-3 Inv-loop μ-loop
 enter-side-requires-3 c κs =
-    let l = c .before .before .before .before .before .before .before .before .before .before .before .before .before .before .before .before .before .loop in
-    let t = c .before .before .before .before .before .before .before .before .before .before .before .before .before .enter-side in
-    let u = c .before .before .before .before .before .before .enter-side2 in (
-      still-enterable _ _ _ _ _ (l .inv .4) (u .kept .1 .1 .1 .0 ∙ t .kept .1 .1 .1 .0 ∙ l .inv .2) (u .kept .1 .1 .1 .1 .0 ∙ t .kept .1 .1 .1 .1 .0 ∙ l .inv .3),
-      omega (arith, l .inv .0, l .inv .1, c .before .before .before .before .before .before .before .before .before .before .before .before .before .before .before .before .loop-test .taken),
-      first-leads _ (omega (arith, l .inv .0, l .inv .1, c .before .before .before .before .before .before .before .before .before .before .before .before .before .before .before .before .loop-test .taken)),
+    let c6 = c .before .before .before .before .before .before in
+    let c13 = c6 .before .before .before .before .before .before .before in
+    let c16 = c13 .before .before .before in
+    let c17 = c16 .before in
+    let l = c17 .loop in
+    let t = c13 .enter-side in
+    let u = c6 .enter-side2 in (
+      still-enterable _ _ _ _ _ (l .inv .4) (u .kept .1 .1 .1 .0 ∙ t .kept .1 .1 .1 .0 ∙ l .inv .2)
+          (u .kept .1 .1 .1 .1 .0 ∙ t .kept .1 .1 .1 .1 .0 ∙ l .inv .3),
+      omega (arith, l .inv .0, l .inv .1, c16 .loop-test .taken),
+      first-leads _ (omega (arith, l .inv .0, l .inv .1, c16 .loop-test .taken)),
       u .ensures,
     )
 
--- src/chains.rt:87:5
 loop-less : tie.Need-loop-less Inv-loop μ-loop
 loop-less c = omega arith
 
--- src/chains.rt:87:5
 loop-again : tie.Need-loop-again Inv-loop μ-loop
 loop-again c =
-    let l = c .before .before .before .before .before .before .before .before .before .before .before .before .before .before .before .before .before .before .before .before .before .before .loop in
-    let t = c .before .before .before .before .before .before .before .before .before .before .before .before .before .before .before .before .before .before .enter-side in
-    let u = c .before .before .before .before .before .before .before .before .before .before .before .enter-side2 in
-    let v = c .before .before .before .before .enter-side3 in (
+    let c4 = c .before .before .before .before in
+    let c11 = c4 .before .before .before .before .before .before .before in
+    let c18 = c11 .before .before .before .before .before .before .before in
+    let c21 = c18 .before .before .before in
+    let c22 = c21 .before in
+    let l = c22 .loop in
+    let t = c18 .enter-side in
+    let u = c11 .enter-side2 in
+    let v = c4 .enter-side3 in (
       omega (arith, l .inv .0),
-      omega (arith, l .inv .1, c .before .before .before .before .before .before .before .before .before .before .before .before .before .before .before .before .before .before .before .before .before .loop-test .taken),
+      omega (arith, l .inv .1, c21 .loop-test .taken),
       v .kept .1 .1 .1 .0 ∙ u .kept .1 .1 .1 .0 ∙ t .kept .1 .1 .1 .0 ∙ l .inv .2,
       v .kept .1 .1 .1 .1 .0 ∙ u .kept .1 .1 .1 .1 .0 ∙ t .kept .1 .1 .1 .1 .0 ∙ l .inv .3,
       l .inv .4,
       v .ensures,
     )
 
--- src/chains.rt:82:1
 same-length : tie.Need-same-length Inv-loop μ-loop
 same-length c = c .before .loop .inv .2
 
--- src/chains.rt:82:1
 same-length-2 : tie.Need-same-length-2 Inv-loop μ-loop
 same-length-2 c = c .before .loop .inv .3
 
--- src/chains.rt:82:1
 returns : tie.Need-returns Inv-loop μ-loop
 returns c = from-as _ _ _ _ _ (omega (arith, c .loop-test .left)) (c .before .loop .inv .5)
 

@@ -1,16 +1,12 @@
 -- `higher`: the second corner where the first is less, else the first.
 use Rattle.edges.proofs.chains.higher.Statement.{statement}
 use Rattle.edges.proofs.chains.higher.Tie as tie
-use Rattle.edges.proofs.chains.higher.Reads as reads
-use Rattle.edges.proofs.chains.higher.Lts as lts
 use Rattle.edges.proofs.SideLaws.{pair-up, pair-down}
 use native.Mathlib.Omega.{arith}
 
--- src/chains.rt:58:1
 returns : tie.Need-returns
 returns c = omega (arith, pair-up _ _ (c .if1 .taken), c .before .pre .1)
 
--- src/chains.rt:58:1
 returns-2 : tie.Need-returns-2
 returns-2 c = omega (arith, pair-down _ _ (c .if1 .left), c .before .pre .0)
 

@@ -1,16 +1,12 @@
 -- `lower`: the first corner where it is less, else the second.
 use Rattle.edges.proofs.chains.lower.Statement.{statement}
 use Rattle.edges.proofs.chains.lower.Tie as tie
-use Rattle.edges.proofs.chains.lower.Reads as reads
-use Rattle.edges.proofs.chains.lower.Lts as lts
 use Rattle.edges.proofs.SideLaws.{pair-up, pair-down}
 use native.Mathlib.Omega.{arith}
 
--- src/chains.rt:51:1
 returns : tie.Need-returns
 returns c = omega (arith, pair-up _ _ (c .if1 .taken), c .before .pre .1, c .before .pre .0)
 
--- src/chains.rt:51:1
 returns-2 : tie.Need-returns-2
 returns-2 c = omega (arith, pair-down _ _ (c .if1 .left), c .before .pre .0)
 

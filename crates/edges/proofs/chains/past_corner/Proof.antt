@@ -2,26 +2,20 @@
 use borrow.Author.Needs.{needs}
 use Rattle.edges.proofs.chains.past_corner.Statement.{statement}
 use Rattle.edges.proofs.chains.past_corner.Tie as tie
-use Rattle.edges.proofs.chains.past_corner.Reads as reads
-use Rattle.edges.proofs.chains.past_corner.Lts as lts
 use Rattle.edges.specs.steps.Chains.{pastOf}
 use borrow.Author.Tests.{eq-eqb, ne-eqb, lt-ltb, le-ltb}
 
--- src/chains.rt:22:9
 add-result : tie.Need-add-result
 add-result c = search needs
 
--- src/chains.rt:13:1
 returns : tie.Need-returns
 unfolding pastOf
 returns c = rw (eq-eqb _ _ (c .if1 .taken))
 
--- src/chains.rt:13:1
 returns-2 : tie.Need-returns-2
 unfolding pastOf
 returns-2 c = rw (ne-eqb _ _ (c .before .if1 .left), lt-ltb _ _ (c .if2 .taken))
 
--- src/chains.rt:13:1
 returns-3 : tie.Need-returns-3
 unfolding pastOf
 returns-3 c = rw (ne-eqb _ _ (c .before .if1 .left), le-ltb _ _ (c .if2 .left))

@@ -1,9 +1,6 @@
 -- `past_corners`: the corners before s are below `past`.
 use Rattle.edges.proofs.chains.past_corners.Statement.{statement}
 use Rattle.edges.proofs.chains.past_corners.Tie as tie
-use Rattle.edges.proofs.chains.past_corners.Reads as reads
-use Rattle.edges.proofs.chains.past_corners.Lts as lts
-use Rattle.edges.proofs.chains.past_corner.Reads as past-corner-reads
 use Prim.Native.Nat.{ℕ, _-_, _≤_, _<_}
 use mathlib.Core.Path.{_≡_}
 use mathlib.Core.Bool.{true}
@@ -13,43 +10,37 @@ use Rattle.edges.proofs.chains.Entering.{past-small, past-more}
 use native.Mathlib.Omega.{arith}
 
 abbrev Inv-loop : tie.InvT-loop
-Inv-loop corners past₀ s₀ past s = (s ≤ length corners) × (past ≤ 32768) × ((t : ℕ) → t < s → there corners t ≡ true → getD corners t 0 < past) × (Corners corners)
+Inv-loop corners past₀ s₀ past s = (s ≤ length corners) × (past ≤ 32768) × ((t : ℕ) → t < s → there corners t ≡ true → getD corners t 0 < past) ×
+    (Corners corners)
 
 abbrev μ-loop : tie.MeasureT-loop
 μ-loop corners past₀ s₀ past s = length corners - s
 
--- src/chains.rt:33:5
 loop-holds : tie.Need-loop-holds Inv-loop μ-loop
 loop-holds c = (omega arith, omega arith, (λ t h. absurd (omega arith)), c .before .pre)
 
--- src/chains.rt:34:34
 mul-past-corner : tie.Need-mul-past-corner Inv-loop μ-loop
 mul-past-corner c = omega arith
 
--- src/chains.rt:34:34
 shared-slice-read-past-corner : tie.Need-shared-slice-read-past-corner Inv-loop μ-loop
 shared-slice-read-past-corner c = omega arith
 
--- src/chains.rt:34:9
 past-corner-requires : tie.Need-past-corner-requires Inv-loop μ-loop
 past-corner-requires c κs = c .before .before .loop .inv .3 .fit (c .before .before .loop .s)
 
--- src/chains.rt:35:9
 add-s : tie.Need-add-s Inv-loop μ-loop
 add-s c = omega arith
 
--- src/chains.rt:33:5
 loop-less : tie.Need-loop-less Inv-loop μ-loop
 loop-less c = omega arith
 
--- src/chains.rt:33:5
 loop-again : tie.Need-loop-again Inv-loop μ-loop
 loop-again c =
+    let c5 = c .before .before .before .before .before in
     let l = c .before .before .before .loop in
     rw (c .past-corner .ensures)
-    (omega arith, past-small _ (l .inv .3) _ _ (c .before .before .loop-test .taken) (l .inv .1), past-more (c .before .before .before .before .before .args .corners .now) _ _ (l .inv .2), l .inv .3)
+    (omega arith, past-small _ (l .inv .3) _ _ (c .before .before .loop-test .taken) (l .inv .1), past-more (c5 .args .corners .now) _ _ (l .inv .2), l .inv .3)
 
--- src/chains.rt:27:1
 returns : tie.Need-returns Inv-loop μ-loop
 returns c =
     let l = c .before .loop in

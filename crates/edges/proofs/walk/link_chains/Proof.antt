@@ -1,9 +1,6 @@
 -- `link_chains`: the sides whose lower corner is below a are linked, whatever the sides are that the chains are of.
 use Rattle.edges.proofs.walk.link_chains.Statement.{statement}
 use Rattle.edges.proofs.walk.link_chains.Tie as tie
-use Rattle.edges.proofs.walk.link_chains.Reads as reads
-use Rattle.edges.proofs.walk.link_chains.Lts as lts
-use Rattle.edges.proofs.walk.link_chain.Reads as link-chain-reads
 use Prim.Native.Nat.{ℕ, _+_, _-_, _*_, _≤_, _<_}
 use mathlib.Core.Path.{_≡_, refl, _∙_}
 use mathlib.Core.List.{List}
@@ -21,60 +18,55 @@ Inv-loop heads nexts firsts₀ links₀ a₀ firsts links a =
 abbrev μ-loop : tie.MeasureT-loop
 μ-loop heads nexts firsts₀ links₀ a₀ firsts links a = length heads - a
 
--- src/walk.rt:55:5
 loop-holds : tie.Need-loop-holds Inv-loop μ-loop
-loop-holds c = let p = c .before .before .before .before .pre in (omega arith, refl, refl, p, (λ b h. omega (arith, p .old b h)), λ key ss g. start _ _ _)
+loop-holds c =
+    let c4 = c .before .before .before .before in
+    let p = c4 .pre in (omega arith, refl, refl, p, (λ b h. omega (arith, p .old b h)), λ key ss g. start _ _ _)
 
--- src/walk.rt:56:27
 mul-link-chain : tie.Need-mul-link-chain Inv-loop μ-loop
 mul-link-chain c = omega arith
 
--- src/walk.rt:56:27
 shared-slice-read-link-chain : tie.Need-shared-slice-read-link-chain Inv-loop μ-loop
 shared-slice-read-link-chain c = omega arith
 
--- src/walk.rt:56:37
 cast-link-chain : tie.Need-cast-link-chain Inv-loop μ-loop
 cast-link-chain c = omega (arith, c .before .before .loop .inv .3 .few, c .before .loop-test .taken)
 
--- src/walk.rt:56:37
 mul-link-chain-2 : tie.Need-mul-link-chain-2 Inv-loop μ-loop
 mul-link-chain-2 c = omega (arith, c .before .before .loop .inv .3 .few, c .before .loop-test .taken)
 
--- src/walk.rt:56:9
 link-chain-requires : tie.Need-link-chain-requires Inv-loop μ-loop
-link-chain-requires c κs = let l = c .before .before .before .before .loop in walkable _ _ _ (c .before .before .before .loop-test .taken) _ _ _ _ (l .inv .3) (l .inv .1) (l .inv .2) (l .inv .4)
+link-chain-requires c κs =
+    let c4 = c .before .before .before .before in
+    let l = c4 .loop in walkable _ _ _ (c .before .before .before .loop-test .taken) _ _ _ _ (l .inv .3) (l .inv .1) (l .inv .2) (l .inv .4)
 
--- src/walk.rt:57:9
 add-a : tie.Need-add-a Inv-loop μ-loop
 add-a c = omega arith
 
--- src/walk.rt:55:5
 loop-less : tie.Need-loop-less Inv-loop μ-loop
 loop-less c = omega arith
 
--- src/walk.rt:55:5
 loop-again : tie.Need-loop-again Inv-loop μ-loop
 loop-again c =
-    let l = c .before .before .before .before .before .before .before .before .before .loop in
-    let t = c .before .before .before .before .link-chain in (
-      omega (arith, c .before .before .before .before .before .before .before .before .loop-test .taken),
+    let c4 = c .before .before .before .before in
+    let c8 = c4 .before .before .before .before in
+    let c9 = c8 .before in
+    let l = c9 .loop in
+    let t = c4 .link-chain in (
+      omega (arith, c8 .loop-test .taken),
       t .kept .1 .1 .1 .0 ∙ l .inv .1,
       t .kept .1 .1 .1 .1 .0 ∙ l .inv .2,
       l .inv .3,
       (λ b h. omega (arith, t .ensures .newer b h)),
-      (λ key ss g. one-chain _ _ _ (c .before .before .before .before .before .before .before .before .loop-test .taken) key ss g _ _ _ (l .inv .5 key ss g) (t .ensures .linked)),
+      (λ key ss g. one-chain _ _ _ (c8 .loop-test .taken) key ss g _ _ _ (l .inv .5 key ss g) (t .ensures .linked)),
     )
 
--- src/walk.rt:49:1
 same-length : tie.Need-same-length Inv-loop μ-loop
 same-length c = c .before .loop .inv .1
 
--- src/walk.rt:49:1
 same-length-2 : tie.Need-same-length-2 Inv-loop μ-loop
 same-length-2 c = c .before .loop .inv .2
 
--- src/walk.rt:49:1
 returns : tie.Need-returns Inv-loop μ-loop
 returns c = λ key ss g w. ended _ _ _ _ _ _ (c .before .loop .inv .5 key ss g) (c .loop-test .left) w
 

@@ -2,64 +2,47 @@
 use borrow.Author.Needs.{needs}
 use Rattle.edges.proofs.walk.link_later.Statement.{statement}
 use Rattle.edges.proofs.walk.link_later.Tie as tie
-use Rattle.edges.proofs.walk.link_later.Reads as reads
-use Rattle.edges.proofs.walk.link_later.Lts as lts
-use Rattle.edges.proofs.sides.polygon_of.Reads as polygon-of-reads
 use Rattle.edges.proofs.walk.Joining.{as-second, as-third}
 
--- src/walk.rt:18:13
 cast-f : tie.Need-cast-f
 cast-f c = search needs
 
--- src/walk.rt:19:13
 cast-s : tie.Need-cast-s
 cast-s c = search needs
 
--- src/walk.rt:20:16
 polygon-of-requires : tie.Need-polygon-of-requires
 polygon-of-requires c κs = search needs
 
--- src/walk.rt:20:5
 mul-links : tie.Need-mul-links
 mul-links c = search needs
 
--- src/walk.rt:20:5
 slice-write-links : tie.Need-slice-write-links
 slice-write-links c = search needs
 
--- src/walk.rt:21:8
 mul-if1 : tie.Need-mul-if1
 mul-if1 c = search needs
 
--- src/walk.rt:21:8
 slice-read-if1 : tie.Need-slice-read-if1
 slice-read-if1 c = search needs
 
--- src/walk.rt:22:20
 polygon-of-requires-2 : tie.Need-polygon-of-requires-2
 polygon-of-requires-2 c κs = search needs
 
--- src/walk.rt:22:9
 mul-links-2 : tie.Need-mul-links-2
 mul-links-2 c = search needs
 
--- src/walk.rt:22:9
 slice-write-links-2 : tie.Need-slice-write-links-2
 slice-write-links-2 c = search needs
 
--- src/walk.rt:14:1
 same-length : tie.Need-same-length
 same-length c = search needs
 
--- src/walk.rt:14:1
 returns : tie.Need-returns
 returns c = as-second _ _ _ _ _ (c .before .before .before .polygon-of .ensures) (c .polygon-of2 .ensures) (c .before .if1 .taken)
 
--- src/walk.rt:14:1
 same-length-2 : tie.Need-same-length-2
 same-length-2 c = search needs
 
--- src/walk.rt:14:1
 returns-2 : tie.Need-returns-2
 returns-2 c = as-third _ _ _ _ (c .before .before .polygon-of .ensures) (c .if1 .left)
 

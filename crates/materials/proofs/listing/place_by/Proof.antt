@@ -2,45 +2,35 @@
 use borrow.Author.Needs.{needs}
 use Rattle.materials.proofs.listing.place_by.Statement.{statement}
 use Rattle.materials.proofs.listing.place_by.Tie as tie
-use Rattle.materials.proofs.listing.place_by.Reads as reads
-use Rattle.materials.proofs.listing.place_by.Lts as lts
-use Rattle.materials.proofs.listing.bucket.Reads as bucket-reads
-use Rattle.materials.proofs.listing.place_in.Reads as place-in-reads
 use mathlib.Core.Path.{_≡_, sym, ap, _∙_}
 use Prim.Native.Nat.{ℕ, _+_}
 use lib.ListN.{getD}
 use lib.Seq.{length-take-le}
 use Rattle.materials.proofs.listing.Entering.{unmarked}
 
--- src/listing.rt:68:20
 bucket-requires : tie.Need-bucket-requires
 bucket-requires c κs = search needs
 
--- src/listing.rt:68:14
 add-if1 : tie.Need-add-if1
 add-if1 c = search needs
 
--- src/listing.rt:68:8
 mul-if1 : tie.Need-mul-if1
 mul-if1 c = search needs
 
--- src/listing.rt:68:8
 shared-slice-read-if1 : tie.Need-shared-slice-read-if1
 shared-slice-read-if1 c = search needs
 
--- src/listing.rt:69:9
 returns : tie.Need-returns
 returns c =
-    let a = c .before .before .before .before .before .args in
-    let p = c .before .before .before .before .before .pre in
+    let c5 = c .before .before .before .before .before in
+    let a = c5 .args in
+    let p = c5 .pre in
     let z = ap (λ (n : ℕ). getD (a .table .now) (256 + n) 0) (sym (c .before .before .bucket .ensures .0)) ∙ c .if1 .taken in
     sym (length-take-le (a .count) (a .list .now) (p .1)) ∙ unmarked _ _ _ (p .2) z
 
--- src/listing.rt:71:5
 place-in-requires : tie.Need-place-in-requires
 place-in-requires c κs = search needs
 
--- src/listing.rt:64:1
 returns-2 : tie.Need-returns-2
 returns-2 c = search needs
 
