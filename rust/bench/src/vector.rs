@@ -95,7 +95,7 @@ fn walk(functions: &[Function]) -> Result<String, String> {
 }
 
 /// Where counts stand if they are not inlined, and where they are.
-const COUNTS: [&str; 5] = ["count_below", "divide", "put_inner", "grow", "build_bvh"];
+const COUNTS: [&str; 6] = ["count_below", "divide", "put_inner", "grow", "build_core", "build_bvh"];
 
 /// Four lanes of a centre loaded, compared and counted, with nothing computed on the way.
 fn counts(functions: &[Function]) -> Result<String, String> {
