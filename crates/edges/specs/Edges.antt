@@ -8,7 +8,7 @@ use Rattle.corners.specs.Corners.{kindsKnown, cornersOf, linksPut}
 use Rattle.edges.specs.declared.entry.Edges.{Edges}
 use Rattle.edges.specs.declared.entry.Edges.the-variants.{Linked, TooManyPolygons, BufferTooShort, UnknownKind}
 use Rattle.edges.specs.declared.entry.Lengths.{Lengths}
-use Rattle.edges.specs.Links.{linksOf}
+use Rattle.sides.specs.Links.{linksOf}
 
 -- 01, edges, 2: 16 bytes a polygon; and three words a polygon for each part of the work buffer.
 abbrev pub short : ℕ → Lengths → Bool

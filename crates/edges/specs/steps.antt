@@ -1,5 +1,1 @@
-pub mod Chains
-pub mod Digits
-pub mod Grouped
-pub mod Linked
 pub mod Work

@@ -1,22 +1,22 @@
 // The links of all sides.
-use crate::chains::clear;
-use crate::chains::enter_sides;
-use crate::chains::past_corners;
-use crate::grouping::group;
-use crate::runs::link_runs;
-use crate::sides::clear_links;
-use crate::sides::put_keys;
-use crate::sides::put_sides;
-use crate::walk::link_chains;
+use side_chains::chains::clear;
+use side_chains::chains::enter_sides;
+use side_chains::chains::past_corners;
+use side_chains::walk::link_chains;
+use side_order::grouping::group;
+use side_order::runs::link_runs;
+use sides::clear_links;
+use sides::put_keys;
+use sides::put_sides;
 ghost use mathlib.Core.Path.{_≡_};
 ghost use Prim.Native.Nat.{_≤_, _<_};
 ghost use lib.ListN.{length, take};
 ghost use Rattle.base.specs.Every.{Every};
-ghost use Rattle.edges.specs.Lists.{RisingBy};
-ghost use Rattle.edges.specs.steps.Grouped.{keyIn, Sides};
-ghost use Rattle.edges.specs.Links.{linksOf, Room};
-ghost use Rattle.edges.specs.steps.Chains.{Enterable};
-ghost use Rattle.edges.specs.steps.Linked.{Linked};
+ghost use Rattle.sides.specs.Lists.{RisingBy};
+ghost use Rattle.sides.specs.steps.Grouped.{keyIn, Sides};
+ghost use Rattle.sides.specs.Links.{linksOf, Room};
+ghost use Rattle.side_chains.specs.steps.Chains.{Enterable};
+ghost use Rattle.sides.specs.steps.Linked.{Linked};
 ghost use Rattle.corners.specs.Corners.{Corners};
 
 // Links each of the sides, which are in their order.

@@ -11,7 +11,7 @@ use borrow.Author.Count.{below-more}
 use borrow.Author.Tests.{eq-eqb, ne-eqb}
 use Rattle.base.specs.Lists.{oneIf, sift}
 use Rattle.corners.specs.Corners.{none, there}
-use Rattle.edges.proofs.UpFromLaws.{counting-more}
+use Rattle.sides.proofs.UpFromLaws.{counting-more}
 use Rattle.rays.specs.Checks.{trianglesOf}
 use Rattle.rays.specs.steps.Rows.{putTriangle}
 

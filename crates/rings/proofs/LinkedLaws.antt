@@ -12,9 +12,9 @@ use Rattle.base.specs.Every.{Every}
 use Rattle.base.specs.Lists.{upFrom}
 use Rattle.base.proofs.EveryLaws.{every-sift}
 use Rattle.corners.specs.Corners.{none, there}
-use Rattle.edges.specs.Links.{linkAmong, sameAs, linkOf, linksOf}
-use Rattle.edges.specs.Sides.{keyOf, sidesOf}
-use Rattle.edges.proofs.UpFromLaws.{map-counting, every-counting}
+use Rattle.sides.specs.Links.{linkAmong, sameAs, linkOf, linksOf}
+use Rattle.sides.specs.Sides.{keyOf, sidesOf}
+use Rattle.sides.proofs.UpFromLaws.{map-counting, every-counting}
 use Rattle.rings.specs.steps.Stored.{Neighbour, Linked}
 
 module _ (cs : List ℕ) (n : ℕ) (size : length cs ≡ 3 * n) where

@@ -12,7 +12,7 @@ use lib.Seq.{length-take-le, take-suc-set}
 use borrow.Author.Tests.{eqb-false, eq-eqb, ne-eqb}
 use Rattle.rings.specs.declared.ring.Walker.{Walker}
 use Rattle.corners.specs.Corners.{none, nextOf}
-use Rattle.edges.proofs.SideLaws.{leads-within}
+use Rattle.sides.proofs.SideLaws.{leads-within}
 use Rattle.rings.specs.Firsts.{noSide}
 use Rattle.rings.proofs.SideLaws.{side-to-in}
 use Rattle.rings.specs.Rings.{sideTo, otherLink, arrived, onward, ringFrom, firstLink, ringOf}

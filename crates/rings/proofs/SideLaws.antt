@@ -13,8 +13,8 @@ use Rattle.base.specs.Every.{Every}
 use Rattle.base.specs.Lists.{sift, upFrom}
 use Rattle.base.proofs.EveryLaws.{every-sift}
 use Rattle.corners.specs.Corners.{nextOf}
-use Rattle.edges.proofs.SideLaws.{leads-on, leads-back}
-use Rattle.edges.proofs.UpFromLaws.{counting-more, every-counting}
+use Rattle.sides.proofs.SideLaws.{leads-on, leads-back}
+use Rattle.sides.proofs.UpFromLaws.{counting-more, every-counting}
 use Rattle.rings.specs.Firsts.{noSide, firstOf, firstSide}
 use Rattle.rings.specs.Rings.{sideTo}
 use Rattle.rings.specs.steps.Stored.{orSide}

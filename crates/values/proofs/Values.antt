@@ -8,8 +8,8 @@ use lib.Ieee.{nan, inf, neg, sub, mul, lt, le, isNan, toSigned, binary32, ofBits
 use Rattle.base.specs.LittleEndian.{littleEndian}
 use Rattle.float32.specs.Casts.{shortOf, clampOf, truncatedOf, vertexOf}
 use Rattle.float32.specs.SquareRoot.{sqrtOf}
-use Rattle.edges.specs.Links.{linkOf, linksOf}
-use Rattle.edges.specs.Sides.{pairOf, keyOf}
+use Rattle.sides.specs.Links.{linkOf, linksOf}
+use Rattle.sides.specs.Sides.{pairOf, keyOf}
 use Rattle.materials.specs.Materials.{materialOf, valueAt, valuesOf, admit, listOf, indicesOf}
 use Rattle.corners.specs.Corners.{none, nextOf}
 use Rattle.polygon.specs.Halves.{fourBytes, halvesBytes}

@@ -8,7 +8,7 @@ use Rattle.base.specs.Lists.{over}
 use Rattle.corners.specs.Corners.{Corners, cornersOf, linksPut}
 use Rattle.corners.proofs.CornerLaws.{length-corners}
 use Rattle.corners.proofs.LinkLaws.{corners-hold}
-use Rattle.edges.specs.Links.{linksOf}
+use Rattle.sides.specs.Links.{linksOf}
 use Rattle.edges.specs.Edges.{linked}
 
 module _ (n : ℕ) (polygons corners₀ corners : List ℕ) (e : corners ≡ over (cornersOf n polygons) corners₀) where

@@ -10,12 +10,12 @@ use borrow.Author.Tests.{ne-eqb}
 use Rattle.base.specs.Every.{Every}
 use Rattle.base.specs.Lists.{sift, upFrom}
 use Rattle.corners.specs.Corners.{none, nextOf, there, Corners}
-use Rattle.edges.specs.Sides.{pairOf, keyOf, sidesOf}
-use Rattle.edges.specs.Lists.{RisingBy}
-use Rattle.edges.specs.steps.Linked.{Linked}
-use Rattle.edges.specs.steps.Chains.{lowOf, highOf, highIn, Chained, Enterable, Fit, Linkable, sidesFrom}
-use Rattle.edges.proofs.EveryOf.{every-map, every-both, every-passes}
-use Rattle.edges.proofs.SideLaws.{leads-within}
+use Rattle.sides.specs.Sides.{pairOf, keyOf, sidesOf}
+use Rattle.sides.specs.Lists.{RisingBy}
+use Rattle.sides.specs.steps.Linked.{Linked}
+use Rattle.side_chains.specs.steps.Chains.{lowOf, highOf, highIn, Chained, Enterable, Fit, Linkable, sidesFrom}
+use Rattle.sides.proofs.EveryOf.{every-map, every-both, every-passes}
+use Rattle.sides.proofs.SideLaws.{leads-within}
 use Rattle.edges.proofs.links.Whole.{sides-within, sides-rise}
 
 all-sides : (cs : List ℕ) → sidesFrom cs 0 ≡ sidesOf cs

@@ -9,20 +9,20 @@ use lib.Dec.{eqb}
 use lib.ListN.{length, getD, take, length-map}
 use lib.Seq.{length-take-le, getD-take, ext-getD}
 use Rattle.base.specs.Lists.{occurrences, Among, upFrom}
-use Rattle.edges.specs.Lists.{withKey, RisingBy}
+use Rattle.sides.specs.Lists.{withKey, RisingBy}
 use Rattle.base.specs.Every.{Every}
 use Rattle.corners.specs.Corners.{none, there, Corners}
-use Rattle.edges.specs.Sides.{keyOf, sidesOf}
-use Rattle.edges.specs.Links.{linkAmong, sameAs, linkOf, linksOf}
-use Rattle.edges.specs.steps.Linked.{Linked}
-use Rattle.edges.specs.steps.Grouped.{keyIn, Keyed, Sides, Grouped}
+use Rattle.sides.specs.Sides.{keyOf, sidesOf}
+use Rattle.sides.specs.Links.{linkAmong, sameAs, linkOf, linksOf}
+use Rattle.sides.specs.steps.Linked.{Linked}
+use Rattle.sides.specs.steps.Grouped.{keyIn, Keyed, Sides, Grouped}
 use Rattle.base.proofs.EveryLaws.{every-sift}
-use Rattle.edges.proofs.EveryOf.{every-map, every-both, every-passes, every-of, every-among}
-use Rattle.edges.proofs.SiftLaws.{occurs-same}
-use Rattle.edges.proofs.RisingLaws.{rising-sift}
-use Rattle.edges.proofs.SideLaws.{key-below}
+use Rattle.sides.proofs.EveryOf.{every-map, every-both, every-passes, every-of, every-among}
+use Rattle.sides.proofs.SiftLaws.{occurs-same}
+use Rattle.sides.proofs.RisingLaws.{rising-sift}
+use Rattle.sides.proofs.SideLaws.{key-below}
 use Rattle.base.proofs.NumberLaws.{length-up}
-use Rattle.edges.proofs.UpFromLaws.{map-counting, every-counting, among-counting, counting-rises}
+use Rattle.sides.proofs.UpFromLaws.{map-counting, every-counting, among-counting, counting-rises}
 
 -- ---- the sides that are grouped are the sides
 

@@ -3,8 +3,8 @@ use borrow.Author.Needs.{needs}
 use Rattle.edges.proofs.links.links_by_chains.Statement.{statement}
 use Rattle.edges.proofs.links.links_by_chains.Tie as tie
 use mathlib.Core.Path.{refl, _∙_}
-use Rattle.edges.specs.Sides.{keyOf, sidesOf}
-use Rattle.edges.proofs.chains.Entering.{still-enterable}
+use Rattle.sides.specs.Sides.{keyOf, sidesOf}
+use Rattle.side_chains.proofs.chains.Entering.{still-enterable}
 use Rattle.edges.proofs.links.ByChains.{chained, linkable, lows}
 use Rattle.edges.proofs.links.Whole.{links-are}
 use native.Mathlib.Omega.{arith}

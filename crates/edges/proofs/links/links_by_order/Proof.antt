@@ -4,7 +4,7 @@ use Rattle.edges.proofs.links.links_by_order.Statement.{statement}
 use mathlib.Core.Path.{_≡_, sym, _∙_}
 use lib.ListN.{length, take}
 use lib.Seq.{length-take-le}
-use Rattle.edges.specs.steps.Grouped.{keyIn}
+use Rattle.sides.specs.steps.Grouped.{keyIn}
 use Rattle.edges.proofs.links.Whole.{sides-rise, sides-within, sides-keyed, links-are}
 use native.Mathlib.Omega.{arith}
 use Rattle.edges.proofs.links.links_by_order.Tie as tie

@@ -4,7 +4,7 @@ use Rattle.rings.proofs.ring.next_side.Statement.{statement}
 use Rattle.rings.proofs.ring.next_side.Tie as tie
 use mathlib.Core.Path.{_∙_, ap}
 use Prim.Native.Nat.{ℕ, _/_}
-use Rattle.edges.proofs.SideLaws.{leads-on, leads-back}
+use Rattle.sides.proofs.SideLaws.{leads-on, leads-back}
 use Rattle.rings.proofs.SideLaws.{next-same}
 
 sub-result : tie.Need-sub-result
