@@ -1,6 +1,6 @@
 -- The loops over a list of kept vertices: a search (`Searching`: what is left decides), a thinning in place (`Thinning`: what stands,
 -- followed by what the rest gives, is the whole), and the vertices one after the other (`Gathering`).
-use mathlib.Core.Path.{_≡_, refl, sym, ap, ap₂, _∙_}
+use mathlib.Core.Path.{_≡_, refl, sym, ap, _∙_}
 use mathlib.Core.Bool.{Bool, true, false, not, _||_}
 use mathlib.Core.List.{List, [], _∷_, _++_, append-nil}
 use Prim.Native.Nat.{ℕ, zero, suc, _+_, _*_, _≤_, _<_}
@@ -9,7 +9,7 @@ use native.Mathlib.Decide.{decLt}
 use native.Mathlib.Numerals.{add-one}
 use lib.ListN.{length, getD, set, take, drop, length-set, drop-of-length-le, length-append, length-drop, length-take}
 use lib.Seq.{take-suc-set, drop-set-lt, append-snoc, length-take-le, take-append-le}
-use Rattle.base.specs.Lists.{sift, Below}
+use Rattle.base.specs.Lists.{sift, over, Below}
 use Rattle.base.proofs.ListLaws.{length-sift}
 use Rattle.base.proofs.StoreLaws.{rest-one}
 use Rattle.base.proofs.EveryLaws.{every-append, every-sift}
@@ -188,9 +188,9 @@ gathered n rows before kept count i g h =
 -- ---- written out
 
 pub written-out : (xs part rest before after : List ℕ) (r : ℕ) → r ≤ length part → Begins xs part r
-    → after ≡ take r (part ++ rest) ++ drop r before → Written xs before after r
+    → after ≡ over (take r (part ++ rest)) before → Written xs before after r
 written-out xs part rest before after r l b e =
     record {
       count = b .count;
-      list = e ∙ ap₂ (λ (u : List ℕ) (k : ℕ). u ++ drop k before) (take-append-le r part rest l ∙ b .list) (b .count);
+      list = e ∙ ap (λ (u : List ℕ). over u before) (take-append-le r part rest l ∙ b .list);
     }

@@ -31,7 +31,8 @@ chain-same nexts e [] (t ∷ ts) c d = absurd (omega (arith, c, d .0))
 chain-same nexts e (s ∷ ss) [] c d = absurd (omega (arith, c .0, d))
 chain-same nexts e (s ∷ ss) (t ∷ ts) c d =
     let q : s ≡ t = omega (arith, c .0, d .0) in
-    ap₂ (λ (n : ℕ) (l : List ℕ). n ∷ l) q (chain-same nexts (behindIn nexts s) ss ts (c .1) (subst (λ (n : ℕ). Chain nexts (behindIn nexts n) ts) (sym q) (d .1)))
+    let rest = subst (λ (n : ℕ). Chain nexts (behindIn nexts n) ts) (sym q) (d .1) in
+    ap₂ (λ (n : ℕ) (l : List ℕ). n ∷ l) q (chain-same nexts (behindIn nexts s) ss ts (c .1) rest)
 
 -- ---- one more side in front
 

@@ -64,7 +64,8 @@ module _ (cs heads₀ nexts₀ : List ℕ) (w : Enterable cs heads₀ nexts₀) 
           for-link = omega (arith, k .0 .0, ll);
           for-first = omega (arith, k .1, corners-below cs heads₀ nexts₀ w s (k .0 .0) (k .0 .1) .1, fl);
         }) (sidesOf cs)
-        (every-both (λ s. (s < length cs) × (there cs s ≡ true)) (λ s. highIn nexts s ≡ highOf (keyOf cs) s) (sidesOf cs) there-within (chained cs heads nexts g .highs))
+        (every-both (λ s. (s < length cs) × (there cs s ≡ true)) (λ s. highIn nexts s ≡ highOf (keyOf cs) s) (sidesOf cs) there-within
+        (chained cs heads nexts g .highs))
 
     pub linkable : ((b : ℕ) → b < length firsts → getD firsts b 0 ≤ 0) → Linkable heads nexts firsts links
     linkable old =

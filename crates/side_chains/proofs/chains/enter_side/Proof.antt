@@ -54,7 +54,9 @@ add-nexts : tie.Need-add-nexts
 add-nexts c =
     let c4 = c .before .before .before .before in
     let c10 = c4 .before .before .before .before .before .before in
-    let p = c10 .pre in omega (arith, packed-fits _ _ _ _ _ (p .0) (p .1) (p .2) (c4 .if1 .taken) (p .3) _ (c .before .before .lower .ensures) _ (c .before .higher .ensures))
+    let p = c10 .pre in
+    let low = c .before .before .lower .ensures in
+    omega (arith, packed-fits _ _ _ _ _ (p .0) (p .1) (p .2) (c4 .if1 .taken) (p .3) _ low _ (c .before .higher .ensures))
 
 mul-nexts-3 : tie.Need-mul-nexts-3
 mul-nexts-3 c = search needs

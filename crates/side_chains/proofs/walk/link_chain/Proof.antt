@@ -45,7 +45,8 @@ link-later-requires : tie.Need-link-later-requires Inv-loop μ-loop
 link-later-requires c κs =
     let c4 = c .before .before .before .before in
     let c5 = c4 .before in
-    (first-inside _ _ _ _ _ _ _ _ (c5 .loop .inv) (c4 .loop-test .taken) (c .before .if1 .taken), for-link _ _ _ _ _ _ _ _ (c5 .loop .inv) (c4 .loop-test .taken))
+    let inside = first-inside _ _ _ _ _ _ _ _ (c5 .loop .inv) (c4 .loop-test .taken) (c .before .if1 .taken) in
+    (inside, for-link _ _ _ _ _ _ _ _ (c5 .loop .inv) (c4 .loop-test .taken))
 
 loop-less : tie.Need-loop-less Inv-loop μ-loop
 loop-less c =
