@@ -13,7 +13,7 @@ use lib.Ieee.Bits.{ofBits-toBits}
 use lib.Ieee.Fits.{add-fits}
 use borrow.Author.Tests.{eqb-true, eqb-false, le-leb, lt-leb}
 use Rattle.base.specs.Lists.{sift, upFrom}
-use Rattle.edges.proofs.UpFromLaws.{counting-more}
+use Rattle.sides.proofs.UpFromLaws.{counting-more}
 use Rattle.math.specs.declared.vec3.Vec3.{Vec3}
 use Rattle.math.specs.Stored.{valuesOf}
 use Rattle.math.specs.Vec3s.{addOf}

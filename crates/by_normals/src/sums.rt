@@ -75,7 +75,7 @@ pub fn put_sums(
     ensures { λ _.
         ⌜ Sums (placedOf (now (corners .entry)) (now (vertices .entry)) v center transform) (3 * n) (now (points .exit)) ⌝ }
 {
-    edges::chains::clear(points);
+    side_chains::chains::clear(points);
     let mut p = 0;
     while p < n {
         add_triangle(corners, vertices, v, center, transform, p, points);

@@ -4,3 +4,4 @@ mod RayLaws
 mod RowLaws
 pub mod SomeLaws
 mod TriangleLaws
+mod TurnLaws

@@ -1,7 +1,7 @@
 -- Rule S6 over the polygons is rule S6 over the rows: `anyOf` by numbers, and a test of either kind by each of its parts. By induction on the list.
 use Prim.Native.Nat.{ℕ, zero, suc, _+_, _*_, _<_}
 use native.Mathlib.Omega.{arith}
-use mathlib.Core.Path.{_≡_, refl, ap, ap₂, _∙_}
+use mathlib.Core.Path.{_≡_, refl, sym, ap, ap₂, _∙_}
 use mathlib.Core.Bool.{Bool, true, false, not, _&&_, _||_}
 use mathlib.Core.List.{List, [], _∷_}
 use lib.Dec.{eqb, leb}
@@ -12,7 +12,7 @@ use Rattle.rays.specs.declared.rays.Ray.{Ray}
 use Rattle.rays.specs.Checks.{anyOf, trianglesOf, missing, ownOf, facetOver, wayBack, stops, fails, passes}
 use Rattle.rays.specs.Rays.{naught, facetOf, hits}
 use Rattle.points.specs.Points.{vertexAt}
-use Rattle.rays.specs.steps.Checking.{onTheWay, missingIn, failsIn}
+use Rattle.rays.specs.steps.Checking.{onTheWay, missingIn, movedIn, failsIn}
 use Rattle.rays.specs.steps.Counting.{noneTo}
 use Rattle.rays.specs.steps.Rows.{Laid}
 
@@ -160,15 +160,31 @@ module _ {cs : List ℕ} {n : ℕ} {tri : List ℕ} {t : ℕ} (laid : Laid cs n 
         ∙ any-same (λ p. over old p || over new p) on (λ p. by-own (hits ray (facetOver cs old p)) (hits ray (facetOver cs new p)) (ownOf cs i p)) ts)
         ∙ any-or (missing cs v) on ts
 
-    fails-by-rows : (i : ℕ) → failsIn tri t (missingIn tri t v) old new i ≡ fails cs n old new v i
+    fails-by-rows : missingIn tri t v ≡ false → (i : ℕ) → failsIn tri t old new i ≡ fails cs n old new v i
     unfolding failsIn fails
-    fails-by-rows i =
+    fails-by-rows none i =
         let ray = wayBack (vertexAt old i) (vertexAt new i) in
-        ap (λ (b : Bool). not (eq (ray .length) naught) && b) (stopped i ray)
+        let on = not (noneTo t (onTheWay tri t old i ray)) || not (noneTo t (onTheWay tri t new i ray)) in
+        ap (λ (b : Bool). not (eq (ray .length) naught) && b) (ap (λ (b : Bool). b || on) (sym none) ∙ stopped i ray)
 
-    pub passes-by-rows : noneTo v (failsIn tri t (missingIn tri t v) old new) ≡ passes cs n old new v
+    -- with a corner missing every vertex fails that moved
+    fails-by-moving : missingIn tri t v ≡ true → (i : ℕ) → movedIn old new i ≡ fails cs n old new v i
+    unfolding fails
+    fails-by-moving some i =
+        let ray = wayBack (vertexAt old i) (vertexAt new i) in
+        let on = not (noneTo t (onTheWay tri t old i ray)) || not (noneTo t (onTheWay tri t new i ray)) in
+        and-true (not (eq (ray .length) naught))
+        ∙ ap (λ (b : Bool). not (eq (ray .length) naught) && b) (ap (λ (b : Bool). b || on) (sym some) ∙ stopped i ray)
+
+    passes-by : (p : ℕ → Bool) → ((i : ℕ) → p i ≡ fails cs n old new v i) → noneTo v p ≡ passes cs n old new v
     unfolding passes
-    passes-by-rows =
-        none-same v (failsIn tri t (missingIn tri t v) old new) (λ k. fails cs n old new v (0 + k))
-        (λ k h. fails-by-rows k ∙ (let z : k ≡ 0 + k = omega arith in ap (fails cs n old new v) z))
+    passes-by p h =
+        none-same v p (λ k. fails cs n old new v (0 + k)) (λ k l. h k ∙ (let z : k ≡ 0 + k = omega arith in ap (fails cs n old new v) z))
         ∙ none-up (fails cs n old new v) 0 v
+
+    pub passes-by-rows : missingIn tri t v ≡ false → noneTo v (failsIn tri t old new) ≡ passes cs n old new v
+    passes-by-rows none = passes-by (failsIn tri t old new) (fails-by-rows none)
+
+    -- Rule S6 with a corner missing: vertices pass only where none moved.
+    pub passes-unmoved : missingIn tri t v ≡ true → noneTo v (movedIn old new) ≡ passes cs n old new v
+    passes-unmoved some = passes-by (movedIn old new) (fails-by-moving some)

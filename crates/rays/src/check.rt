@@ -5,12 +5,19 @@ use math::vec3::Vec3;
 use points::vertex_at;
 ghost use mathlib.Core.Path.{_≡_};
 ghost use Prim.Native.Nat.{ℕ, _+_, _*_, _≤_, _<_};
+ghost use mathlib.Core.Bool.{false};
 ghost use mathlib.Core.List.{List};
 ghost use lib.ListN.{length};
 ghost use Rattle.rays.specs.steps.Counting.{noneTo};
 ghost use Rattle.rays.specs.Checks.{wayBack, passes};
-ghost use Rattle.rays.specs.steps.Checking.{missingIn, failsIn, Checkable, Ready};
-ghost use Rattle.rays.specs.steps.Rows.{Laid};
+ghost use Rattle.rays.specs.steps.Checking.{hasMoved, missingIn, failsIn, turnOf, Begun, Checkable, Ready};
+ghost use Rattle.rays.specs.steps.Rows.{InRows, Laid};
+
+// Whether the vertices pass, and where they do not a vertex that fails.
+pub struct Checked {
+    pub passed: bool,
+    pub failed: usize,
+}
 
 fn way_back(vertex: Vec3, shrunk: Vec3) -> Ray
     ensures { λ r. ⌜ r ≡ wayBack vertex shrunk ⌝ }
@@ -22,6 +29,15 @@ fn way_back(vertex: Vec3, shrunk: Vec3) -> Ray
         dir: d.scale(1.0 / length),
         length: length,
     }
+}
+
+// A NaN length counts as moved.
+pub fn has_moved(vertex: Vec3, shrunk: Vec3) -> bool
+    ensures { λ r. ⌜ r ≡ hasMoved vertex shrunk ⌝ }
+{
+    let ray = way_back(vertex, shrunk);
+    let stayed = ray.length == 0.0;
+    !stayed
 }
 
 // Some triangle has a corner that is none of the v vertices.
@@ -39,10 +55,21 @@ pub fn missing_corner(tri: &[u32], t: usize, v: usize) -> bool
     false
 }
 
+// Whether a corner is missing; where none is, the rows of the triangles as they are. Both serve every margin.
+pub fn begin(tri: &[u32], t: usize, old: &[u32], v: usize, olds: &mut [f32]) -> bool
+    requires { ⌜ (InRows (now tri) (now olds) t) × (3 * v ≤ length (now old)) ⌝ }
+    ensures { λ r. ⌜ Begun (now (tri .entry)) t (now (old .entry)) v (now (olds .exit)) r ⌝ }
+{
+    if missing_corner(tri, t, v) {
+        return true;
+    }
+    crate::faces::put_rows(tri, t, old, olds);
+    false
+}
+
 fn fails(
     tri: &[u32],
     t: usize,
-    missing: bool,
     old: &[u32],
     new: &[u32],
     v: usize,
@@ -50,62 +77,78 @@ fn fails(
     news: &[f32],
     i: usize,
 ) -> bool
-    requires { ⌜ (Ready (now tri) t missing (now old) (now new) v (now olds) (now news)) × (i < v) ⌝ }
-    ensures { λ r. ⌜ r ≡ failsIn (now (tri .entry)) t missing (now (old .entry)) (now (new .entry)) i ⌝ }
+    requires { ⌜ (Ready (now tri) t (now old) (now new) v (now olds) (now news)) × (i < v) ⌝ }
+    ensures { λ r. ⌜ r ≡ failsIn (now (tri .entry)) t (now (old .entry)) (now (new .entry)) i ⌝ }
 {
     let ray = way_back(vertex_at(old, i), vertex_at(new, i));
     if ray.length == 0.0 {
         return false;
-    }
-    if missing {
-        return true;
     }
     let before = hits_in(tri, olds, t, i as u32, ray);
     let after = hits_in(tri, news, t, i as u32, ray);
     0 < before + after
 }
 
+// The vertex of turn k: the hint first, then the others in their order. A hint that is none of the v vertices changes nothing.
+fn turn(k: usize, hint: usize, v: usize) -> usize
+    requires { ⌜ k < v ⌝ }
+    ensures { λ r. ⌜ (r ≡ turnOf hint v k) × (r < v) ⌝ }
+{
+    if v <= hint {
+        return k;
+    }
+    if k == 0 {
+        return hint;
+    }
+    if k <= hint { k - 1 } else { k }
+}
+
 fn none_fails(
     tri: &[u32],
     t: usize,
-    missing: bool,
     old: &[u32],
     new: &[u32],
     v: usize,
+    hint: usize,
     olds: &[f32],
     news: &[f32],
-) -> bool
-    requires { ⌜ Ready (now tri) t missing (now old) (now new) v (now olds) (now news) ⌝ }
-    ensures { λ r. ⌜ r ≡ noneTo v (failsIn (now (tri .entry)) t missing (now (old .entry)) (now (new .entry))) ⌝ }
+) -> Checked
+    requires { ⌜ Ready (now tri) t (now old) (now new) v (now olds) (now news) ⌝ }
+    ensures { λ r. ⌜ r .passed ≡ noneTo v (failsIn (now (tri .entry)) t (now (old .entry)) (now (new .entry))) ⌝ }
 {
-    let mut i = 0;
-    while i < v {
-        if fails(tri, t, missing, old, new, v, olds, news, i) {
-            return false;
+    let mut k = 0;
+    while k < v {
+        let i = turn(k, hint, v);
+        if fails(tri, t, old, new, v, olds, news, i) {
+            return Checked {
+                passed: false,
+                failed: i,
+            };
         }
-        i += 1;
+        k += 1;
     }
-    true
+    Checked {
+        passed: true,
+        failed: hint,
+    }
 }
 
-// Rule S6, of any polygons whose triangles the rows `tri` hold. The rows `olds` and `news` are work.
+// Rule S6, of any polygons whose triangles the rows `tri` hold, none with a missing corner. The rows `news` are work.
+// The vertex `hint` is tried first: nothing but time depends on it, or on the vertex that is named as failing.
 pub fn check_shrunk(
     tri: &[u32],
     t: usize,
     old: &[u32],
     new: &[u32],
     v: usize,
-    olds: &mut [f32],
+    hint: usize,
+    olds: &[f32],
     news: &mut [f32],
-) -> bool
-    requires { ⌜ Checkable (now tri) t (now old) (now new) v (now olds) (now news) ⌝ }
+) -> Checked
+    requires { ⌜ (Checkable (now tri) t (now old) (now new) v (now olds) (now news)) × (Begun (now tri) t (now old) v (now olds) false) ⌝ }
     ensures { λ r.
-        ⌜ ((cs : List ℕ) (n : ℕ) → Laid cs n (now (tri .entry)) t → r ≡ passes cs n (now (old .entry)) (now (new .entry)) v) ⌝ }
+        ⌜ ((cs : List ℕ) (n : ℕ) → Laid cs n (now (tri .entry)) t → r .passed ≡ passes cs n (now (old .entry)) (now (new .entry)) v) ⌝ }
 {
-    if missing_corner(tri, t, v) {
-        return none_fails(tri, t, true, old, new, v, olds, news);
-    }
-    crate::faces::put_rows(tri, t, old, olds);
     crate::faces::put_rows(tri, t, new, news);
-    none_fails(tri, t, false, old, new, v, olds, news)
+    none_fails(tri, t, old, new, v, hint, olds, news)
 }

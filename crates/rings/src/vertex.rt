@@ -27,7 +27,7 @@ fn gather(normals: &[f32], poly: usize, ring: &[u32], count: usize, ns: &mut [f3
 }
 
 // Vertex i, moved. The ring and its normals are work.
-fn shrunk_at(
+pub fn shrunk_at(
     corners: &[u32],
     links: &[u32],
     n: usize,

@@ -4,7 +4,6 @@ use Prim.Native.Nat.{ℕ, zero, suc, _-_, _<_}
 use native.Mathlib.Omega.{arith}
 use mathlib.Core.Path.{_≡_, refl, sym, ap, ap₂, _∙_}
 use mathlib.Core.List.{List}
-use lib.ListN.{length}
 use lib.Ieee.{Float, lt}
 use Rattle.math.specs.Vec3s.{_⊗_, tolerance}
 use Rattle.math.specs.Transform.{half}
@@ -12,8 +11,7 @@ use Rattle.shrink.specs.declared.margin.Margin.the-variants.{Passed, Non
 use Rattle.rings.specs.Meshes.{Mesh, byMargin}
 use Rattle.shrink.specs.Margins.{passing}
 use Rattle.shrink.specs.Searching.{marginOf}
-use Rattle.shrink.specs.steps.Work.{Searchable, Found}
-use Rattle.rings.proofs.VertexLaws.{movable-again}
+use Rattle.shrink.specs.steps.Work.{Found}
 
 module _ (test : Float → Bool) (m : Float) where
   pub too-small : (left : ℕ) → lt tolerance m ≡ false → NonePasses ≡ passing test left m
@@ -53,24 +51,3 @@ module _ {mesh : Mesh} {start : Float} (points : List ℕ) where
             let same : m ≡ m′ = cc in
             w ∙ ap (byMargin mesh) same;
       }
-
-pub searchable-again : {mesh : Mesh} {tri : List ℕ} {t : ℕ} {firsts : List ℕ} {normals : List Float} {ring : List ℕ} {ns olds news : List Float}
-    {points : List ℕ} → Searchable mesh tri t firsts normals ring ns olds news points
-    → (ring′ : List ℕ) (ns′ olds′ news′ : List Float) (points′ : List ℕ)
-    → length ring′ ≡ length ring → length ns′ ≡ length ns → length olds′ ≡ length olds → length news′ ≡ length news → length points′ ≡ length points
-    → Searchable mesh tri t firsts normals ring′ ns′ olds′ news′ points′
-searchable-again s ring′ ns′ olds′ news′ points′ a b c d e =
-    let k = s .checkable in
-    record {
-      movable = movable-again (s .movable) ring′ ns′ a b;
-      laid = s .laid;
-      checkable =
-          record {
-            old-rows = record { corners = k .old-rows .corners; coordinates = omega (arith, k .old-rows .coordinates); few = k .old-rows .few };
-            new-rows = record { corners = k .new-rows .corners; coordinates = omega (arith, k .new-rows .coordinates); few = k .new-rows .few };
-            old-vertices = k .old-vertices;
-            new-vertices = omega (arith, k .new-vertices);
-            few-vertices = k .few-vertices;
-          };
-      size = e ∙ s .size;
-    }

@@ -2,6 +2,7 @@
 use Prim.Native.Nat.{ℕ, _*_}
 use native.Mathlib.Omega.{arith}
 use mathlib.Core.Path.{_≡_, sym, ap, ap₂, _∙_}
+use mathlib.Core.Bool.{Bool}
 use mathlib.Core.List.{List}
 use lib.ListN.{length}
 use lib.Ieee.{Float}
@@ -9,26 +10,29 @@ use Rattle.math.specs.declared.aabb.Aabb.{Aabb}
 use Rattle.shrink.specs.declared.margin.Margin.{Margin}
 use Rattle.shrink.specs.declared.margin.Margin.the-variants.{Passed, NonePasses}
 use Rattle.shrink.specs.declared.whole.Bound.{Bound}
+use Rattle.rays.specs.steps.Checking.{Begun}
 use Rattle.rings.specs.Meshes.{Mesh}
 use Rattle.rings.specs.steps.Stored.{Firsts, Normals}
 use Rattle.shrink.specs.Clamping.{insetOf, clampedWords}
 use Rattle.shrink.specs.Margins.{startOf}
 use Rattle.shrink.specs.Searching.{marginOf}
 use Rattle.shrink.specs.Shrinking.{shrinkMargin, shrunkWords, Shrunk}
-use Rattle.shrink.specs.steps.Work.{Searchable, Found, Shrinkable}
+use Rattle.shrink.specs.steps.Work.{Found, Shrinkable}
+use Rattle.trial.specs.steps.Trying.{Tryable}
 
-pub searchable : {mesh : Mesh} {tri : List ℕ} {t : ℕ} {firsts : List ℕ} {normals : List Float} {ring : List ℕ} {ns olds news : List Float}
+pub tryable : {mesh : Mesh} {tri : List ℕ} {t : ℕ} {firsts : List ℕ} {normals : List Float} {ring : List ℕ} {ns olds news : List Float}
     {points : List ℕ} → Shrinkable mesh tri t firsts normals ring ns olds news points
-    → (firsts′ : List ℕ) (normals′ : List Float) → length firsts′ ≡ length firsts → length normals′ ≡ length normals
+    → (firsts′ : List ℕ) (normals′ olds′ : List Float) → length firsts′ ≡ length firsts → length normals′ ≡ length normals → length olds′ ≡ length olds
     → Firsts (mesh .corners) (3 * mesh .n) (mesh .v) firsts′ → Normals (mesh .corners) (mesh .vertices) (mesh .v) normals′ (mesh .n)
-    → Searchable mesh tri t firsts′ normals′ ring ns olds news points
-searchable s firsts′ normals′ e f first normal =
+    → (bad : Bool) → Begun tri t (mesh .vertices) (mesh .v) olds′ bad → Tryable mesh bad tri t firsts′ normals′ olds′ ring ns news points
+tryable s firsts′ normals′ olds′ e f g first normal bad begun =
+    let k = s .checkable in
     record {
       movable =
           record {
             linked = s .linked;
-            vertices-in = s .checkable .old-vertices;
-            few = s .checkable .few-vertices;
+            vertices-in = k .old-vertices;
+            few = k .few-vertices;
             firsts-in = omega (arith, s .firsts-room);
             firsts-are = first;
             normals-in = omega (arith, s .normals-room);
@@ -37,7 +41,15 @@ searchable s firsts′ normals′ e f first normal =
             normal-room = s .ns-room;
           };
       laid = s .laid;
-      checkable = s .checkable;
+      checkable =
+          record {
+            old-rows = record { corners = k .old-rows .corners; coordinates = omega (arith, k .old-rows .coordinates); few = k .old-rows .few };
+            new-rows = k .new-rows;
+            old-vertices = k .old-vertices;
+            new-vertices = k .new-vertices;
+            few-vertices = k .few-vertices;
+          };
+      begun = begun;
       size = s .size;
     }
 

@@ -37,8 +37,10 @@ pub fn shrink(
 {
     rings::normals::put_normals(corners, n, vertices, v, normals);
     rings::firsts::put_firsts(corners, n, v, firsts);
+    let bad = rays::check::begin(tri, t, vertices, v, olds);
     let start = crate::margin::start_margin(bound.margin, bound.extent.min, bound.extent.max);
     let found = crate::search::first_margin(
+        bad,
         tri,
         t,
         corners,
@@ -49,9 +51,9 @@ pub fn shrink(
         firsts,
         normals,
         start,
+        olds,
         ring,
         ns,
-        olds,
         news,
         points,
     );

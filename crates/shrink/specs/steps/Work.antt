@@ -1,6 +1,5 @@
--- What the search and the whole ask of the slices that they are lent, and what the search leaves. Definitions only.
+-- What the whole asks of the slices that it is lent, and what the search leaves. Definitions only.
 use Prim.Native.Nat.{ℕ, _*_, _≤_}
-use mathlib.Core.Bool.{Bool}
 use mathlib.Core.List.{List}
 use mathlib.Core.Path.{_≡_}
 use lib.ListN.{length}
@@ -8,24 +7,10 @@ use lib.Ieee.{Float}
 use Rattle.rays.specs.steps.Checking.{Checkable}
 use Rattle.rays.specs.steps.Rows.{Laid}
 use Rattle.rings.specs.Meshes.{Mesh, byMargin}
-use Rattle.rings.specs.steps.Gathering.{Movable}
 use Rattle.rings.specs.steps.Stored.{Linked}
 use Rattle.shrink.specs.declared.margin.Margin.{Margin}
 use Rattle.shrink.specs.declared.margin.Margin.the-variants.{Passed}
-use Rattle.shrink.specs.Searching.{passesAt, marginOf}
-
--- What a trial asks: the mesh's t triangles in rows, and what moving and checking ask.
-pub record Searchable (mesh : Mesh) (tri : List ℕ) (t : ℕ) (firsts : List ℕ) (normals : List Float) (ring : List ℕ)
-    (ns olds news : List Float) (points : List ℕ) : Type 0 where
-  pub movable : Movable mesh firsts normals ring ns
-  pub laid : Laid (mesh .corners) (mesh .n) tri t
-  pub checkable : Checkable tri t (mesh .vertices) points (mesh .v) olds news
-  pub size : length points ≡ 3 * mesh .v
-
--- What a trial leaves: the answer, and the vertices that it was given for.
-pub record Tried (mesh : Mesh) (margin : Float) (points : List ℕ) (r : Bool) : Type 0 where
-  pub answer : r ≡ passesAt mesh margin
-  pub points-are : points ≡ byMargin mesh margin
+use Rattle.shrink.specs.Searching.{marginOf}
 
 pub record Found (mesh : Mesh) (start : Float) (points : List ℕ) (r : Margin) : Type 0 where
   pub answer : r ≡ marginOf mesh start

@@ -1,0 +1,2 @@
+mod StayLaws
+pub mod TrialLaws

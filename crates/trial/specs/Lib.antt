@@ -1,0 +1,2 @@
+pub mod steps
+pub mod Trials
