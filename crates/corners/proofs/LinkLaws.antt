@@ -158,7 +158,7 @@ module _ (n : ℕ) (links bytes : List ℕ) (room : 16 * n ≤ length bytes) whe
       let third = corner-kept p 2 h (omega arith) in
       rw (kind, first, second, third)
 
-in-turn-same : (f g : ℕ → List ℕ) (n : ℕ) → ((p : ℕ) → p < n → f p ≡ g p) → inTurn n f ≡ inTurn n g
+pub in-turn-same : (f g : ℕ → List ℕ) (n : ℕ) → ((p : ℕ) → p < n → f p ≡ g p) → inTurn n f ≡ inTurn n g
 in-turn-same f g zero h = refl
 in-turn-same f g (suc n) h = ap₂ (λ (a b : List ℕ). a ++ b) (in-turn-same f g n (λ p below. h p (omega arith))) (h n (omega arith))
 
