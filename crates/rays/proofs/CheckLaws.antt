@@ -11,7 +11,7 @@ use borrow.Author.Tests.{lt-ltb, ne-eqb, leb-false, not-false}
 use Rattle.rays.specs.declared.rays.Ray.{Ray}
 use Rattle.rays.specs.declared.rays.Facet.{Facet}
 use Rattle.rays.specs.steps.Counting.{noneTo}
-use Rattle.rays.specs.Vertices.{vertexAt}
+use Rattle.points.specs.Points.{vertexAt}
 use Rattle.rays.specs.Rays.{naught, hits}
 use Rattle.rays.specs.steps.Rows.{InRows, Filled, Fillable, ownIn, struck, hitsIn}
 use Rattle.rays.specs.Checks.{wayBack}

@@ -1,8 +1,8 @@
 // No vertex that moved crosses, on its way back, a triangle that is not its own.
 use crate::rays::Ray;
 use crate::rows::hits_in;
-use crate::vertices::vertex_at;
 use math::vec3::Vec3;
+use points::vertex_at;
 ghost use mathlib.Core.Path.{_≡_};
 ghost use Prim.Native.Nat.{ℕ, _+_, _*_, _≤_, _<_};
 ghost use mathlib.Core.List.{List};
