@@ -14,7 +14,9 @@ use Rattle.corners.proofs.CornerLaws.{length-in-turn}
 use Rattle.corners.specs.Corners.{none, inTurn}
 use Rattle.polygon.proofs.Sizes.{polygon-bytes}
 use Rattle.polygon.specs.Polygons.{polygonBytes, polygonAt}
-use Rattle.reorder.specs.Reordering.{inOrder, renumbered, relinked, movedTo, rebuiltRecord, rebuiltRecords}
+use Rattle.reorder.specs.Reordering.{inOrder, lookupOf, renumbered, relinked, movedTo, rebuiltRecord, rebuiltRecords}
+use Rattle.reorder.specs.steps.Lent.{Reorderable, Rebuildable}
+use Rattle.reorder.proofs.LookupLaws.{order-below, lookup-below}
 
 -- ---- the order
 
@@ -55,6 +57,21 @@ records-next order lookup bytes before i old h o e f =
     (omega (arith, polygon-bytes (relinked lookup (movedTo order bytes i)) .size))
     ∙ ap (λ (k : ℕ). over (rebuiltRecords k order lookup bytes) before) (sym (add-one i))
 
+-- What `reorder` asks of the lookup that `fill_lookup` made.
+pub reorderable : (n : ℕ) (order lookup₀ lookup polygons out : List ℕ) → Rebuildable n order lookup₀ polygons out → lookup ≡ lookupOf n (take n order)
+    → Reorderable n order lookup polygons out
+reorderable n order lookup₀ lookup polygons out b e =
+    let w = b .numbering in
+    let long = length-take-le n order (w .long) in
+    record {
+      few = w .few;
+      long = w .long;
+      below = order-below n (take n order) long (w .each-once);
+      small = subst (Below 65536) (sym e) (lookup-below n 65536 (take n order) (omega (arith, w .few)));
+      records = b .records;
+      room = b .room;
+    }
+
 -- ---- numbers
 
 pub numbers-next : (order numbers before : List ℕ) (i x : ℕ) {now : List ℕ} → i < length order → i < length before → x ≡ getD numbers (getD order i 0) 0
@@ -66,4 +83,5 @@ numbers-next order numbers before i x h room o e =
     ap (λ (l : List ℕ). set l i x) e
     ∙ over-one (inOrder (take i order) numbers) before x i many room
     ∙ ap (λ (y : ℕ). over (inOrder (take i order) numbers ++ (y ∷ [])) before) o
-    ∙ ap (λ (l : List ℕ). over l before) (sym (ap (λ (l : List ℕ). inOrder l numbers) more ∙ map-append (λ old. getD numbers old 0) (take i order) (getD order i 0 ∷ [])))
+    ∙ ap (λ (l : List ℕ). over l before)
+    (sym (ap (λ (l : List ℕ). inOrder l numbers) more ∙ map-append (λ old. getD numbers old 0) (take i order) (getD order i 0 ∷ [])))

@@ -1,4 +1,5 @@
 // The records in the order, with their links renumbered; and the numbers of the polygons' materials in it.
+use crate::lookup::fill_lookup;
 use crate::lookup::place_at;
 use crate::lookup::position_of;
 use base::numbers::Place;
@@ -15,8 +16,8 @@ ghost use lib.Seq.{sets};
 ghost use Rattle.base.specs.Lists.{over, Below};
 ghost use Rattle.polygon.specs.Polygons.{polygonBytes, polygonAt};
 ghost use Rattle.polygon.specs.declared.Polygon.the-variants.{Triangle};
-ghost use Rattle.reorder.specs.Reordering.{inOrder, renumbered, newLink, relinked, rebuiltRecords};
-ghost use Rattle.reorder.specs.steps.Lent.{Reorderable};
+ghost use Rattle.reorder.specs.Reordering.{inOrder, renumbered, newLink, relinked, rebuiltRecords, rebuiltOf};
+ghost use Rattle.reorder.specs.steps.Lent.{Reorderable, Rebuildable};
 
 // The new number of a link; none where it leads past the polygons.
 fn renumbered(lookup: &[u32], old: u16) -> u16
@@ -137,6 +138,15 @@ pub fn reorder(polygons: &[u8], order: &[u16], n: usize, lookup: &[u32], out: &m
         move_record(polygons, place_at(order, new), lookup, out, new);
         i += 1;
     }
+}
+
+// The same by the lookup of the order, which is made first, in the first n words of `lookup`.
+pub fn rebuild_records(polygons: &[u8], order: &[u16], n: usize, lookup: &mut [u32], out: &mut [u8])
+    requires { ⌜ Rebuildable n (now order) (now lookup) (now polygons) (now out) ⌝ }
+    ensures { λ _. ⌜ now (out .exit) ≡ over (rebuiltOf n (take n (now (order .entry))) (now (polygons .entry))) (now (out .entry)) ⌝ }
+{
+    fill_lookup(order, n, lookup);
+    reorder(polygons, order, n, &lookup[..n], out);
 }
 
 fn number_at(numbers: &[u8], old: Place) -> u8

@@ -18,3 +18,10 @@ pub record Reorderable (n : ℕ) (order lookup polygons out : List ℕ) : Type 0
   pub small : Below 65536 lookup
   pub records : 16 * n ≤ length polygons
   pub room : 16 * n ≤ length out
+
+-- The same, before the lookup is made.
+pub record Rebuildable (n : ℕ) (order lookup polygons out : List ℕ) : Type 0 where
+  pub numbering : Numbering n order
+  pub lookup-room : n ≤ length lookup
+  pub records : 16 * n ≤ length polygons
+  pub room : 16 * n ≤ length out

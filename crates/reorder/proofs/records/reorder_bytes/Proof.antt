@@ -36,7 +36,9 @@ number-at-requires c κs =
     )
 
 slice-write-out : tie.Need-slice-write-out Inv-loop μ-loop
-slice-write-out c = omega (arith, c .before .before .loop-test .taken, c .before .before .before .loop .inv .1, c .before .before .before .before .before .before .before .pre .2)
+slice-write-out c =
+    let at-test = c .before .before in
+    omega (arith, at-test .loop-test .taken, at-test .before .loop .inv .1, at-test .before .before .before .before .before .pre .2)
 
 add-i : tie.Need-add-i Inv-loop μ-loop
 add-i c = omega arith
