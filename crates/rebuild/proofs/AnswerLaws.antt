@@ -1,5 +1,5 @@
 -- What a rebuild answers: the build's answer over the boxes, which can only be a tree or that it has too many nodes, since no buffer is too short.
-use Prim.Native.Nat.{ℕ, _+_, _*_, _≤_, _<_}
+use Prim.Native.Nat.{ℕ, _+_, _*_, _≤_}
 use native.Mathlib.Omega.{arith}
 use mathlib.Core.Bool.{false}
 use mathlib.Core.List.{List}
@@ -61,7 +61,8 @@ module _ (p : ℕ) (bytes ws : List ℕ) (few : p ≤ 32767) where
       let items = itemsOf p bytes ws in
       let many = length-items p bytes ws in
       let words : take (7 * p) held ≡ items = ap (take (7 * p)) q ∙ take-at items (drop (length items) entries) (7 * p) many in
-      let same : length held ≡ length entries = omega (arith, ap length q, length-append items (drop (length items) entries), length-drop (length items) entries) in
+      let same : length held ≡ length entries =
+      omega (arith, ap length q, length-append items (drop (length items) entries), length-drop (length items) entries) in
       rw (words, same) at a
 
   module _ (l : Lent) (r : Build) (o o′ : Outputs) (b : BuildRoom p o l) (a : Answered e leafLimit (lengthsOf o l) r o o′) where
