@@ -138,7 +138,7 @@ second-pass ms p h = second (listOf ms) ms p (all-listed ms) h
 
 -- ---- none twice
 
-absent : (xs : List ℕ) (x : ℕ) → length xs ≤ placeIn xs x → occurrences x xs ≡ 0
+pub absent : (xs : List ℕ) (x : ℕ) → length xs ≤ placeIn xs x → occurrences x xs ≡ 0
 absent [] x h = refl
 absent (y ∷ ys) x h = go (eqb y x) refl (absent ys x)
   where

@@ -327,7 +327,7 @@ module _ (bytes : List ℕ) (each : (i : ℕ) → getD bytes i 0 < 256) where
 
 -- ---- the entry point
 
-kind-written : (p : Polygon) (rest : List ℕ) → kindAt (polygonBytes p ++ rest) 0 ≤ 4
+pub kind-written : (p : Polygon) (rest : List ℕ) → kindAt (polygonBytes p ++ rest) 0 ≤ 4
 unfolding polygonBytes halvesBytes fourBytes littleEndian triangleHalves roundHalves boxHalves
 kind-written (Triangle area nan v1 v2 v3 e1 e2 e3) rest = omega arith
 kind-written (Sphere index radius nan) rest = omega arith

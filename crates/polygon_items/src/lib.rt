@@ -73,7 +73,7 @@ fn put_one(polygons: &[u8], from: usize, vertices: &[u32], items: &mut [u32], at
 }
 
 // The entries of the first n records.
-fn put_items(n: usize, polygons: &[u8], vertices: &[u32], items: &mut [u32])
+pub fn put_items(n: usize, polygons: &[u8], vertices: &[u32], items: &mut [u32])
     requires { ⌜ (16 * n ≤ length (now polygons)) × (7 * n ≤ length (now items)) ⌝ }
     ensures { λ _. ⌜ now (items .exit) ≡ over (itemsOf n (now (polygons .entry)) (now (vertices .entry))) (now (items .entry)) ⌝ }
 {
