@@ -8,6 +8,7 @@ use lib.Dec.{eqb, ltb, leb}
 use lib.ListN.{length, getD}
 use lib.Ieee.{Float, eq}
 use borrow.Author.Tests.{lt-ltb, ne-eqb, leb-false, not-false}
+use Rattle.math.specs.declared.vec3.Vec3.{Vec3}
 use Rattle.rays.specs.declared.rays.Ray.{Ray}
 use Rattle.rays.specs.declared.rays.Facet.{Facet}
 use Rattle.rays.specs.steps.Counting.{noneTo}
@@ -15,7 +16,7 @@ use Rattle.points.specs.Points.{vertexAt}
 use Rattle.rays.specs.Rays.{naught, hits}
 use Rattle.rays.specs.steps.Rows.{InRows, Filled, Fillable, ownIn, struck, hitsIn}
 use Rattle.rays.specs.Checks.{wayBack}
-use Rattle.rays.specs.steps.Checking.{onTheWay, missingIn, failsIn, Checkable, Ready}
+use Rattle.rays.specs.steps.Checking.{onTheWay, missingIn, failsIn, stoppedIn, Checkable, Ready}
 use Rattle.rays.proofs.CountLaws.{zero-sum, count-zero, count-same, none-at}
 
 some-by-zero : (m : ℕ) → ltb 0 m ≡ not (eqb m 0)
@@ -54,6 +55,21 @@ module _ (tri : List ℕ) (n : ℕ) (old new : List ℕ) (i : ℕ) (ray : Ray) (
       ∙ ap not (zero-sum a b ∙ ap₂ (λ (s t : Bool). s && t) p q)
       ∙ either (noneTo n (onTheWay tri n old i ray)) (noneTo n (onTheWay tri n new i ray))
       ∙ by false moved
+
+module _ (tri : List ℕ) (n : ℕ) (old : List ℕ) (shrunk : Vec3) (i : ℕ) (ray : Ray) (way : ray ≡ wayBack (vertexAt old i) shrunk) where
+  as-it-was : (b : Bool) → eq (ray .length) naught ≡ b → not b && not (noneTo n (onTheWay tri n old i ray)) ≡ stoppedIn tri n old shrunk i
+  unfolding stoppedIn
+  as-it-was b e =
+      ap (λ (s : Bool). not s && not (noneTo n (onTheWay tri n old i ray))) (sym e)
+      ∙ ap (λ (r : Ray). not (eq (r .length) naught) && not (noneTo n (onTheWay tri n old i r))) way
+
+  pub unstopped : eq (ray .length) naught ≡ true → false ≡ stoppedIn tri n old shrunk i
+  unstopped e = as-it-was true e
+
+  pub stopped-by-hits : eq (ray .length) naught ≡ false → (olds : List Float) → Filled tri n old olds n → (a : ℕ) → a ≡ hitsIn tri olds n i ray
+      → ltb 0 a ≡ stoppedIn tri n old shrunk i
+  stopped-by-hits moved olds g a x =
+      some-by-zero a ∙ ap not (ap (λ (k : ℕ). eqb k 0) x ∙ none-on-the-way tri n old olds i ray g) ∙ as-it-was false moved
 
 -- where no corner is missing the rows can be filled
 pub fillable : (tri : List ℕ) (n v : ℕ) (ws : List ℕ) (rows : List Float) → missingIn tri n v ≡ false → InRows tri rows n → 3 * v ≤ length ws

@@ -2,7 +2,7 @@
 use Prim.Native.Nat.{ℕ, zero, suc, _+_, _*_, _<_}
 use native.Mathlib.Omega.{arith}
 use mathlib.Core.Path.{_≡_, refl, sym, ap, ap₂, _∙_}
-use mathlib.Core.Bool.{Bool, true, false, not, _&&_, _||_}
+use mathlib.Core.Bool.{Bool, true, false, not, _&&_, _||_, true≢false}
 use mathlib.Core.List.{List, [], _∷_}
 use lib.Dec.{eqb, leb}
 use lib.ListN.{length, getD}
@@ -12,9 +12,10 @@ use Rattle.rays.specs.declared.rays.Ray.{Ray}
 use Rattle.rays.specs.Checks.{anyOf, trianglesOf, missing, ownOf, facetOver, wayBack, stops, fails, passes}
 use Rattle.rays.specs.Rays.{naught, facetOf, hits}
 use Rattle.points.specs.Points.{vertexAt}
-use Rattle.rays.specs.steps.Checking.{onTheWay, missingIn, movedIn, failsIn}
+use Rattle.rays.specs.steps.Checking.{onTheWay, missingIn, movedIn, failsIn, stoppedIn}
 use Rattle.rays.specs.steps.Counting.{noneTo}
 use Rattle.rays.specs.steps.Rows.{Laid}
+use Rattle.rays.proofs.CountLaws.{some-at}
 
 -- ---- none below n
 
@@ -104,6 +105,12 @@ by-own false true false = refl
 by-own false false true = refl
 by-own false false false = refl
 
+-- a vertex that moved and is stopped by either
+one-suffices : (m a b : Bool) → m && a ≡ true → m && (a || b) ≡ true
+one-suffices true true b e = refl
+one-suffices true false b e = absurd (true≢false (sym e))
+one-suffices false a b e = e
+
 -- ---- the rows hold the triangles
 
 module _ {cs : List ℕ} {n : ℕ} {tri : List ℕ} {t : ℕ} (laid : Laid cs n tri t) where
@@ -188,3 +195,13 @@ module _ {cs : List ℕ} {n : ℕ} {tri : List ℕ} {t : ℕ} (laid : Laid cs n 
     -- Rule S6 with a corner missing: vertices pass only where none moved.
     pub passes-unmoved : missingIn tri t v ≡ true → noneTo v (movedIn old new) ≡ passes cs n old new v
     passes-unmoved some = passes-by (movedIn old new) (fails-by-moving some)
+
+    -- Rule S6: vertices do not pass where one of them is stopped by a triangle as it was.
+    stopped-fails : (i : ℕ) → stoppedIn tri t old (vertexAt new i) i ≡ true → failsIn tri t old new i ≡ true
+    unfolding stoppedIn failsIn
+    stopped-fails i e =
+        let ray = wayBack (vertexAt old i) (vertexAt new i) in
+        one-suffices (not (eq (ray .length) naught)) (not (noneTo t (onTheWay tri t old i ray))) (not (noneTo t (onTheWay tri t new i ray))) e
+
+    pub stopped-passes-not : missingIn tri t v ≡ false → (i : ℕ) → i < v → stoppedIn tri t old (vertexAt new i) i ≡ true → passes cs n old new v ≡ false
+    stopped-passes-not none i h e = sym (passes-by-rows none) ∙ some-at v (failsIn tri t old new) i h (stopped-fails i e)

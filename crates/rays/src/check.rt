@@ -10,8 +10,9 @@ ghost use mathlib.Core.List.{List};
 ghost use lib.ListN.{length};
 ghost use Rattle.rays.specs.steps.Counting.{noneTo};
 ghost use Rattle.rays.specs.Checks.{wayBack, passes};
-ghost use Rattle.rays.specs.steps.Checking.{hasMoved, missingIn, failsIn, turnOf, Begun, Checkable, Ready};
+ghost use Rattle.rays.specs.steps.Checking.{hasMoved, missingIn, failsIn, stoppedIn, turnOf, Begun, Checkable, Ready, Stoppable};
 ghost use Rattle.rays.specs.steps.Rows.{InRows, Laid};
+ghost use Rattle.rays.specs.Vertices.{vertexAt};
 
 // Whether the vertices pass, and where they do not a vertex that fails.
 pub struct Checked {
@@ -87,6 +88,26 @@ fn fails(
     let before = hits_in(tri, olds, t, i as u32, ray);
     let after = hits_in(tri, news, t, i as u32, ray);
     0 < before + after
+}
+
+// Vertex i moved, and a triangle as it was is on its way back: so it fails, whatever became of the other vertices.
+pub fn stopped(
+    tri: &[u32],
+    t: usize,
+    old: &[u32],
+    new: &[u32],
+    v: usize,
+    olds: &[f32],
+    i: usize,
+) -> bool
+    requires { ⌜ (Stoppable (now tri) t (now old) (now new) v (now olds)) × (i < v) ⌝ }
+    ensures { λ r. ⌜ r ≡ stoppedIn (now (tri .entry)) t (now (old .entry)) (vertexAt (now (new .entry)) i) i ⌝ }
+{
+    let ray = way_back(vertex_at(old, i), vertex_at(new, i));
+    if ray.length == 0.0 {
+        return false;
+    }
+    0 < hits_in(tri, olds, t, i as u32, ray)
 }
 
 // The vertex of turn k: the hint first, then the others in their order. A hint that is none of the v vertices changes nothing.

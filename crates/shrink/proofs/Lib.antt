@@ -1,3 +1,4 @@
 pub mod AllTried
 mod SearchLaws
 mod WholeLaws
+pub mod WorkWithin

@@ -1,4 +1,5 @@
 pub mod Clamping
+pub mod Costs
 pub mod Margins
 pub mod Searching
 pub mod Shrinking

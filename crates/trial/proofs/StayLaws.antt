@@ -1,10 +1,10 @@
 -- The points before i are those of the whole list: so each can be held against its vertex once it is written.
-use Prim.Native.Nat.{ℕ, _+_, _*_, _<_}
+use Prim.Native.Nat.{ℕ, _+_, _*_, _≤_, _<_}
 use native.Mathlib.Omega.{arith}
 use mathlib.Core.Path.{_≡_, refl, sym, ap, _∙_}
-use mathlib.Core.List.{List}
-use lib.ListN.{getD, take}
-use lib.Seq.{getD-take}
+use mathlib.Core.List.{List, _++_}
+use lib.ListN.{length, getD, take, drop, length-append, List·getD-append}
+use lib.Seq.{getD-take, getD-append-add, length-take-le, sets, sets-eq}
 use lib.Ieee.{Float, neg}
 use Rattle.corners.specs.Corners.{inTurn}
 use Rattle.corners.proofs.CornerLaws.{part-in-turn}
@@ -35,3 +35,26 @@ pub compared : (mesh : Mesh) (margin : Float) (points : List ℕ) (i : ℕ) → 
     → b ≡ vertexAt points i → hasMoved a b ≡ movedIn (mesh .vertices) (byMargin mesh margin) i
 unfolding byMargin
 compared mesh margin points i h e a b x y = λ j. hasMoved (x j) ((y ∙ point-there (shrunkAt mesh (neg margin)) i points (mesh .v) h e) j)
+
+-- ---- one point alone
+
+-- a point that is stored is the one of the whole list
+pub stored-there : (mesh : Mesh) (margin : Float) (points : List ℕ) (i : ℕ) → i < mesh .v → 3 * i + 3 ≤ length points
+    → vertexAt (sets points (3 * i) (wordsOf (shrunkAt mesh (neg margin) i))) i ≡ vertexAt (byMargin mesh margin) i
+unfolding byMargin
+stored-there mesh margin points i h room =
+    let f : ℕ → List ℕ = λ i. wordsOf (shrunkAt mesh (neg margin) i) in
+    let front = take (3 * i) points in
+    let long : length front ≡ 3 * i = length-take-le (3 * i) points (omega arith) in
+    let part : (k : ℕ) → k < 3 → getD (sets points (3 * i) (f i)) (3 * i + k) 0 ≡ getD (inTurn (mesh .v) f) (3 * i + k) 0 = λ k l.
+    let at : 3 * i + k ≡ length front + k = omega (arith, long) in
+    ap (λ (ws : List ℕ). getD ws (3 * i + k) 0) (sets-eq (f i) points (3 * i) room)
+    ∙ List·getD-append (front ++ f i) (drop (3 * i + 3) points) 0 (3 * i + k) (omega (arith, length-append front (f i), long))
+    ∙ ap (λ (j : ℕ). getD (front ++ f i) j 0) at
+    ∙ getD-append-add front (f i) k 0
+    ∙ sym (part-in-turn 3 f (mesh .v) (λ p b. refl) i k h l) in
+    let zero-on : 3 * i ≡ 3 * i + 0 = omega arith in
+    let x : getD (sets points (3 * i) (f i)) (3 * i) 0 ≡ getD (inTurn (mesh .v) f) (3 * i) 0 =
+    ap (λ (k : ℕ). getD (sets points (3 * i) (f i)) k 0) zero-on ∙ part 0 (omega arith)
+    ∙ sym (ap (λ (k : ℕ). getD (inTurn (mesh .v) f) k 0) zero-on) in
+    λ j. valuesOf (record { x = x j; y = part 1 (omega arith) j; z = part 2 (omega arith) j })

@@ -36,6 +36,13 @@ failsIn tri t old new i =
     let ray = wayBack (vertexAt old i) (vertexAt new i) in
     not (eq (ray .length) naught) && (not (noneTo t (onTheWay tri t old i ray)) || not (noneTo t (onTheWay tri t new i ray)))
 
+-- It moved, to the point `shrunk`, and a triangle as it was is on the way: so much is known before the other vertices have moved.
+unfoldable pub stoppedIn : List ℕ → ℕ → List ℕ → Vec3 → ℕ → Bool
+unfolding wayBack
+stoppedIn tri t old shrunk i =
+    let ray = wayBack (vertexAt old i) shrunk in
+    not (eq (ray .length) naught) && not (noneTo t (onTheWay tri t old i ray))
+
 -- The vertex of turn k: the hint first, then the others in their order. A hint that is none of the v vertices changes nothing.
 abbrev pub turnOf : ℕ → ℕ → ℕ → ℕ
 turnOf hint v k = cond (leb v hint) k (cond (eqb k 0) hint (cond (leb k hint) (k - 1) k))
@@ -57,3 +64,11 @@ pub record Ready (tri : List ℕ) (t : ℕ) (old new : List ℕ) (v : ℕ) (rows
   pub lent : Checkable tri t old new v rows rows′
   pub old-filled : Filled tri t old rows t
   pub new-filled : Filled tri t new rows′ t
+
+-- What the check of a vertex against the triangles as they were asks.
+pub record Stoppable (tri : List ℕ) (t : ℕ) (old new : List ℕ) (v : ℕ) (rows : List Float) : Type 0 where
+  pub old-rows : InRows tri rows t
+  pub old-vertices : 3 * v ≤ length old
+  pub new-vertices : 3 * v ≤ length new
+  pub few-vertices : v ≤ 32768
+  pub old-filled : Filled tri t old rows t
