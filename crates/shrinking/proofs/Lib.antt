@@ -1,0 +1,4 @@
+pub mod AnswerLaws
+pub mod LoopLaws
+mod WholeLaws
+pub mod WorkLaws

@@ -1,0 +1,4 @@
+pub mod Answers
+pub mod Interface
+pub mod steps
+pub mod Whole
