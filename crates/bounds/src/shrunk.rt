@@ -1,18 +1,18 @@
 // The shrunk vertices of a geometry.
-use shrinking::answering::ShrinkAnswer;
+use shrink_answers::ShrinkAnswer;
 use shrinking::entry::calculate_verts_shrunk;
 use shrinking::whole::Geometry;
 ghost use mathlib.Core.Path.{_≡_};
 ghost use lib.ListN.{length};
 ghost use Rattle.shrinking.specs.Answers.{workWords};
-ghost use Rattle.shrinking.specs.Interface.{AnsweredIn};
+ghost use Rattle.shrink_answers.specs.Interface.{AnsweredIn};
 
 // The words and floats that polygons and vertices are shrunk in, all parts together.
 #[no_mangle]
 pub extern "C" fn bounds_shrink_work_len(polygons: u32, vertices: u32) -> u64
     ensures { λ r. ⌜ r ≡ workWords polygons vertices ⌝ }
 {
-    shrinking::answering::work_len(polygons, vertices)
+    shrink_answers::work_len(polygons, vertices)
 }
 
 // Shrinks the vertices, three words each, of polygon records: the points are written to the front of `points`. What it works in is lent in
@@ -50,7 +50,7 @@ pub extern "C" fn bounds_calculate_verts_shrunk(
         })
         (now (points .entry)) (now (points .exit)) r ⌝ }
 {
-    shrinking::answering::answer(calculate_verts_shrunk(
+    shrink_answers::answer(calculate_verts_shrunk(
         geometry,
         polygon_count,
         polygons,

@@ -1,4 +1,3 @@
-pub mod AnswerLaws
 pub mod LoopLaws
 mod WholeLaws
 pub mod WorkLaws

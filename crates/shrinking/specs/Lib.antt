@@ -1,4 +1,3 @@
 pub mod Answers
-pub mod Interface
 pub mod steps
 pub mod Whole

@@ -1,9 +1,9 @@
 // What shrinking answers in C: numbers for the cases of the enum.
-use crate::entry::ShrinkRefusal;
-use crate::entry::Shrunk;
+use shrinking::entry::ShrinkRefusal;
+use shrinking::entry::Shrunk;
 ghost use mathlib.Core.Path.{_≡_};
 ghost use Rattle.shrinking.specs.Answers.{refusalNumber, workWords};
-ghost use Rattle.shrinking.specs.Interface.{without, answerIn};
+ghost use Rattle.shrink_answers.specs.Interface.{without, answerIn};
 
 // 01's number, 0 where it is not refused; by what the vertices are shrunk, 1 a margin, 2 their normals, 0 nothing; and the margin, else 0.
 #[repr(C)]

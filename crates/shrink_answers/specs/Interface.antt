@@ -4,13 +4,13 @@ use mathlib.Core.List.{List}
 use mathlib.Core.Path.{_≡_}
 use Rattle.base.specs.Lists.{over}
 use Rattle.rays.specs.Rays.{naught}
-use Rattle.shrinking.specs.declared.answering.ShrinkAnswer.{ShrinkAnswer}
+use Rattle.shrink_answers.specs.declared.ShrinkAnswer.{ShrinkAnswer}
 use Rattle.shrinking.specs.declared.entry.Lengths.{Lengths}
 use Rattle.shrinking.specs.declared.entry.Shrunk.{Shrunk}
 use Rattle.shrinking.specs.declared.entry.Shrunk.the-variants.{ByMargin, ByNormals, NoVertices, Refused}
 use Rattle.shrinking.specs.declared.whole.Geometry.{Geometry}
 use Rattle.shrinking.specs.Answers.{meshIn, refusalNumber, answerOf, kept}
 use Rattle.shrinking.specs.Whole.{shrunkOf}
 
 abbrev pub without : ℕ → ℕ → ShrinkAnswer
 without refusal by = record { refusal = refusal; by = by; margin = naught }

@@ -3,13 +3,13 @@ use Prim.Native.Nat.{ℕ}
 use mathlib.Core.List.{List}
 use mathlib.Core.Path.{_≡_, ap, _∙_}
 use Rattle.base.specs.Lists.{over}
-use Rattle.shrinking.specs.declared.answering.ShrinkAnswer.{ShrinkAnswer}
+use Rattle.shrink_answers.specs.declared.ShrinkAnswer.{ShrinkAnswer}
 use Rattle.shrinking.specs.declared.entry.Lengths.{Lengths}
 use Rattle.shrinking.specs.declared.entry.Shrunk.{Shrunk}
 use Rattle.shrinking.specs.declared.whole.Geometry.{Geometry}
 use Rattle.shrinking.specs.Answers.{meshIn, kept, Answered}
-use Rattle.shrinking.specs.Interface.{answerIn, AnsweredIn}
+use Rattle.shrink_answers.specs.Interface.{answerIn, AnsweredIn}
 use Rattle.shrinking.specs.Whole.{shrunkOf}
 
 pub answered-in : (g : Geometry) (n : ℕ) (polygons : List ℕ) (v : ℕ) (vertices : List ℕ) (l : Lengths) (before after : List ℕ) (s : Shrunk)
     (r : ShrinkAnswer) → Answered g n polygons v vertices l before after s → r ≡ answerIn s → AnsweredIn g n polygons v vertices l before after r
