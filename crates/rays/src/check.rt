@@ -12,7 +12,7 @@ ghost use Rattle.rays.specs.steps.Counting.{noneTo};
 ghost use Rattle.rays.specs.Checks.{wayBack, passes};
 ghost use Rattle.rays.specs.steps.Checking.{hasMoved, missingIn, failsIn, stoppedIn, turnOf, Begun, Checkable, Ready, Stoppable};
 ghost use Rattle.rays.specs.steps.Rows.{InRows, Laid};
-ghost use Rattle.rays.specs.Vertices.{vertexAt};
+ghost use Rattle.points.specs.Points.{vertexAt};
 
 // Whether the vertices pass, and where they do not a vertex that fails.
 pub struct Checked {
