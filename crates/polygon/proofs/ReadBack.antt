@@ -179,7 +179,7 @@ bits-back b h = by (ltb b 32768) refl
     by false e = omega arith
 
 -- the word that was read is the word that is written
-word-back : (w : ℕ) → w < 2 ^ 32 → wordOr (ofBits binary32 w) w ≡ w
+pub word-back : (w : ℕ) → w < 2 ^ 32 → wordOr (ofBits binary32 w) w ≡ w
 unfolding wordOr
 word-back w h = by (isNan (ofBits binary32 w)) refl
   where
@@ -268,7 +268,7 @@ module _ (bytes : List ℕ) (each : (i : ℕ) → getD bytes i 0 < 256) where
   unfolding leAt
   two-lt k = omega (arith, each k, each (k + 1))
 
-  bytes-fit : (k : ℕ) → HalvesFit (halvesAt bytes k)
+  pub bytes-fit : (k : ℕ) → HalvesFit (halvesAt bytes k)
   unfolding halvesAt
   bytes-fit k =
       record {

@@ -8,8 +8,8 @@ use mathlib.Core.List.{List, [], _++_, append-nil}
 use mathlib.Core.Path.{_≡_, refl, sym, ap, ap₂, subst, _∙_}
 use borrow.Author.Tests.{eqb-true, le-leb}
 use lib.Dec.{eqb, leb}
-use lib.ListN.{length, getD, take, drop, length-drop, drop-of-length-le, List·getD-append}
-use lib.Seq.{ext-getD, getD-take, getD-drop, length-take-le}
+use lib.ListN.{length, getD, take, drop, drop-of-length-le, List·getD-append}
+use lib.Seq.{getD-take, getD-drop}
 use Rattle.base.proofs.EveryLaws.{every-at}
 use Rattle.base.proofs.Truth.{both-yes}
 use Rattle.base.specs.LittleEndian.{leAt}
@@ -26,6 +26,7 @@ use Rattle.polygon.specs.Polygons.{polygonBytes, polygonOf, polygonAt, kindAt}
 use Rattle.polygon.specs.declared.Polygon.{Polygon}
 use Rattle.polygon_boxes.specs.Boxes.{bboxOf}
 use Rattle.polygon_items.specs.Items.{itemWords, itemAt, itemsOf}
+use Rattle.reorder.proofs.ReadAgain.{record-in-turn}
 use Rattle.reorder.specs.Reordering.{relinked, movedTo, reorderedOf, rebuiltRecords}
 use Rattle.rebuild.proofs.Unlinked.{unlinked, relinked-alike, box-alike, recordLinked, record-alike, triangles-alike}
 
@@ -35,19 +36,10 @@ module _ (n : ℕ) (f : ℕ → List ℕ) (each : (k : ℕ) → k < n → length
   first-byte : (k : ℕ) → k < n → getD (inTurn n f) (16 * k) 0 ≡ getD (f k) 0 0
   first-byte k h = ap (λ (i : ℕ). getD (inTurn n f) i 0) (sym (add-zero (16 * k))) ∙ part-in-turn 16 f n each k 0 h (omega arith)
 
-  record-in-turn : (k : ℕ) → k < n → take 16 (drop (16 * k) (inTurn n f)) ≡ f k
-  record-in-turn k h =
-      let size : length (take 16 (drop (16 * k) (inTurn n f))) ≡ 16 =
-      length-take-le 16 (drop (16 * k) (inTurn n f)) (omega (arith, length-drop (16 * k) (inTurn n f), length-in-turn 16 f n each)) in
-      ext-getD 0 (take 16 (drop (16 * k) (inTurn n f))) (f k) (size ∙ sym (each k h)) (λ j b. at j (omega arith))
-    where
-      at : (j : ℕ) → j < 16 → getD (take 16 (drop (16 * k) (inTurn n f))) j 0 ≡ getD (f k) j 0
-      at j b = getD-take 16 (drop (16 * k) (inTurn n f)) j 0 b ∙ getD-drop (16 * k) (inTurn n f) j 0 ∙ part-in-turn 16 f n each k j h b
-
   linked-in-turn : (links : List ℕ) (k : ℕ) → k < n → linkedRecord links (inTurn n f) k ≡ recordLinked links k (f k)
   unfolding linkedRecord
   linked-in-turn links k h =
-      ap₂ (λ (t : Bool) (r : List ℕ). cond t (take 10 r ++ linkBytes links k) r) (ap (λ (x : ℕ). eqb (x % 8) 0) (first-byte k h)) (record-in-turn k h)
+      ap₂ (λ (t : Bool) (r : List ℕ). cond t (take 10 r ++ linkBytes links k) r) (ap (λ (x : ℕ). eqb (x % 8) 0) (first-byte k h)) (record-in-turn n f each k h)
 
   -- of n records nothing stands behind those that links were stored in
   nothing-behind : (links : List ℕ) → drop (length (linkedRecords n links (inTurn n f))) (inTurn n f) ≡ []

@@ -1,2 +1,3 @@
 pub mod LookupLaws
+pub mod ReadAgain
 pub mod RecordLaws

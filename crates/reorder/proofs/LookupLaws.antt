@@ -88,7 +88,7 @@ below-map n f [] h = tt
 below-map n f (x ∷ xs) h = (h x, below-map n f xs h)
 
 pub lookup-length : (n : ℕ) (order : List ℕ) → length (lookupOf n order) ≡ n
-lookup-length n order = length-map (upFrom 0 n) (placeIn order) ∙ length-up 0 n
+lookup-length n order = length-map (upFrom 0 n) _ ∙ length-up 0 n
 
 pub lookup-at : (n : ℕ) (order : List ℕ) (old : ℕ) → old < n → getD (lookupOf n order) old 0 ≡ placeIn order old
 lookup-at n order old h =
