@@ -28,13 +28,11 @@ returns c =
 
 by-margin-requires : tie.Need-by-margin-requires
 by-margin-requires c κs =
-    let kept = c .before .before .before .before .before .before .before .before .before .before .stopped-at .kept .1 .1 .1 .1 .1 .1 .1 .1 .1 .1 .1 .1 in (
-      movable-again (c .before .before .before .before .before .before .before .before .before .before .before .before .before .before .before .before .before
-          .before .before .before .before .before .before .before .before .pre .movable) _ _ (kept .0) (kept .1 .0),
-      kept .1 .1 .0
-          ∙ c .before .before .before .before .before .before .before .before .before .before .before .before .before .before .before .before .before .before .before
-          .before .before .before .before .before .before .pre .size,
-    )
+    let pre =
+    c .before .before .before .before .before .before .before .before .before .before .before .before .before .before .before .before .before .before .before
+    .before .before .before .before .before .before .pre in
+    let kept = c .before .before .before .before .before .before .before .before .before .before .stopped-at .kept .1 .1 .1 .1 .1 .1 .1 .1 .1 .1 .1 .1 in
+    (movable-again (pre .movable) _ _ (kept .0) (kept .1 .0), kept .1 .1 .0 ∙ pre .size)
 
 check-shrunk-requires : tie.Need-check-shrunk-requires
 check-shrunk-requires c κs =
