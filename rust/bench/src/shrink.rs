@@ -16,6 +16,7 @@ pub fn all() -> Vec<Subject> {
     vec![
         row("shrink, sphere", SPHERES, &SPHERES[..1], |n, _| shrinks(ball(n).geometry(4, 0.04))),
         row("shrink, thin shell", &[200, 2_048], &[200], |n, _| shrinks(shell(n))),
+        row("shrink, last vertices fail", &SPHERES[..2], &[], |n, _| shrinks(late(n).geometry(4, 0.04))),
         row("shrink, one bad triangle", &[200], &[], |n, _| {
             let mut mesh = rings(n);
             mesh.triangles.push([0, 1, n]);
@@ -30,6 +31,11 @@ pub fn ball(vertices: usize) -> Mesh {
     let mut mesh = sphere(k);
     mesh.vertices.iter_mut().flatten().for_each(|x| *x *= 10.0);
     mesh
+}
+
+/// A sphere, and last two squares that only a margin below 0.00001 keeps apart.
+fn late(vertices: usize) -> Mesh {
+    ball(vertices).and(sheets(1, 0.00001).moved([20.0, 0.0, 0.0]))
 }
 
 /// Two sheets 0.01 apart, of so many vertices, in a box that is not as thin.

@@ -150,13 +150,13 @@ impl Mesh {
         self
     }
 
-    fn moved(mut self, by: Vec3) -> Mesh {
+    pub fn moved(mut self, by: Vec3) -> Mesh {
         self.vertices.iter_mut().for_each(|v| (0..3).for_each(|axis| v[axis] += by[axis]));
         self
     }
 
     /// Another one beside it.
-    fn and(mut self, other: Mesh) -> Mesh {
+    pub fn and(mut self, other: Mesh) -> Mesh {
         let from = self.vertices.len();
         self.vertices.extend(other.vertices);
         self.triangles.extend(other.triangles.iter().map(|t| t.map(|corner| corner + from)));
