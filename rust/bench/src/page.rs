@@ -35,6 +35,7 @@ pub fn tables(series: &[Series]) -> String {
     let more = [
         ("Queries", QUERIES, queries(series)),
         ("Polygons", POLYGONS, calls(series, Kind::Polygon, "operation", "polygons")),
+        ("Shrinking", SHRINKING, lists(series, Kind::Shrink, "vertices", "vertex")),
         ("Octants", OCTANTS, lists(series, Kind::Octants, "vertices", "vertex")),
         ("Composites", COMPOSITES, lists(series, Kind::Composite, "children", "child")),
         ("Steps", STEPS, calls(series, Kind::Step, "step", "calls")),
@@ -74,6 +75,16 @@ materials (`build_materials`) of polygons that have each one of 8 or 256. The li
 works in buffers that are lent again and again; the reference stores them in its structs, and makes lists and, by a
 random seed, hash maps anew. Box (over 32,768 vertices), read and write are a call for each polygon, of the library into
 it. Times and instructions are those of one polygon.
+";
+
+const SHRINKING: &str = "\
+Of the library a call of `bounds::shrink::calculate_verts_shrunk_in`, from records to points, in buffers that are lent again
+and again; of the reference `update_edge_indices` and `calculate_verts_shrunk`. A sphere, of twice as many triangles, passes
+with the first margin: two rays for each vertex and triangle. The thin shell is two sheets 0.01 apart with a margin of 1,
+which is halved until they do not meet. Where the last vertices fail, those of two squares beside a sphere of so many
+vertices, each margin before the 14th is found too large only there. The mesh with one bad triangle, one of whose corners is
+not there, passes with no margin, and nearly all of its vertices have rings of 63 triangles, whose normals are tried three by
+three. Instructions are those of one vertex.
 ";
 
 const OCTANTS: &str = "\

@@ -1,7 +1,7 @@
 //! What is timed: the sides of an operation over the same inputs.
 
 use crate::lists::{self, inputs, spread, Tame};
-use crate::{composites, octants, polygons, walks};
+use crate::{composites, octants, polygons, shrink, walks};
 use bounds::bvh::{build_bvh, records_len, work_len, BvhItem};
 use bounds::{float, math, Mat4, Vec3};
 use oracle::{float as source, math as reference, tree, Aabb};
@@ -42,6 +42,7 @@ pub enum Kind {
     Build,
     Walk,
     Polygon,
+    Shrink,
     Octants,
     Composite,
     Step,
@@ -102,12 +103,13 @@ fn builds(boxes: Vec<Aabb>, threshold: u32) -> Work {
     agreeing(ours, theirs, n)
 }
 
-/// The two sides, each of which answers a number: nodes of a tree or indices in all. They are the same at each pass.
+/// The two sides, each of which answers a number: nodes of a tree, indices in all, a sum of points. They are the same at each
+/// pass.
 pub fn agreeing(ours: impl FnMut() -> usize + 'static, theirs: impl FnMut() -> usize + 'static, units: usize) -> Work {
     fn pass(mut side: impl FnMut() -> usize + 'static, agreed: Rc<Cell<Option<usize>>>) -> Pass {
         Box::new(move || {
             let answer = black_box(side());
-            assert_eq!(agreed.replace(Some(answer)).unwrap_or(answer), answer, "the same tree or lists");
+            assert_eq!(agreed.replace(Some(answer)).unwrap_or(answer), answer, "the same tree, lists or points");
         })
     }
     let agreed = Rc::default();
@@ -135,7 +137,7 @@ fn calls<T: Copy + Send + 'static, A, B>(
 
 pub fn all() -> Vec<Subject> {
     let lists = builds_of_lists().into_iter().chain(walks::all()).chain(polygons::all());
-    lists.chain(octants::all()).chain(composites::all()).chain(steps()).collect()
+    lists.chain(shrink::all()).chain(octants::all()).chain(composites::all()).chain(steps()).collect()
 }
 
 fn builds_of_lists() -> Vec<Subject> {

@@ -1,4 +1,4 @@
-//! Whether the library's two hot loops compare several numbers at once. The source is written so that the compiler does
+//! Whether the library's three hot loops take several numbers at once. The source is written so that the compiler does
 //! it, but nothing else would tell when it no longer does, and the loops would be slow again.
 
 use std::process::{Command, ExitCode};
@@ -54,16 +54,16 @@ impl Instruction<'_> {
     }
 }
 
-/// What the walk and the counts have and what they lack, a line each; `Err` where one lacks something.
+/// What the walk, the counts and the rays have and what they lack, a line each; `Err` where one lacks something.
 fn judged(listing: &str) -> Result<String, String> {
     let functions = functions(listing);
-    let both = [walk(&functions), counts(&functions)];
-    let whole = both.iter().all(Result::is_ok);
+    let loops = [walk(&functions), counts(&functions), rays(&functions)];
+    let whole = loops.iter().all(Result::is_ok);
     let line = |found: Result<String, String>| match found {
         Ok(has) => format!("has     {has}\n"),
         Err(why) => format!("LACKS   {why}\n"),
     };
-    let lines: String = both.into_iter().map(line).collect();
+    let lines: String = loops.into_iter().map(line).collect();
     if whole {
         Ok(lines)
     } else {
@@ -138,6 +138,38 @@ fn counted(code: &[Instruction], at: usize) -> Result<(), Option<String>> {
     }
 }
 
+/// Where the rays stand if they are not inlined, and where they are.
+const RAYS: [&str; 4] = ["rays::", "shrink", "shrunk", "hits"];
+
+/// A ray against four triangles has a division and 27 products; an unrolled or a mixed loop has them within so many
+/// instructions of the division.
+const PRODUCTS: usize = 20;
+const AROUND: usize = 150;
+
+/// Four triangles at once: one division, and the products around it.
+fn rays(functions: &[Function]) -> Result<String, String> {
+    let of = named(functions, &RAYS);
+    if of.is_empty() {
+        return Err(format!("rays: no function named {} in the archive", RAYS.join(", ")));
+    }
+    let mut most = 0;
+    for function in &of {
+        let code = &function.code;
+        for at in (0..code.len()).filter(|&at| code[at].name == "divps") {
+            let near = &code[at.saturating_sub(AROUND)..code.len().min(at + AROUND)];
+            let found = near.iter().filter(|i| i.name == "mulps").count();
+            if found >= PRODUCTS {
+                return Ok(format!("rays: divps and {found} mulps in {}", function.name));
+            }
+            most = most.max(found);
+        }
+    }
+    Err(format!(
+        "rays: no divps with {PRODUCTS} mulps around it, the most being {most}, in {}: triangles are taken one by one",
+        names(&of)
+    ))
+}
+
 /// Prints what was found in the archive that is named.
 pub fn looked(words: &[String]) -> ExitCode {
     let [archive] = words else {
@@ -150,7 +182,7 @@ pub fn looked(words: &[String]) -> ExitCode {
             ExitCode::SUCCESS
         }
         Ok(Err(lines)) => {
-            println!("{lines}The source is written for these compares; without them {archive} is slow.");
+            println!("{lines}The source is written for these instructions; without them {archive} is slow.");
             ExitCode::FAILURE
         }
         Err(why) => {
@@ -205,12 +237,31 @@ mod tests {
      7a2:\tpsubd  %xmm4,%xmm2
 ";
 
+    /// A division among so many products.
+    fn rays(division: &str, products: usize) -> String {
+        let half = "  10:\tmulps  %xmm1,%xmm2\n  14:\taddps  %xmm2,%xmm3\n".repeat(products / 2);
+        format!("0000000000000000 <rays::rows::hits_in>:\n{half}  40:\t{division}  %xmm3,%xmm4\n{half}")
+    }
+
     #[test]
-    fn both_loops_are_found() {
-        let found = judged(&format!("{WALK}\n{COUNTS}")).expect("vector code");
-        let lines =
-            ["has     walk: 2 pcmpgtw in bounds_walk", "has     counts: movups, cmpltps, psubd in bounds_build_bvh"];
+    fn all_loops_are_found() {
+        let found = judged(&format!("{WALK}\n{COUNTS}\n{}", rays("divps", 26))).expect("vector code");
+        let lines = [
+            "has     walk: 2 pcmpgtw in bounds_walk",
+            "has     counts: movups, cmpltps, psubd in bounds_build_bvh",
+            "has     rays: divps and 26 mulps in rays::rows::hits_in",
+        ];
         assert_eq!(found.lines().collect::<Vec<_>>(), lines);
+    }
+
+    #[test]
+    fn rays_one_by_one_are_found() {
+        let lacking = |rays: &str| judged(&format!("{WALK}\n{COUNTS}\n{rays}")).expect_err("no vector code");
+        assert!(
+            lacking(&rays("divss", 26)).contains("LACKS   rays: no divps with 20 mulps around it, the most being 0")
+        );
+        assert!(lacking(&rays("divps", 4)).contains("the most being 4, in rays::rows::hits_in"));
+        assert!(lacking("").contains("LACKS   rays: no function named rays::"));
     }
 
     #[test]

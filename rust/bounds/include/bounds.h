@@ -285,6 +285,80 @@ bounds_vec3 bounds_quantum(bounds_aabb b);
 bounds_vertex bounds_stored_vertex(bounds_vec3 v, bounds_vec3 quantum);
 bounds_vec3 bounds_read_back(bounds_vertex v, bounds_vec3 quantum);
 
+/* ---- shrinking ----
+ *
+ * Where the vertices of a geometry stand when they are moved inwards by its margin. Refusals 6 unknown kind, 7 infinite
+ * margin; the others as above.
+ *
+ * The starting margin is the least of the margin and of half the box on each axis; a NaN among them is skipped. Each vertex
+ * is moved against the normals of the triangles around it, and on its way back it must cross no triangle that is not its
+ * own, neither of the given nor of the moved vertices. If one does, the margin is halved, as long as it is above 1e-6. What
+ * passes is clamped to the box, from which the margin is taken off, 0.025 at least. If none passes, each vertex is moved by
+ * the given margin against the sum of its triangles' normals, which are those of the vertices plus `center`, through
+ * `transform`, and nothing is clamped.
+ */
+
+/* What shrinking reads of a geometry: 26 floats. */
+typedef struct {
+    bounds_vec3 min, max;   /* its box */
+    bounds_vec3 center;     /* added to the vertices where they meet the box and the transform */
+    float margin;
+    bounds_mat4 transform;
+} bounds_geometry;
+
+typedef struct {
+    uint32_t refusal;
+    uint32_t by;   /* 0 nothing was shrunk (refused, or no vertices), 1 by a margin, 2 by normals */
+    float margin;  /* that passed, where `by` is 1; else 0 */
+} bounds_shrink_answer;
+
+/* Words of all the parts that are worked in together, for so many polygons and vertices: 36 and 1 each. */
+uint64_t bounds_shrink_work_len(uint32_t polygons, uint32_t vertices);
+
+/* Shrinks v vertices, of three words each, of p polygons, of 16 bytes each, into `points`, of which 3v words are needed;
+ * those behind stay as they were. A triangle may have corners that are no vertices. The links in the records do not matter:
+ * they are made here. Refusals 1 (over 32,767 polygons or 32,768 vertices), 2, 6 (a record's kind is above 4), 7 (the
+ * starting margin is infinite, and there are vertices), in this order. Without vertices nothing is written. What these hold
+ * does not matter, nor what they hold afterwards:
+ *   corners  3p are needed
+ *   tri      3p
+ *   firsts   3p + v
+ *   spare    3p
+ *   links    3p
+ *   normals  3p
+ *   olds     9p
+ *   news     9p
+ * The time is bounded but can be long: docs/API.md says by what. */
+bounds_shrink_answer bounds_calculate_verts_shrunk(bounds_geometry geometry, size_t polygon_count,
+                                                   const uint8_t *polygons, size_t polygons_len, size_t vertex_count,
+                                                   const uint32_t *vertices, size_t vertices_len,
+                                                   uint32_t *points, size_t points_len,
+                                                   uint32_t *corners, size_t corners_len, uint32_t *tri, size_t tri_len,
+                                                   uint32_t *firsts, size_t firsts_len, uint32_t *spare, size_t spare_len,
+                                                   uint32_t *links, size_t links_len, float *normals, size_t normals_len,
+                                                   float *olds, size_t olds_len, float *news, size_t news_len);
+
+/* bounds_calculate_verts_shrunk in one work buffer, of which bounds_shrink_work_len(p, v) words are needed. */
+static inline bounds_shrink_answer bounds_calculate_verts_shrunk_in(bounds_geometry geometry, size_t polygon_count,
+                                                                    const uint8_t *polygons, size_t polygons_len,
+                                                                    size_t vertex_count,
+                                                                    const uint32_t *vertices, size_t vertices_len,
+                                                                    uint32_t *points, size_t points_len,
+                                                                    uint32_t *work, size_t work_len) {
+    size_t p = polygon_count < 32767 ? polygon_count : 32767, v = vertex_count < 32768 ? vertex_count : 32768;
+    size_t at[9] = {0}, left = work_len;
+    const size_t least[7] = {3 * p, 3 * p, 3 * p + v, 3 * p, 3 * p, 3 * p, 9 * p};
+    for (int i = 0; i < 7; i++)
+        at[i + 1] = at[i] + bounds_part(least[i], &left);
+    at[8] = work_len;
+    return bounds_calculate_verts_shrunk(geometry, polygon_count, polygons, polygons_len,
+                                         vertex_count, vertices, vertices_len, points, points_len,
+                                         work, at[1], work + at[1], at[2] - at[1], work + at[2], at[3] - at[2],
+                                         work + at[3], at[4] - at[3], work + at[4], at[5] - at[4],
+                                         (float *)(work + at[5]), at[6] - at[5], (float *)(work + at[6]), at[7] - at[6],
+                                         (float *)(work + at[7]), at[8] - at[7]);
+}
+
 /* ---- octants ----
  *
  * Of eight directions (bits 0, 1 and 2 of its number turn x, y and z around) the vertices that no other one shadows.

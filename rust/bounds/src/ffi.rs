@@ -10,6 +10,7 @@ use crate::bvh::BvhItem;
 use crate::composite::Child;
 use crate::geometry::{BoundMaterial, BoundVertex};
 use crate::math::{Mat4, Vec3, Vec4};
+use crate::shrink::ShrinkBound;
 use crate::walk::Records;
 
 /// `bounds_aabb`.
@@ -696,6 +697,107 @@ const _: () = {
     assert!(size_of::<ChildBox>() == 28 && align_of::<ChildBox>() == 4);
 };
 
+// ---- shrinking
+
+/// `bounds_shrink_answer`.
+#[derive(Clone, Copy)]
+#[repr(C)]
+pub struct ShrinkAnswer {
+    pub refusal: u32,
+    pub by: u32,
+    pub margin: f32,
+}
+
+unsafe extern "C" {
+    pub safe fn bounds_shrink_work_len(polygons: u32, vertices: u32) -> u64; // any numbers; 36 and 1 stay below 2^64
+
+    // Memory is reached, and only through each pointer and the length behind it: called below, with slices.
+    fn bounds_calculate_verts_shrunk(
+        geometry: ShrinkBound,
+        polygon_count: usize,
+        polygons: *const u8,
+        polygons_len: usize,
+        vertex_count: usize,
+        vertices: *const u32,
+        vertices_len: usize,
+        points: *mut u32,
+        points_len: usize,
+        corners: *mut u32,
+        corners_len: usize,
+        tri: *mut u32,
+        tri_len: usize,
+        firsts: *mut u32,
+        firsts_len: usize,
+        spare: *mut u32,
+        spare_len: usize,
+        links: *mut u32,
+        links_len: usize,
+        normals: *mut f32,
+        normals_len: usize,
+        olds: *mut f32,
+        olds_len: usize,
+        news: *mut f32,
+        news_len: usize,
+    ) -> ShrinkAnswer;
+}
+
+/// `bounds_calculate_verts_shrunk`, of vertices into points, both in words; what it works in is lent in eight parts:
+/// corners, tri, firsts, spare, links, normals, olds and news.
+pub fn calculate_verts_shrunk(
+    bound: ShrinkBound,
+    polygon_count: usize,
+    polygons: &[u8],
+    vertex_count: usize,
+    (vertices, points): (&[u32], &mut [u32]),
+    [corners, tri, firsts, spare, links, normals, olds, news]: [&mut [u32]; 8],
+) -> ShrinkAnswer {
+    // SAFETY: each pointer comes from a slice and goes with that slice's length, and all its cells are initialised. The
+    // polygons and the vertices are only read; the others, being exclusive borrows, overlap neither them nor one another.
+    // Normals, olds and news are lent as floats: those have a word's size and alignment, and any bits are a float's and a
+    // word's. The struct has the header's 26 floats and no padding (checked below). The counts may be any numbers: the
+    // library reaches records and vertices only where it found the slices long enough for them.
+    unsafe {
+        bounds_calculate_verts_shrunk(
+            bound,
+            polygon_count,
+            polygons.as_ptr(),
+            polygons.len(),
+            vertex_count,
+            vertices.as_ptr(),
+            vertices.len(),
+            points.as_mut_ptr(),
+            points.len(),
+            corners.as_mut_ptr(),
+            corners.len(),
+            tri.as_mut_ptr(),
+            tri.len(),
+            firsts.as_mut_ptr(),
+            firsts.len(),
+            spare.as_mut_ptr(),
+            spare.len(),
+            links.as_mut_ptr(),
+            links.len(),
+            normals.as_mut_ptr().cast::<f32>(),
+            normals.len(),
+            olds.as_mut_ptr().cast::<f32>(),
+            olds.len(),
+            news.as_mut_ptr().cast::<f32>(),
+            news.len(),
+        )
+    }
+}
+
+/// [`vector_words`] to be written.
+pub fn vector_words_mut(points: &mut [Vec3]) -> &mut [u32] {
+    // SAFETY: as there; the borrow is exclusive, and each word is the pattern of some float.
+    unsafe { std::slice::from_raw_parts_mut(points.as_mut_ptr().cast(), 3 * points.len()) }
+}
+
+const _: () = {
+    assert!(size_of::<ShrinkBound>() == 104 && align_of::<ShrinkBound>() == 4);
+    assert!(size_of::<ShrinkAnswer>() == 12 && align_of::<ShrinkAnswer>() == 4);
+};
+
 #[cfg(test)]
 mod tests {
     use super::*;
@@ -859,5 +961,58 @@ mod tests {
         let present = |len, k| computed_box(&words[..len], k).present;
         assert_eq!((present(48, 0), present(48, 1), present(47, 1), present(48, 2)), (1, 1, 0, 0));
         assert_eq!((present(0, 0), present(48, usize::MAX), present(48, usize::MAX / 24)), (0, 0, 0));
+    }
+
+    /// Polygons in bytes, vertices, points, and the eight parts of the work buffer.
+    fn shrink_lengths(p: usize, v: usize) -> [usize; 11] {
+        [16 * p, 3 * v, 3 * v, 3 * p, 3 * p, 3 * p + v, 3 * p, 3 * p, 3 * p, 9 * p, 9 * p]
+    }
+
+    /// Triangles 0, 1, 2 of vertices at 7 and the word 7, which is next to 0, in a box of 4 about 0.
+    fn shrink(p: usize, v: usize, kind: u8, lengths: [usize; 11]) -> (ShrinkAnswer, Vec<u32>) {
+        let [polygons, buffers @ ..] = lengths;
+        let record = [kind, 0, 0, 0, 0, 0, 1, 0, 2, 0, 0, 0, 0, 0, 0, 0];
+        let polygons: Vec<u8> = record.into_iter().cycle().take(polygons).collect();
+        let mut buffers = buffers.map(|len| vec![7; len]);
+        let [vertices, points, work @ ..] = buffers.each_mut().map(|part| &mut part[..]);
+        let two = Vec3::new(2.0, 2.0, 2.0);
+        let bound = ShrinkBound::new(-two, two, 1.0);
+        (calculate_verts_shrunk(bound, p, &polygons, v, (vertices, points), work), buffers[1].clone())
+    }
+
+    #[test]
+    fn each_buffer_of_shrinking_is_checked() {
+        const POLYGONS: usize = 2;
+        const VERTICES: usize = 3;
+        let lengths = shrink_lengths(POLYGONS, VERTICES);
+        let answers = |lengths| shrink(POLYGONS, VERTICES, 0, lengths);
+        let (answer, points) = answers(lengths);
+        assert_eq!((answer.refusal, answer.by, answer.margin), (0, 1, 1.0), "of equal vertices none moves");
+        assert_eq!(points, [7; 9], "within the box");
+        for at in 0..lengths.len() {
+            let (mut longer, mut shorter) = (lengths, lengths);
+            longer[at] += 1;
+            let (same, same_points) = answers(longer);
+            assert_eq!((same.refusal, same.by, &same_points[..9]), (0, 1, &points[..]), "buffer {at} longer");
+            assert!(same_points[9..].iter().all(|&word| word == 7), "what lies behind stays");
+            shorter[at] -= 1;
+            let (refused, untouched) = answers(shorter);
+            assert_eq!((refused.refusal, refused.by, refused.margin), (2, 0, 0.0), "buffer {at} shorter");
+            assert!(untouched.iter().all(|&word| word == 7), "buffer {at} shorter");
+        }
+        let words = bounds_shrink_work_len(POLYGONS as u32, VERTICES as u32);
+        assert_eq!(lengths[3..].iter().sum::<usize>() as u64, words);
+    }
+
+    #[test]
+    fn shrinking_is_refused_by_its_numbers_then_by_kinds() {
+        let refusal = |p, v, kind, lengths| shrink(p, v, kind, lengths).0.refusal;
+        for n in [32_769, usize::MAX / 16, usize::MAX] {
+            assert_eq!((refusal(n, 0, 5, [0; 11]), refusal(0, n, 5, [0; 11])), (1, 1), "{n}");
+        }
+        assert_eq!((refusal(32_768, 0, 0, [0; 11]), refusal(0, 32_768, 0, [0; 11])), (1, 2));
+        assert_eq!((refusal(32_767, 0, 0, [0; 11]), refusal(0, 0, 0, [0; 11])), (2, 0));
+        let lengths = shrink_lengths(1, 1);
+        assert_eq!([4, 5, 6, 7, 8].map(|kind| refusal(1, 1, kind, lengths)), [0, 6, 6, 6, 0]);
     }
 }

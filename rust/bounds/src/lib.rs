@@ -9,6 +9,7 @@
 //! - [`composite`]: a composite's children, their boxes and the tree over them.
 //! - [`geometry`]: polygons, their links and materials, stored vertices.
 //! - [`octants`]: the vertices of a geometry that no other one shadows, in eight directions.
+//! - [`shrink`]: the vertices of a geometry moved inwards by its margin.
 //! - [`premises`]: whether a list meets what the walk's promise asks.
 //! - [`walk`](mod@walk): the walk over a tree's records.
 //! - [`refusal`]: what an operation turns down, by its number and in words.
@@ -24,6 +25,7 @@ pub mod math;
 pub mod octants;
 pub mod premises;
 pub mod refusal;
+pub mod shrink;
 pub mod walk;
 
 pub use bvh::{build_bvh, tree_header, BuiltTree, Bvh, BvhItem};
@@ -33,3 +35,4 @@ pub use math::{Mat4, Vec3, Vec4};
 pub use octants::{calculate_octants, Octants};
 pub use premises::ordinary;
 pub use refusal::Refusal;
+pub use shrink::{calculate_verts_shrunk, ShrinkBound, Shrunk, ShrunkBy};

@@ -3,6 +3,10 @@
 /// What a buffer holds.
 pub trait Cell: Copy + PartialEq + std::fmt::Debug {
     fn of(pattern: u64) -> Self;
+
+    fn same(self, other: Self) -> bool {
+        self == other
+    }
 }
 
 macro_rules! cells {
@@ -38,7 +42,7 @@ impl<T: Cell> Lent<T> {
     /// `Err` where a cell on either side was touched. The buffer itself may hold anything: a work buffer.
     pub fn check_guards(&self) -> Result<(), String> {
         let end = self.cells.len() - GUARD;
-        let touched = |&i: &usize| self.cells[i] != pattern(self.seed, i);
+        let touched = |&i: &usize| !self.cells[i].same(pattern(self.seed, i));
         match (0..GUARD).chain(end..self.cells.len()).find(touched) {
             Some(i) => Err(format!("cell {} of {} was touched", i as isize - GUARD as isize, end - GUARD)),
             None => Ok(()),
@@ -61,7 +65,7 @@ impl<T: Cell> Lent<T> {
             if end > len {
                 return Err(format!("{end} cells are to be written, {len} were lent"));
             }
-            if let Some(i) = (0..part.len()).find(|&i| self.cells[GUARD + at + i] != part[i]) {
+            if let Some(i) = (0..part.len()).find(|&i| !self.cells[GUARD + at + i].same(part[i])) {
                 return Err(self.wrong(GUARD + at + i, part[i], "written"));
             }
             from = GUARD + end;
@@ -70,7 +74,7 @@ impl<T: Cell> Lent<T> {
     }
 
     fn untouched(&self, from: usize, to: usize) -> Result<(), String> {
-        match (from..to).find(|&i| self.cells[i] != pattern(self.seed, i)) {
+        match (from..to).find(|&i| !self.cells[i].same(pattern(self.seed, i))) {
             Some(i) => Err(self.wrong(i, pattern(self.seed, i), "untouched")),
             None => Ok(()),
         }

@@ -9,6 +9,7 @@
 //!   queries of [`queries`].
 //! - [`polygons`], [`meshes`], [`vertices`]: polygon records and boxes, materials and links, stored vertices. The tests
 //!   hold [`plain`], the same steps in plain Rust, against the reference too.
+//! - [`shrink`], over what [`shapes`] makes.
 //! - [`octants`], over what [`points`] makes, and [`composites`].
 //! - [`exhaustive`]: operations of one word over all 2^32.
 //! - [`vectors`]: a sample of the reference's answers as a text file.
@@ -38,6 +39,8 @@ pub mod queries;
 pub mod random;
 pub mod records;
 pub mod report;
+pub mod shapes;
+pub mod shrink;
 pub mod vectors;
 pub mod vertices;
 pub mod walks;

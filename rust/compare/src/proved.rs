@@ -2,11 +2,15 @@
 
 use crate::composites;
 use crate::lent::Lent;
+use crate::operation::made;
 use crate::polygons::Sides;
+use crate::shrink::Case;
 use bounds::composite::{child_boxes, composite_tree, Child};
 use bounds::geometry::{self as library, BoundMaterial, BoundVertex};
 use bounds::octants::{calculate_octants, calculate_octants_in, Octants};
-use bounds::Refusal;
+use bounds::shrink::{calculate_verts_shrunk, calculate_verts_shrunk_in, ShrinkBound, ShrunkBy};
+use bounds::{Mat4, Refusal};
+use oracle::geometry::By;
 use oracle::polygon::{Material, Polygon, LIMIT};
 use oracle::{Aabb, Vec3};
 
@@ -117,6 +121,31 @@ pub fn octant_bytes(lists: &[Vec<u32>; 8], address: u64, out: &mut [u8]) -> Resu
     octants.write_to(address, out).map_err(Refusal::number)?;
     assert_eq!(octants.write(address).as_deref(), Ok(&out[..octants.length()]));
     Ok(())
+}
+
+/// Of a few polygons the vertices in buffers of their own have to be the same.
+pub fn shrink(case: &Case, points: &mut [bounds::Vec3], work: &mut [u32]) -> Result<By, u32> {
+    let g = &case.geometry;
+    let bound = ShrinkBound {
+        box_min: point(g.box_min),
+        box_max: point(g.box_max),
+        center_geom: point(g.center_geom),
+        margin: g.margin,
+        transform: Mat4(g.transform),
+    };
+    let vertices: Vec<bounds::Vec3> = g.vertices.iter().copied().map(point).collect();
+    let by = calculate_verts_shrunk_in(&bound, &case.records, case.count, &vertices, points, work);
+    let by = by.map_err(Refusal::number)?;
+    if case.count < 6 {
+        let owned = calculate_verts_shrunk(&bound, &case.records, case.count, &vertices).expect("not refused before");
+        let bits = |points: &[bounds::Vec3]| points.iter().map(|&p| coordinates(p).map(made)).collect::<Vec<_>>();
+        assert_eq!((owned.by, bits(&owned.vertices)), (by, bits(&points[..vertices.len()])));
+    }
+    Ok(match by {
+        ShrunkBy::Margin(margin) => By::Margin(margin),
+        ShrunkBy::Normals => By::Normals,
+        ShrunkBy::NoVertices => By::NoVertices,
+    })
 }
 
 pub const COMPOSITE: composites::Sides = composites::Sides {

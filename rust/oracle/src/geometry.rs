@@ -1,4 +1,4 @@
-//! `Geometry::prepare` and its octants.
+//! `Geometry::prepare`, its shrinking and its octants.
 
 #[cfg(reference)]
 use crate::{at_most, polygon, reference::blocks::bounds::inside};
@@ -58,7 +58,40 @@ pub struct Quantised {
     pub floats: Vec<Vec3>,
 }
 
+/// What `calculate_verts_shrunk` leaves, as floats that are not yet stored, and how it came to them.
+#[derive(Clone, Debug)]
+pub struct Shrunk {
+    pub points: Vec<Vec3>,
+    pub by: By,
+}
+
+#[derive(Clone, Copy, Debug)]
+pub enum By {
+    /// By this margin, the first that passed the check, and clamped to the box.
+    Margin(f32),
+    /// Along the normals, since no margin passed.
+    Normals,
+    /// There is nothing to shrink.
+    NoVertices,
+}
+
 answers! {
+    /// bounds.rs, `Geometry::calculate_verts_shrunk` of a geometry of kind 4, whatever kind is given, over the links that
+    /// `update_edge_indices` gives its polygons. Refusals 1, 7.
+    fn calculate_verts_shrunk(geometry: &Geometry) -> Result<Shrunk, Refused> {
+        at_most(geometry.polygons.len(), polygon::LIMIT)?;
+        at_most(geometry.vertices.len(), VERTICES)?;
+        inside::shrunk(geometry)
+    }
+
+    /// `update_edge_indices` and `calculate_verts_shrunk` alone, to be timed: each call answers [`summed`] of the points.
+    /// Nothing is refused.
+    fn shrinker(geometry: &Geometry) -> Box<dyn FnMut() -> usize + Send> { inside::shrinker(geometry) }
+
+    /// `prepare` alone, to be timed: each call prepares the geometry as it was given, and answers how many materials, indices
+    /// of octants and nodes there are. Nothing is refused.
+    fn preparer(geometry: &Geometry) -> Box<dyn FnMut() -> usize> { inside::mesh_preparer(geometry) }
+
     /// bounds.rs, `Geometry::prepare` without areas. Refusals 6, 1, 8, 7, 4.
     fn prepare(geometry: &Geometry) -> Result<Prepared, Refused> {
         if geometry.kind != 4 && geometry.kind != 8 {
@@ -88,4 +121,10 @@ answers! {
         address.checked_add(96 + 4 * all).ok_or(Refused(12))?;
         Ok(inside::octant_bytes(lists, address))
     }
+}
+
+/// The sum of the points' words, any NaN as one: to tell other points by.
+pub fn summed(points: impl Iterator<Item = Vec3>) -> usize {
+    let word = |x: f32| if x.is_nan() { 1 } else { x.to_bits() as usize };
+    points.flatten().fold(0, |sum, x| (sum ^ word(x)).wrapping_mul(0x9E37_79B9_7F4A_7C15))
 }

@@ -1,6 +1,6 @@
 //! The reference where 01 is silent or easily misread, so that a port is held to it.
 
-use oracle::geometry::{prepare, Geometry, IDENTITY};
+use oracle::geometry::{calculate_verts_shrunk, prepare, By, Geometry, IDENTITY};
 use oracle::polygon::Polygon;
 use oracle::{composite, math, on_large_stack, polygon, tree, Aabb, Refused};
 
@@ -178,4 +178,51 @@ fn a_composite_has_a_tree_above_five_children() {
     let tree = six.tree.expect("above five");
     assert_eq!((six.boxes.len(), tree.nodes_count, tree.nodes.len()), (192, 9, 13));
     assert_eq!(tree.order, [0, 1, 2, 3, 4]);
+}
+
+/// In a box of 2 about 0.
+fn shrunk(margin: f32, vertices: &[[f32; 3]], triangles: &[[u16; 3]]) -> (By, Vec<[f32; 3]>) {
+    let polygons = triangles.iter().map(|&v| triangle(v)).collect();
+    let g = Geometry { margin, ..geometry(4, vertices.to_vec(), polygons) };
+    let shrunk = calculate_verts_shrunk(&g).expect("a finite margin");
+    (shrunk.by, shrunk.points)
+}
+
+#[test]
+#[cfg_attr(not(reference), ignore = "the reference is not here: set REFERENCE")]
+fn a_corner_that_is_not_there_fails_every_margin_that_moves_a_vertex() {
+    let corners = [[1.0, 0.0, 0.0], [0.0, 1.0, 0.0], [0.0; 3]];
+    // Its normal is zero, so that no vertex moves: what is left is the clamp.
+    let (by, points) = shrunk(0.5, &corners, &[[0, 1, 9]]);
+    assert!(matches!(by, By::Margin(0.5)));
+    assert_eq!(points, [[0.5, 0.0, 0.0], [0.0, 0.5, 0.0], [0.0; 3]]);
+    let (by, points) = shrunk(0.5, &corners, &[[0, 1, 9], [0, 1, 2]]);
+    assert!(matches!(by, By::Normals));
+    // By normals a triangle's has the other sign, and nothing is clamped.
+    assert_eq!(points, [[1.0, 0.0, 0.5], [0.0, 1.0, 0.5], [0.0, 0.0, 0.5]]);
+    let (by, points) = shrunk(0.5, &corners, &[[0, 1, 2]]);
+    assert!(matches!(by, By::Margin(0.5)));
+    assert_eq!(points, [[0.5, 0.0, -0.5], [0.0, 0.5, -0.5], [0.0, 0.0, -0.5]]);
+    // So far away the margin is lost in rounding.
+    let far = corners.map(|c| c.map(|x| x + 1e8));
+    assert!(matches!(shrunk(0.5, &far, &[[0, 1, 9], [0, 1, 2]]).0, By::Margin(0.5)));
+}
+
+#[test]
+#[cfg_attr(not(reference), ignore = "the reference is not here: set REFERENCE")]
+fn the_least_margin_and_the_given_one() {
+    let corners = [[1.0, 0.0, 0.0], [0.0, 1.0, 0.0], [0.0; 3]];
+    let by = |margin| shrunk(margin, &corners, &[[0, 1, 2]]).0;
+    assert!(matches!(by(1e-6), By::Normals));
+    assert!(matches!(by(f32::from_bits(1e-6f32.to_bits() + 1)), By::Margin(_)));
+    assert!(matches!(by(f32::NAN), By::Margin(1.0)), "half the box");
+    let (by, points) = shrunk(-1.0, &corners, &[[0, 1, 2]]);
+    assert!(matches!(by, By::Normals) && points[2] == [0.0, 0.0, -1.0], "by the given margin");
+    let (_, points) = shrunk(0.5, &[[f32::NAN, 0.0, 0.0], [5.0, 0.0, 0.0]], &[]);
+    assert_eq!(points, [[0.5, 0.0, 0.0]; 2], "a NaN goes to the high side, and so does a vertex of no triangle");
+    let mut g = geometry(4, vec![[0.0; 3]], vec![]);
+    (g.margin, g.box_max) = (f32::INFINITY, [f32::INFINITY, f32::NAN, f32::INFINITY]);
+    assert_eq!(calculate_verts_shrunk(&g).err(), Some(Refused(7)));
+    g.vertices.clear();
+    assert!(matches!(calculate_verts_shrunk(&g).expect("nothing to shrink").by, By::NoVertices));
 }

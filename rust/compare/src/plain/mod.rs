@@ -5,4 +5,5 @@ pub mod links;
 pub mod materials;
 pub mod octants;
 pub mod polygon;
+pub mod shrink;
 pub mod vertex;

@@ -4,7 +4,7 @@ use super::super::bvh::inside::read_out;
 use super::super::inside::{bytes, bytes_at, count, forget};
 use super::*;
 use crate::composite::Child;
-use crate::geometry::{Prepared, Quantised};
+use crate::geometry::{summed, By, Prepared, Quantised, Shrunk};
 use crate::polygon::{Material, Materials, Polygon as Plain};
 use crate::{tree, Refused};
 use std::hint::black_box;
@@ -220,6 +220,60 @@ fn leaf_order(geo: &Geometry) -> Vec<usize> {
     };
     let items: Vec<_> = geo.polygons.iter().enumerate().map(item).collect();
     build_bvh(&mut Graph::new(), &items, 4).item_order
+}
+
+// ─── shrinking ──────────────────────────────────────────────────────────────
+
+/// A geometry that shrinks: of kind 4.
+fn shrinking(from: &crate::geometry::Geometry) -> Geometry {
+    let mut geo = geometry(from);
+    geo.common.kind = BoundKind::Geometry;
+    geo
+}
+
+/// The margin that passes the check, by the steps of `calculate_verts_shrunk`, which keeps it nowhere.
+fn passing_margin(geo: &Geometry) -> Option<f32> {
+    let mut margin = starting_margin(&geo.common);
+    while margin > 1e-6 {
+        if geo.check_shrunk_polys(&geo.shrink_polys_by_margin(margin)) {
+            return Some(margin);
+        }
+        margin *= 0.5;
+    }
+    None
+}
+
+pub fn shrunk(from: &crate::geometry::Geometry) -> Result<Shrunk, Refused> {
+    let mut geo = shrinking(from);
+    if geo.vertices.is_empty() {
+        return Ok(Shrunk { points: Vec::new(), by: By::NoVertices });
+    }
+    if starting_margin(&geo.common) == f32::INFINITY {
+        return Err(Refused(7));
+    }
+    geo.update_edge_indices();
+    geo.calculate_verts_shrunk();
+    let points = geo.vertices_shrunk.iter().flatten().map(|&p| of(p)).collect();
+    Ok(Shrunk { points, by: passing_margin(&geo).map_or(By::Normals, By::Margin) })
+}
+
+pub fn shrinker(from: &crate::geometry::Geometry) -> Box<dyn FnMut() -> usize + Send> {
+    let mut geo = shrinking(from);
+    Box::new(move || {
+        black_box(&mut geo).update_edge_indices();
+        geo.calculate_verts_shrunk();
+        summed(geo.vertices_shrunk.iter().flatten().map(|&p| of(p)))
+    })
+}
+
+pub fn mesh_preparer(from: &crate::geometry::Geometry) -> Box<dyn FnMut() -> usize> {
+    let given = geometry(from);
+    Box::new(move || {
+        let (mut g, mut geo) = (Graph::new(), black_box(&given).clone());
+        geo.prepare(&mut g);
+        let indices = geo.octants.map_or(0, |id| g.get::<Octants>(id).items.iter().map(Vec::len).sum());
+        geo.materials.len() + indices + geo.bvh.map_or(0, |id| g.get::<Bvh>(id).nodes_count as usize)
+    })
 }
 
 pub fn prepare(from: &crate::geometry::Geometry) -> Result<Prepared, Refused> {
