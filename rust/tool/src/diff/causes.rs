@@ -1,0 +1,157 @@
+//! The first cause of each field that differs.
+
+use super::input::Change;
+use super::matching::Matching;
+use super::{words, Side};
+use crate::field::{Field, InHeader, InRecord, AXES};
+use crate::rules::Rule::{self, *};
+use bounds::premises::Axis;
+
+/// Why a field differs, first things first.
+#[derive(Clone, Copy, Debug, PartialEq, Eq, PartialOrd, Ord)]
+pub enum Cause {
+    /// A dump's bytes are not what its input gives.
+    Bytes,
+    /// The threshold.
+    Threshold,
+    /// Which entries there are.
+    List,
+    /// The box of all on an axis.
+    Scale(usize),
+    /// The split at a node of a.
+    Split(usize),
+    /// The boxes' own values, one of six, in a node that has the same boxes.
+    Own(usize),
+    /// Positions and numbers that moved with the trees' shapes.
+    Moved,
+}
+
+/// A cause with the fields that it explains, and what there is to say of it.
+pub struct Caused {
+    pub cause: Cause,
+    pub title: String,
+    pub rules: Vec<Rule>,
+    pub fields: Vec<Field>,
+    pub lines: Vec<String>,
+}
+
+/// The causes of the fields that differ, in their order.
+pub fn causes(sides: &[Side; 2], fields: &[Field], changes: &[Change]) -> Vec<Caused> {
+    let finder = Finder { sides, matching: Matching::of(&sides[0].trace, &sides[1].trace) };
+    let mut causes: Vec<Caused> = Vec::new();
+    for &field in fields {
+        let cause = finder.cause(field);
+        match causes.iter_mut().find(|known| known.cause == cause) {
+            Some(known) => known.fields.push(field),
+            None => causes.push(Caused {
+                cause,
+                title: String::new(),
+                rules: Vec::new(),
+                fields: vec![field],
+                lines: Vec::new(),
+            }),
+        }
+    }
+    causes.sort_by_key(|known| known.cause);
+    for known in &mut causes {
+        words::tell(sides, &finder.matching, changes, known);
+    }
+    causes
+}
+
+struct Finder<'a> {
+    sides: &'a [Side<'a>; 2],
+    matching: Matching,
+}
+
+impl Finder<'_> {
+    fn cause(&self, field: Field) -> Cause {
+        if self.sides.iter().any(|side| side.account.differing.contains(&field)) {
+            return Cause::Bytes;
+        }
+        match field {
+            Field::Header(InHeader::Point(_, axis)) => Cause::Scale(axis as usize),
+            Field::Header(_) => self.shape(0),
+            Field::Node(k, at) => self.record(k, k, at),
+            Field::Tree(k, at) => {
+                let first = |side: &Side| side.trace.ranges.get(k).map(|range| range.0);
+                match (first(&self.sides[0]), first(&self.sides[1])) {
+                    (Some(a), Some(b)) => self.record(a, b, at),
+                    _ => self.shape(0),
+                }
+            }
+            Field::Order(k) => self.shape(self.leaf_at(k)),
+        }
+    }
+
+    /// The leaf of a at a position.
+    fn leaf_at(&self, position: usize) -> usize {
+        let trace = &self.sides[0].trace;
+        trace.order.get(position).and_then(|&place| trace.leaves[place]).unwrap_or(0)
+    }
+
+    /// A field of the records of node `a` in the one and node `b` in the other.
+    fn record(&self, a: usize, b: usize, at: InRecord) -> Cause {
+        let nodes = [self.sides[0].trace.nodes.get(a), self.sides[1].trace.nodes.get(b)];
+        let ([Some(one), Some(two)], InRecord::Box(corner, axis)) = (nodes, at) else { return self.shape(a) };
+        if self.matching.partner[0][a] != Some(b) {
+            return self.shape(a);
+        }
+        let value = 3 * corner as usize + axis as usize;
+        if one.bounds[value] != two.bounds[value] {
+            return Cause::Own(value);
+        }
+        self.scale_differs(axis).then_some(Cause::Scale(axis as usize)).unwrap_or(Cause::Moved)
+    }
+
+    fn scale_differs(&self, axis: Axis) -> bool {
+        let scale = |side: &Side| {
+            let scale = &side.trace.scales[axis as usize];
+            (scale.cen.to_bits(), scale.inverse.to_bits())
+        };
+        scale(&self.sides[0]) != scale(&self.sides[1])
+    }
+
+    /// Why the trees have another shape at a node of a.
+    fn shape(&self, node: usize) -> Cause {
+        if !self.matching.same_items || self.sides[0].dump.entries != self.sides[1].dump.entries {
+            return Cause::List;
+        }
+        let [a, b] = &self.matching.first_split;
+        let above = a.get(node).copied().flatten();
+        // A node of a that is not there, or has nothing above it that differs, moved with one before it.
+        let other = b.get(node).copied().flatten().and_then(|split| self.matching.partner[1][split]);
+        if self.sides[0].dump.threshold != self.sides[1].dump.threshold {
+            return Cause::Threshold;
+        }
+        above.or(other).or(self.matching.splits().first().copied()).map_or(Cause::Moved, Cause::Split)
+    }
+}
+
+impl Cause {
+    /// Its rules.
+    pub fn rules(self) -> Vec<Rule> {
+        match self {
+            Cause::Bytes => vec![],
+            Cause::Threshold => vec![T8, R11, R12, R13],
+            Cause::List => vec![T9, R12, R13],
+            Cause::Scale(_) => vec![T1, F3, T2],
+            Cause::Split(_) => vec![T4, T5, T6, T7],
+            Cause::Own(_) => vec![T1, F3],
+            Cause::Moved => vec![R10, R11],
+        }
+    }
+
+    /// What it is, in words.
+    pub fn title(self) -> String {
+        match self {
+            Cause::Bytes => "bytes that are not what their input gives".into(),
+            Cause::Threshold => "the threshold".into(),
+            Cause::List => "which boxes the list has".into(),
+            Cause::Scale(axis) => format!("the box of all, axis {}", AXES[axis]),
+            Cause::Split(node) => format!("the split at node {node}"),
+            Cause::Own(value) => format!("the boxes' own {}", crate::explain::value_name(value)),
+            Cause::Moved => "numbers that moved".into(),
+        }
+    }
+}

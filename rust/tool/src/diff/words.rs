@@ -1,0 +1,129 @@
+//! What there is to say of a cause: its values in a and in b.
+
+use super::causes::{Cause, Caused};
+use super::input::Change;
+use super::matching::Matching;
+use super::Side;
+use crate::boxes::words;
+use crate::explain::value_name;
+use crate::field::AXES;
+use crate::number::{counted, float, place, some};
+use crate::rules::Rule::*;
+use crate::trace::fold;
+use crate::trace::scale::Scale;
+use crate::trace::split::Split;
+
+/// A fold over more boxes than this is told by its ends.
+const SHOWN: usize = 10;
+
+/// Puts a cause into words.
+pub fn tell(sides: &[Side; 2], matching: &Matching, changes: &[Change], known: &mut Caused) {
+    known.title = known.cause.title();
+    known.rules = known.cause.rules();
+    known.lines = match known.cause {
+        Cause::Bytes => bytes(sides),
+        Cause::Threshold | Cause::List => listed(changes, |change| !matches!(change, Change::Word { .. })),
+        Cause::Scale(axis) => scale(sides, axis),
+        Cause::Split(node) => split(sides, matching, node),
+        Cause::Own(value) => own(sides, changes, value),
+        Cause::Moved => vec!["the same boxes at other numbers".into()],
+    };
+}
+
+fn bytes(sides: &[Side; 2]) -> Vec<String> {
+    let warning = |side: &Side| side.account.warning(side.dump).map(|warning| format!("{warning}: not explained"));
+    sides.iter().filter_map(warning).collect()
+}
+
+fn listed(changes: &[Change], which: impl Fn(&Change) -> bool) -> Vec<String> {
+    let all: Vec<String> = changes.iter().filter(|change| which(change)).map(Change::to_string).collect();
+    let more = all.len().saturating_sub(SHOWN);
+    let mut lines: Vec<String> = all.into_iter().take(SHOWN).collect();
+    if more > 0 {
+        lines.push(format!("and {more} more"));
+    }
+    lines
+}
+
+/// The box of all on an axis: the folds that changed, then what follows from them.
+fn scale(sides: &[Side; 2], axis: usize) -> Vec<String> {
+    let [a, b] = [&sides[0].trace, &sides[1].trace];
+    let mut lines = Vec::new();
+    for value in [axis, axis + 3] {
+        if a.all[value] != b.all[value] {
+            lines.push(format!("fold of {} over all", value_name(value)));
+            lines.push(format!("  a: {}", fold_line(&sides[0], value)));
+            lines.push(format!("  b: {}", fold_line(&sides[1], value)));
+        }
+    }
+    let name = AXES[axis];
+    let pair = |what: &str, of: fn(&Scale) -> f32| {
+        format!("{what}.{name} {} -> {}", float(of(&a.scales[axis])), float(of(&b.scales[axis])))
+    };
+    let values = [pair("min", |s| s.min), pair("max", |s| s.max), pair("cen", |s| s.cen), pair("inverse", |s| s.inverse)];
+    lines.push(values.join("   "));
+    let ends = &b.scales[axis];
+    let outside = format!("{}..{}", place(ends.min as f64), place(ends.max as f64));
+    lines.push(format!("so every {name} value has another scale; in b what lies outside {outside} wraps ({F8})"));
+    lines
+}
+
+/// `0 2 NaN 6 -> 0 0 NaN 6`, and what a NaN did.
+fn fold_line(side: &Side, value: usize) -> String {
+    let trace = &side.trace;
+    let given: Vec<u32> = trace.present.iter().map(|&place| words(&trace.items[place])[value]).collect();
+    let show = |of: &[u32]| of.iter().map(|&word| float(f32::from_bits(word))).collect::<Vec<_>>().join(" ");
+    let nan = given.iter().rposition(|&word| f32::from_bits(word).is_nan());
+    let wiped = nan.map_or(String::new(), |at| {
+        let from = given.get(at + 1).map_or("nothing follows it".into(), |&next| format!("{} starts anew", float(f32::from_bits(next))));
+        format!("   <- the NaN of box {} wipes what came before ({F3}); {from}", trace.present[at])
+    });
+    if given.len() > SHOWN {
+        let whose = fold::winner(trace.items, &trace.present, value).map_or("the start".into(), |at| format!("box {}'s", trace.present[at]));
+        return format!("{} of {}: {}, {whose}{wiped}", value_name(value), counted(given.len(), "box"), float(f32::from_bits(trace.all[value])));
+    }
+    format!("{}; after each {}{wiped}", show(&given), show(&fold::steps(trace.items, &trace.present, value)))
+}
+
+/// A split that differs: average, counts, axis, groups.
+fn split(sides: &[Side; 2], matching: &Matching, node: usize) -> Vec<String> {
+    let twin = matching.partner[0][node].unwrap_or(0);
+    let (Some(a), Some(b)) = (sides[0].trace.split(node), sides[1].trace.split(twin)) else {
+        return vec![format!("node {node} of a is node {twin} of b, and one of them is a leaf ({T8})")];
+    };
+    let mut lines = Vec::new();
+    if node != twin {
+        lines.push(format!("node {node} of a has the same boxes as node {twin} of b"));
+    }
+    let n = a.one.len() + a.two.len();
+    for (axis, name) in AXES.iter().enumerate() {
+        if a.average[axis].to_bits() != b.average[axis].to_bits() {
+            let (one, two) = (float(a.average[axis]), float(b.average[axis]));
+            lines.push(format!("average {name} {one} -> {two}{}", if b.average[axis].is_nan() { ": no centre is above or below it" } else { "" }));
+        }
+    }
+    let below = |split: &Split| format!("{:?}", split.below);
+    lines.push(format!("centres below it on x, y, z of {n}: {} -> {}; axis {} -> {}", below(&a), below(&b), AXES[a.axis], AXES[b.axis]));
+    lines.push(format!("a: {}", groups(&a)));
+    lines.push(format!("b: {}", groups(&b)));
+    lines
+}
+
+fn groups(split: &Split) -> String {
+    let [first, second] = split.clone().children();
+    let how = if split.sorted { format!("   none above: sorted, a NaN first, and cut ({T6}, {F2})") } else { String::new() };
+    format!("{} | {}{how}", some(&first), some(&second))
+}
+
+/// Boxes whose own value changed.
+fn own(sides: &[Side; 2], changes: &[Change], value: usize) -> Vec<String> {
+    let mut lines = listed(changes, |change| matches!(change, Change::Word { value: at, .. } if *at == value));
+    if lines.is_empty() {
+        lines.push(format!("the same boxes in another order, and a NaN among them ({F3})"));
+    }
+    let nan = sides.iter().any(|side| side.trace.present.iter().any(|&p| side.trace.floats(p)[value].is_nan()));
+    if nan {
+        lines.push(format!("a NaN becomes 0 in a record ({F8})"));
+    }
+    lines
+}

@@ -1,0 +1,81 @@
+//! Explanations of every field of every record of 1,000 random builds reach the library's bytes.
+
+mod common;
+
+use bounds::Tree;
+use common::{length, list, Random, THRESHOLDS};
+use tool::boxes::{Boxes, Origin};
+use tool::dump::Records;
+use tool::explain::Explainer;
+use tool::field::Field;
+use tool::trace::Trace;
+
+const BUILDS: usize = 1_000;
+
+/// What was met on the way, so that the builds are seen to be no tame ones.
+#[derive(Default, Debug)]
+struct Met {
+    builds: usize,
+    fields: usize,
+    steps: usize,
+    thresholds: std::collections::BTreeSet<u32>,
+    padding: usize,
+    ranges: usize,
+    wrapped: usize,
+    made_nan: usize,
+    sorted: usize,
+    empty: usize,
+    outside: usize,
+}
+
+#[test]
+fn every_field_of_1000_random_builds() {
+    let mut random = Random(2026);
+    let mut met = Met::default();
+    while met.builds < BUILDS {
+        let n = length(&mut random);
+        let threshold = random.pick(&THRESHOLDS);
+        let items = list(&mut random, n);
+        let tree = Tree::build(&items, threshold).expect("within the limits");
+        let records = Records::of(&tree);
+        met.outside += tree.premises().is_err() as usize;
+        let boxes = Boxes { items, origin: Origin::Children { file: "random.bin".into() } };
+        each_field(&boxes, threshold, &records, &mut met);
+        met.builds += 1;
+        met.thresholds.insert(threshold);
+    }
+    println!("{met:#?}");
+    assert_eq!(met.thresholds.len(), 7, "{met:?}");
+    for seen in [met.padding, met.wrapped, met.made_nan, met.sorted, met.outside] {
+        assert!(seen > 100, "{met:?}");
+    }
+    assert!(met.fields > 150_000 && met.ranges > 10 && met.empty > 10, "{met:?}");
+}
+
+fn each_field(boxes: &Boxes, threshold: u32, records: &Records, met: &mut Met) {
+    let trace = Trace::of(&boxes.items, threshold as usize);
+    let explainer = Explainer { boxes, trace: &trace, records };
+    met.empty += trace.present.is_empty() as usize;
+    met.ranges += (trace.ranges.len() > 1) as usize;
+    met.padding += records.capacity() - records.node_count();
+    assert_eq!((trace.nodes.len(), trace.capacity()), (records.node_count(), records.capacity()));
+    for field in Field::all(records) {
+        let explained = explainer.field(field);
+        let found = field.raw(records).expect("the field is there");
+        let reached = match &explained.bytes {
+            None => field.is_given(),
+            Some(bytes) => bytes == &found || field.is_made() && nan(bytes) && nan(&found),
+        };
+        assert!(reached, "{field}: {} is not {found:02X?} of {:?} at {threshold}", explained.text(), boxes.items);
+        assert!(!explained.steps.is_empty() && explained.steps.iter().any(|step| !step.rules.is_empty()), "{field}");
+        met.fields += 1;
+        met.steps += explained.steps.len();
+        met.wrapped += explained.steps.iter().any(|step| step.text.contains("WRAPPED")) as usize;
+        met.sorted += explained.steps.iter().any(|step| step.text.contains("sorted")) as usize;
+        met.made_nan += (field.is_made() && nan(&found)) as usize;
+    }
+}
+
+fn nan(bytes: &[u8]) -> bool {
+    bytes.len() == 4 && f32::from_le_bytes([bytes[0], bytes[1], bytes[2], bytes[3]]).is_nan()
+}
