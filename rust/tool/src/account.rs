@@ -5,11 +5,13 @@ use crate::failure::Failure;
 use crate::field::Field;
 use crate::number::counted;
 use bounds::Tree;
+use std::collections::HashSet;
 
-/// What the library makes of a dump's input, and the fields in which the dump has something else.
+/// What the library makes of a dump's input, at the dump's addresses, and the fields in which the dump has something else.
 pub struct Account {
     pub rebuilt: Records,
     pub differing: Vec<Field>,
+    set: HashSet<Field>,
 }
 
 /// Builds a dump's input again, with the library.
@@ -17,8 +19,12 @@ pub fn account(dump: &Dump) -> Result<Account, Failure> {
     let boxes = dump.input()?;
     let tree = Tree::build(&boxes.items, dump.threshold)
         .map_err(|refusal| Failure::Refused(format!("{}: its input is {refusal}", dump.name)))?;
-    let rebuilt = Records::of(&tree);
-    Ok(Account { differing: differing(&rebuilt, &dump.records), rebuilt })
+    let mut rebuilt = Records::of(&tree);
+    for field in Field::all(&dump.records).into_iter().filter(|field| field.is_given()) {
+        rebuilt.header[field.bytes()].copy_from_slice(&dump.records.header[field.bytes()]);
+    }
+    let differing = differing(&rebuilt, &dump.records);
+    Ok(Account { set: differing.iter().copied().collect(), differing, rebuilt })
 }
 
 /// The fields that two dumps do not share, or have different values in. Addresses are given, and may be any.
@@ -35,6 +41,11 @@ pub fn differing(a: &Records, b: &Records) -> Vec<Field> {
 }
 
 impl Account {
+    /// Whether the dump has something else in a field than its input gives.
+    pub fn differs(&self, field: Field) -> bool {
+        self.set.contains(&field)
+    }
+
     /// One line for a dump whose bytes are another input's, or damaged.
     pub fn warning(&self, dump: &Dump) -> Option<String> {
         const SHOWN: usize = 8;

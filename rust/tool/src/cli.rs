@@ -54,7 +54,8 @@ impl Line {
                 let value = rest.next().ok_or_else(|| Failure::Usage(format!("{word} needs a value behind it")))?;
                 line.options.push((word.into(), value.clone()));
                 if word == "--query" {
-                    let second = rest.next().ok_or_else(|| Failure::Usage("--query needs two corners: MIN MAX".into()))?;
+                    let second =
+                        rest.next().ok_or_else(|| Failure::Usage("--query needs two corners: MIN MAX".into()))?;
                     line.options.push(("--query-max".into(), second.clone()));
                 }
             } else if ALONE.contains(&word) {
@@ -79,7 +80,8 @@ impl Line {
 
     pub fn threshold(&self) -> Result<Option<u32>, Failure> {
         let parse = |word: &str| {
-            word.parse().map_err(|_| Failure::Usage(format!("--threshold '{word}': expected a number from 1 to 32,767")))
+            word.parse()
+                .map_err(|_| Failure::Usage(format!("--threshold '{word}': expected a number from 1 to 32,767")))
         };
         self.option("--threshold").map(parse).transpose()
     }
@@ -113,7 +115,11 @@ fn respond(given: &[String]) -> Result<Answer, Failure> {
     let line = Line::of(given)?;
     let Some((name, words)) = line.words.split_first() else {
         let asked = line.option("--help").is_some();
-        return if asked { Ok(Answer::of(help::overview())) } else { Err(Failure::Usage("no command is given".into())) };
+        return if asked {
+            Ok(Answer::of(help::overview()))
+        } else {
+            Err(Failure::Usage("no command is given".into()))
+        };
     };
     let table = commands::table();
     let Some(command) = table.iter().find(|command| command.name == name) else {

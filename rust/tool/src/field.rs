@@ -133,7 +133,7 @@ impl Field {
         match self {
             Field::Header(field) => field.bytes(),
             Field::Node(_, field) | Field::Tree(_, field) => field.bytes(),
-            Field::Order(k) => 2 * k..2 * k + 2,
+            Field::Order(k) => k.saturating_mul(2)..k.saturating_mul(2).saturating_add(2),
         }
     }
 
@@ -166,8 +166,8 @@ impl Field {
     pub fn raw(self, records: &Records) -> Option<Vec<u8>> {
         let part = match self {
             Field::Header(_) => &records.header[..],
-            Field::Node(k, _) => records.nodes.get(16 * k..16 * (k + 1))?,
-            Field::Tree(k, _) => records.trees.get(16 * k..16 * (k + 1))?,
+            Field::Node(k, _) => records.nodes.get(k.checked_mul(16)?..)?.get(..16)?,
+            Field::Tree(k, _) => records.trees.get(k.checked_mul(16)?..)?.get(..16)?,
             Field::Order(k) => return records.order.get(k).map(|place| place.to_le_bytes().to_vec()),
         };
         Some(part[self.bytes()].to_vec())
@@ -292,7 +292,8 @@ mod tests {
 
     #[test]
     fn every_field_has_a_name_that_leads_back_and_the_bytes_are_covered_once() {
-        let boxes = Boxes::of_bytes("t", b"0 0 0 1 1 1\n2 0 0 3 1 1\nabsent\n", Some(Form::Text)).expect("three entries");
+        let boxes =
+            Boxes::of_bytes("t", b"0 0 0 1 1 1\n2 0 0 3 1 1\nabsent\n", Some(Form::Text)).expect("three entries");
         let records = Dump::build("t", boxes, 1).expect("a tree").0.records;
         let fields = Field::all(&records);
         assert_eq!(fields.len(), 28 + 8 * 7 + 8 + 2);

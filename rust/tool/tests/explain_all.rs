@@ -5,7 +5,8 @@ mod common;
 use bounds::Tree;
 use common::{length, list, Random, THRESHOLDS};
 use tool::boxes::{Boxes, Origin};
-use tool::dump::Records;
+use tool::dump::{Dump, Records};
+use tool::explain::query::Asked;
 use tool::explain::Explainer;
 use tool::field::Field;
 use tool::trace::Trace;
@@ -78,4 +79,47 @@ fn each_field(boxes: &Boxes, threshold: u32, records: &Records, met: &mut Met) {
 
 fn nan(bytes: &[u8]) -> bool {
     bytes.len() == 4 && f32::from_le_bytes([bytes[0], bytes[1], bytes[2], bytes[3]]).is_nan()
+}
+
+/// Every item of random lists, asked about with random queries: the story ends as the library's walk does.
+#[test]
+fn every_item_of_random_queries() {
+    let mut random = Random(7);
+    let (mut asked, mut handed_out, mut missed) = (0, 0, 0);
+    for round in 0..400 {
+        let n = 1 + length(&mut random);
+        let threshold = random.pick(&THRESHOLDS);
+        let items = list(&mut random, n);
+        let boxes = Boxes { items: items.clone(), origin: Origin::Children { file: "random.bin".into() } };
+        let (dump, _) = Dump::build("random.bin", boxes, threshold).expect("within the limits");
+        let trace = Trace::of(&items, threshold as usize);
+        let explainer = Explainer { boxes: dump.input().expect("its input"), trace: &trace, records: &dump.records };
+        let other = list(&mut random, 1)[0];
+        let query = if round % 2 == 0 { items[random.below(n)] } else { other };
+        let found = dump.walk(query.min, query.max).expect("a build's records");
+        let places: Vec<_> = found.positions.iter().map(|&p| dump.place(p as usize).expect("a place")).collect();
+        for (item, entry) in items.iter().enumerate() {
+            let ask = Asked { dump: &dump, min: query.min, max: query.max, item };
+            let (told, reads) = explainer.query(&ask, &|_| true);
+            assert_eq!(reads, found.reads, "{}", told.text());
+            let (handed, meets) = (places.contains(&item), entry.meets(query.min, query.max));
+            let expected = match (entry.present != 0, meets, handed) {
+                (false, ..) => "is absent",
+                (_, true, true) => "as floats (W2) and is handed out",
+                (_, true, false) => "as floats (W2) and is NOT handed out",
+                (_, false, true) => "and is handed out: its leaf's record meets",
+                (_, false, false) => "and is not handed out",
+            };
+            assert!(told.heading.contains(expected), "{}", told.text());
+            let misses = told.steps.iter().any(|step| step.text.contains(" misses on "));
+            assert_eq!(misses, entry.present != 0 && !handed, "{}", told.text());
+            asked += 1;
+            handed_out += handed as usize;
+            let lost = entry.present != 0 && meets && !handed;
+            assert!(!lost || bounds::ordinary(&items).is_err(), "within the premises nothing is missed");
+            missed += lost as usize;
+        }
+    }
+    println!("{asked} items asked about, {handed_out} handed out, {missed} missed outside the premises");
+    assert!(asked > 4_000 && handed_out > 500 && missed > 10);
 }

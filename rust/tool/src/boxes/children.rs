@@ -12,9 +12,13 @@ pub fn boxes(path: &str, bytes: &[u8]) -> Result<Boxes, Failure> {
     if !bytes.len().is_multiple_of(RECORD) {
         let (length, whole) = (bytes.len(), bytes.len() / RECORD);
         let words = format!("{path}: {length} bytes are {whole} records and {} bytes more", length % RECORD);
-        return Err(Failure::Refused(format!("{}\n{words}; boxes as text begin with `#` or a number", Refusal::RaggedInput)));
+        return Err(Failure::Refused(format!(
+            "{}\n{words}; boxes as text begin with `#` or a number",
+            Refusal::RaggedInput
+        )));
     }
-    let word = |record: &[u8], at: usize| u32::from_le_bytes([record[at], record[at + 1], record[at + 2], record[at + 3]]);
+    let word =
+        |record: &[u8], at: usize| u32::from_le_bytes([record[at], record[at + 1], record[at + 2], record[at + 3]]);
     let items = bytes.chunks_exact(RECORD).map(|r| entry(1, [0, 4, 8, 16, 20, 24].map(|at| word(r, at)))).collect();
     Ok(Boxes { items, origin: Origin::Children { file: path.into() } })
 }

@@ -10,9 +10,13 @@ use bounds::BvhItem;
 pub fn number(word: &str) -> Result<f32, String> {
     if let Some(digits) = word.strip_prefix("0x") {
         let bits = u32::from_str_radix(digits, 16).ok().filter(|_| digits.len() == 8);
-        return bits.map(f32::from_bits).ok_or(format!("'{word}' is no word: expected 0x and eight hexadecimal digits"));
+        return bits
+            .map(f32::from_bits)
+            .ok_or(format!("'{word}' is no word: expected 0x and eight hexadecimal digits"));
     }
-    let value: f32 = word.parse().map_err(|_| format!("'{word}' is no number: expected a decimal, inf, nan or 0x.."))?;
+    let value: f32 = word
+        .parse()
+        .map_err(|_| format!("'{word}' is no number: expected a decimal, inf, nan, 0x.. or `absent` alone"))?;
     if value.is_infinite() && word.contains(|c: char| c.is_ascii_digit()) {
         return Err(format!("'{word}' is above every f32: write inf if that is meant"));
     }
@@ -21,7 +25,8 @@ pub fn number(word: &str) -> Result<f32, String> {
 
 /// The six numbers of a line.
 fn six(line: &str) -> Result<[f32; 6], String> {
-    let numbers: Vec<f32> = line.split([' ', '\t', ',']).filter(|w| !w.is_empty()).map(number).collect::<Result<_, _>>()?;
+    let numbers: Vec<f32> =
+        line.split([' ', '\t', ',']).filter(|w| !w.is_empty()).map(number).collect::<Result<_, _>>()?;
     let found = numbers.len();
     numbers.try_into().map_err(|_| format!("{found} numbers; expected six: min x y z, max x y z"))
 }
@@ -45,9 +50,7 @@ pub fn boxes(path: &str, bytes: &[u8]) -> Result<Boxes, Failure> {
     let lines = lines(path, bytes)?;
     let one = |&(line, text): &(usize, &str)| match text {
         "absent" => Ok(BvhItem::ABSENT),
-        _ => six(text)
-            .map(|numbers| entry(1, numbers.map(f32::to_bits)))
-            .map_err(|words| at(path, line)(format!("{words} (or `absent`)"))),
+        _ => six(text).map(|numbers| entry(1, numbers.map(f32::to_bits))).map_err(at(path, line)),
     };
     let items = lines.iter().map(one).collect::<Result<_, _>>()?;
     let origin = Origin::Text { file: path.into(), lines: lines.iter().map(|&(line, _)| line).collect() };
@@ -70,7 +73,8 @@ mod tests {
 
     #[test]
     fn lines_become_entries() {
-        let list = boxes("f", b"# a road\n0 0 0 1 1 1\n\nabsent # gone\r\n-1,0,0, 1e-3 inf 0x7FC00001\n").expect("a list");
+        let list =
+            boxes("f", b"# a road\n0 0 0 1 1 1\n\nabsent # gone\r\n-1,0,0, 1e-3 inf 0x7FC00001\n").expect("a list");
         assert_eq!(list.items.len(), 3);
         assert_eq!(list.items[1], BvhItem::ABSENT);
         assert_eq!((list.items[2].min.x, list.items[2].max.z.to_bits()), (-1.0, 0x7FC0_0001));
@@ -80,7 +84,7 @@ mod tests {
 
     #[test]
     fn faults_name_the_line_and_what_was_expected() {
-        assert_eq!(failure("0 0 0 1 1\n"), "bounds: f, line 1: 5 numbers; expected six: min x y z, max x y z (or `absent`)");
+        assert_eq!(failure("0 0 0 1 1\n"), "bounds: f, line 1: 5 numbers; expected six: min x y z, max x y z");
         assert!(failure("\n0 0 0 1 1 one").contains("line 2: 'one' is no number"));
         assert!(failure("0 0 0 1 1 1e39").contains("above every f32"));
         assert!(failure("0 0 0 1 1 0x7FC").contains("eight hexadecimal digits"));

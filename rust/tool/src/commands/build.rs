@@ -57,13 +57,17 @@ fn summary(dump: &Dump, tree: &Tree) -> String {
         Err(broken) => format!("OUTSIDE the premises ({broken}): items may be missed"),
     };
     let capacity = built.nodes_capacity;
-    format!("{present} of {entries} entries, threshold {}: {nodes} ({capacity} records), {trees}; {premises}", dump.threshold)
+    format!(
+        "{present} of {entries} entries, threshold {}: {nodes} ({capacity} records), {trees}; {premises}",
+        dump.threshold
+    )
 }
 
 fn json(dump: &Dump, tree: &Tree, out: Option<&str>) -> Json {
     let built = tree.built();
     let short = |values: [i16; 3]| Json::list(values.map(|v| v as i64));
-    let record = |min, max, a: i16, b: i16| Json::List(vec![short(min), short(max), (a as i64).into(), (b as i64).into()]);
+    let record =
+        |min, max, a: i16, b: i16| Json::List(vec![short(min), short(max), (a as i64).into(), (b as i64).into()]);
     let nodes = tree.nodes().map(|n| record(n.min, n.max, n.item_id, n.item_count));
     let trees = tree.trees().map(|t| record(t.min, t.max, t.node_index1, t.node_index2));
     Json::Object(vec![

@@ -100,7 +100,10 @@ impl Checked {
             return format!("within the premises ({P4}): {list}\n{cut}");
         };
         let at = self.where_it_stands.as_ref().map_or(String::new(), |at| format!(" ({at})"));
-        let more = format!("values that break them: {}; a query may miss items\n", self.breaking);
+        let more = match self.breaking {
+            0 => "none breaks them by itself; a query may miss items\n".to_string(),
+            n => format!("{} break them; a query may miss items\n", counted(n, "value")),
+        };
         format!("OUTSIDE the premises ({P4}): {broken}{at}\n{list}; {more}{cut}")
     }
 

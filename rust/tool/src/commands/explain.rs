@@ -41,13 +41,13 @@ fn run(line: &Line) -> Result<Answer, Failure> {
     let account = account(&dump)?;
     let boxes = dump.input()?;
     let trace = Trace::of(&boxes.items, dump.threshold as usize);
-    let explainer = Explainer { boxes, trace: &trace, records: &dump.records };
+    let explainer = Explainer { boxes, trace: &trace, records: &account.rebuilt };
     let explanation = explanation(&dump, &account, &explainer, &line.words[1..])?;
     if line.json() {
         return Ok(Answer::of(format!("{}\n", json(&dump, &account, &explanation))));
     }
     let warning = account.warning(&dump).map_or(String::new(), |warning| format!("NOTE {warning}\n"));
-    Ok(Answer::of(explanation.text() + &warning))
+    Ok(Answer::of(warning + &explanation.text()))
 }
 
 fn json(dump: &Dump, account: &Account, explanation: &Explanation) -> Json {
@@ -68,7 +68,9 @@ fn explanation(dump: &Dump, account: &Account, with: &Explainer, words: &[String
 
 fn unknown(words: &[String]) -> Failure {
     let given = words.join(" ");
-    Failure::Usage(format!("'{given}' is no field: expected one as `node 9 min.x`, `tree 0 last`, `header cen.x`, `order 5`"))
+    Failure::Usage(format!(
+        "'{given}' is no field: expected one as `node 9 min.x`, `tree 0 last`, `header cen.x`, `order 5`"
+    ))
 }
 
 /// A field, explained only where both the library and the trace make its bytes from the input.
@@ -77,7 +79,7 @@ fn explained(dump: &Dump, account: &Account, with: &Explainer, field: Field) -> 
     if !there(&dump.records) && !there(&account.rebuilt) {
         return Err(Failure::Usage(format!("{field}: {} has no such record; `bounds dump` shows all", dump.name)));
     }
-    if account.differing.contains(&field) {
+    if account.differs(field) {
         let words = account.difference(dump, field);
         return Err(Failure::Refused(format!("{}: {words}; what stands there is not explained", dump.name)));
     }
@@ -102,10 +104,11 @@ fn query(dump: &Dump, account: &Account, with: &Explainer, words: [&str; 3]) -> 
     let (min, max) = (corner(words[0])?, corner(words[1])?);
     let entries = dump.entries;
     let item = words[2].parse().ok().filter(|&item: &usize| item < entries);
-    let item = item.ok_or_else(|| Failure::Usage(format!("item '{}': expected a list place below {entries}", words[2])))?;
+    let item =
+        item.ok_or_else(|| Failure::Usage(format!("item '{}': expected a list place below {entries}", words[2])))?;
     let found = dump.walk(min, max)?;
     let asked = Asked { dump, min, max, item };
-    let (explanation, reads) = with.query(&asked, account.differing.is_empty());
+    let (explanation, reads) = with.query(&asked, &|field| !account.differs(field));
     if reads != found.reads {
         return Err(Failure::Refused("the trace reads other records than the library; it is not explained".into()));
     }

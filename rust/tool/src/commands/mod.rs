@@ -12,5 +12,13 @@ use crate::cli::Command;
 
 /// Every command, in the order in which the help shows them.
 pub fn table() -> [Command; 7] {
-    [build::command(), check::command(), query::command(), dump::command(), explain::command(), diff::command(), draw::command()]
+    [
+        build::command(),
+        check::command(),
+        query::command(),
+        dump::command(),
+        explain::command(),
+        diff::command(),
+        draw::command(),
+    ]
 }

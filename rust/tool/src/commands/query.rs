@@ -43,6 +43,8 @@ struct Queried {
     items: Vec<(usize, Option<bool>)>,
     missed: Vec<usize>,
     reads: usize,
+    /// Whether the input is at hand.
+    known: bool,
 }
 
 fn run(line: &Line) -> Result<Answer, Failure> {
@@ -85,6 +87,7 @@ fn queried(dump: &Dump, min: Vec3, max: Vec3) -> Result<Queried, Failure> {
         missed: missed.collect(),
         items: places.into_iter().map(|place| (place, meets(place))).collect(),
         reads: found.reads,
+        known: items.is_some(),
     })
 }
 
@@ -109,7 +112,11 @@ impl Queried {
             text += &format!("  box {place:<6} MISSED: meets as floats, not handed out; see bounds explain {dump} query {min} {max} item {place}\n");
         }
         let (handed, reads) = (self.items.len(), counted(self.reads, "record"));
-        text + &format!("  {handed} handed out, {} meet, {} missed; {reads} read\n", self.meeting(), self.missed.len())
+        let known = match self.known {
+            true => format!(", {} meet, {} missed", self.meeting(), self.missed.len()),
+            false => String::new(),
+        };
+        text + &format!("  {handed} handed out{known}; {reads} read\n")
     }
 
     fn meeting(&self) -> usize {

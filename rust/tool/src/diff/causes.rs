@@ -6,6 +6,10 @@ use super::{words, Side};
 use crate::field::{Field, InHeader, InRecord, AXES};
 use crate::rules::Rule::{self, *};
 use bounds::premises::Axis;
+use std::collections::BTreeMap;
+
+/// Causes that are told of with their values.
+pub const TOLD: usize = 8;
 
 /// Why a field differs, first things first.
 #[derive(Clone, Copy, Debug, PartialEq, Eq, PartialOrd, Ord)]
@@ -37,36 +41,29 @@ pub struct Caused {
 
 /// The causes of the fields that differ, in their order.
 pub fn causes(sides: &[Side; 2], fields: &[Field], changes: &[Change]) -> Vec<Caused> {
-    let finder = Finder { sides, matching: Matching::of(&sides[0].trace, &sides[1].trace) };
-    let mut causes: Vec<Caused> = Vec::new();
+    let matching = Matching::of(&sides[0].trace, &sides[1].trace);
+    let finder = Finder { sides, first_of_all: matching.first_of_all(), matching };
+    let mut grouped: BTreeMap<Cause, Vec<Field>> = BTreeMap::new();
     for &field in fields {
-        let cause = finder.cause(field);
-        match causes.iter_mut().find(|known| known.cause == cause) {
-            Some(known) => known.fields.push(field),
-            None => causes.push(Caused {
-                cause,
-                title: String::new(),
-                rules: Vec::new(),
-                fields: vec![field],
-                lines: Vec::new(),
-            }),
-        }
+        grouped.entry(finder.cause(field)).or_default().push(field);
     }
-    causes.sort_by_key(|known| known.cause);
-    for known in &mut causes {
-        words::tell(sides, &finder.matching, changes, known);
-    }
-    causes
+    let told = grouped.into_iter().enumerate().map(|(at, (cause, fields))| {
+        // Each split is gone to from the root: of thousands only the first are.
+        let lines = if at < TOLD { words::lines(sides, &finder.matching, changes, cause) } else { Vec::new() };
+        Caused { cause, title: cause.title(), rules: cause.rules(), fields, lines }
+    });
+    told.collect()
 }
 
 struct Finder<'a> {
     sides: &'a [Side<'a>; 2],
     matching: Matching,
+    first_of_all: Option<usize>,
 }
 
 impl Finder<'_> {
     fn cause(&self, field: Field) -> Cause {
-        if self.sides.iter().any(|side| side.account.differing.contains(&field)) {
+        if self.sides.iter().any(|side| side.account.differs(field)) {
             return Cause::Bytes;
         }
         match field {
@@ -101,7 +98,11 @@ impl Finder<'_> {
         if one.bounds[value] != two.bounds[value] {
             return Cause::Own(value);
         }
-        self.scale_differs(axis).then_some(Cause::Scale(axis as usize)).unwrap_or(Cause::Moved)
+        if self.scale_differs(axis) {
+            Cause::Scale(axis as usize)
+        } else {
+            Cause::Moved
+        }
     }
 
     fn scale_differs(&self, axis: Axis) -> bool {
@@ -124,7 +125,7 @@ impl Finder<'_> {
         if self.sides[0].dump.threshold != self.sides[1].dump.threshold {
             return Cause::Threshold;
         }
-        above.or(other).or(self.matching.splits().first().copied()).map_or(Cause::Moved, Cause::Split)
+        above.or(other).or(self.first_of_all).map_or(Cause::Moved, Cause::Split)
     }
 }
 

@@ -1,8 +1,7 @@
 //! Which boxes a query at their own place finds, in a and in b.
 
 use super::Side;
-use crate::explain::query::{first_miss, leaf_of, Asked};
-use crate::failure::Failure;
+use crate::explain::query::first_miss;
 use crate::field::{AXES, CORNERS};
 use crate::number::{float, place};
 use crate::rules::Rule::*;
@@ -22,6 +21,8 @@ pub enum Verdict {
     Missed,
     /// One of the lists does not have it.
     OnlyIn(char),
+    /// A walk over the records of one side is refused: they are damaged.
+    Refused(char),
 }
 
 /// A box in both dumps.
@@ -40,17 +41,19 @@ pub struct Row {
 }
 
 /// A row for each place that either list has present.
-pub fn rows(sides: &[Side; 2]) -> Result<Vec<Row>, Failure> {
-    let axis = axis(sides);
+pub fn rows(sides: &[Side; 2]) -> Vec<Row> {
+    let asker = Asker { sides, axis: axis(sides), leaves: [0, 1].map(|side: usize| sides[side].dump.leaves()) };
     let most = sides[0].trace.items.len().max(sides[1].trace.items.len());
-    let mut rows = Vec::new();
-    for place in 0..most {
-        let there = [0, 1].map(|side: usize| present(&sides[side], place));
-        if there != [false, false] {
-            rows.push(row(sides, axis, place, there)?);
-        }
-    }
-    Ok(rows)
+    let there = |place: usize| [0, 1].map(|side: usize| present(&sides[side], place));
+    let places = (0..most).filter(|&place| there(place) != [false, false]);
+    places.map(|place| asker.row(place, there(place))).collect()
+}
+
+/// Two dumps, the axis to be shown, and the leaf of each place by the records of each.
+struct Asker<'a> {
+    sides: &'a [Side<'a>; 2],
+    axis: usize,
+    leaves: [Vec<Option<usize>>; 2],
 }
 
 fn present(side: &Side, place: usize) -> bool {
@@ -83,37 +86,53 @@ fn asked_at(sides: &[Side; 2], place: usize, there: [bool; 2]) -> (Vec3, Vec3) {
     (chosen.min, chosen.max)
 }
 
-fn row(sides: &[Side; 2], axis: usize, place: usize, there: [bool; 2]) -> Result<Row, Failure> {
-    let (min, max) = asked_at(sides, place, there);
-    let handed = |side: &Side| -> Result<Vec<usize>, Failure> {
-        let found = side.dump.walk(min, max)?;
-        Ok(found.positions.iter().filter_map(|&position| side.dump.place(position as usize)).collect())
-    };
-    let places = [handed(&sides[0])?, handed(&sides[1])?];
-    let found = [0, 1].map(|side: usize| places[side].contains(&place));
-    let verdict = match (there, found) {
+impl Asker<'_> {
+    /// A box in both dumps, by the records of each.
+    fn row(&self, place: usize, there: [bool; 2]) -> Row {
+        let (min, max) = asked_at(self.sides, place, there);
+        let places = [0, 1].map(|side: usize| handed(&self.sides[side], min, max));
+        let verdict = verdict(there, [0, 1].map(|side: usize| places[side].as_ref().map(|all| all.contains(&place))));
+        let leaves = [0, 1].map(|side: usize| self.leaves[side].get(place).copied().flatten());
+        let mut row = Row {
+            place,
+            leaves,
+            axis: self.axis,
+            record: String::new(),
+            stands_for: String::new(),
+            is: String::new(),
+            verdict,
+            why: String::new(),
+        };
+        row.why = match verdict {
+            Verdict::Found | Verdict::Gained => with_it(&self.sides[1], (min, max), place, &places[1]),
+            Verdict::Lost | Verdict::Missed => by_what(&self.sides[1], (min, max), leaves[1]),
+            Verdict::OnlyIn(_) | Verdict::Refused(_) => String::new(),
+        };
+        if let Some(leaf) = leaves[1] {
+            show_leaf(&self.sides[1], self.axis, leaf, place, &mut row);
+        }
+        row
+    }
+}
+
+/// The places that a walk hands out; none where it is refused.
+fn handed(side: &Side, min: Vec3, max: Vec3) -> Option<Vec<usize>> {
+    let found = side.dump.walk(min, max).ok()?;
+    Some(found.positions.iter().filter_map(|&position| side.dump.place(position as usize)).collect())
+}
+
+/// From where a box is present, and where it is found or the walk refused.
+fn verdict(there: [bool; 2], found: [Option<bool>; 2]) -> Verdict {
+    match (there, found) {
         ([true, false], _) => Verdict::OnlyIn('a'),
         ([false, true], _) => Verdict::OnlyIn('b'),
-        (_, [true, true]) => Verdict::Found,
-        (_, [true, false]) => Verdict::Lost,
-        (_, [false, true]) => Verdict::Gained,
-        (_, [false, false]) => Verdict::Missed,
-    };
-    let leaves = [0, 1].map(|side: usize| sides[side].trace.leaves.get(place).copied().flatten());
-    let mut row = Row {
-        place,
-        leaves,
-        axis,
-        record: String::new(),
-        stands_for: String::new(),
-        is: String::new(),
-        verdict,
-        why: why(&sides[1], (min, max), place, &places[1], verdict),
-    };
-    if let Some(leaf) = leaves[1] {
-        show_leaf(&sides[1], axis, leaf, place, &mut row);
+        (_, [None, _]) => Verdict::Refused('a'),
+        (_, [_, None]) => Verdict::Refused('b'),
+        (_, [Some(true), Some(true)]) => Verdict::Found,
+        (_, [Some(true), Some(false)]) => Verdict::Lost,
+        (_, [Some(false), Some(true)]) => Verdict::Gained,
+        (_, [Some(false), Some(false)]) => Verdict::Missed,
     }
-    Ok(row)
 }
 
 /// The leaf's values in b on the axis, what they stand for, and the box itself.
@@ -127,33 +146,39 @@ fn show_leaf(side: &Side, axis: usize, leaf: usize, at: usize, row: &mut Row) {
     row.is = format!("{}..{}", float(floats[axis]), float(floats[axis + 3]));
 }
 
-/// Of a lost box the record that misses; of a found one what is handed out with it and does not meet.
-fn why(side: &Side, (min, max): (Vec3, Vec3), place: usize, handed: &[usize], verdict: Verdict) -> String {
-    if matches!(verdict, Verdict::Found | Verdict::Gained) {
-        let stray = |&&other: &&usize| other != place && side.trace.items.get(other).is_some_and(|item| !item.meets(min, max));
-        let with: Vec<usize> = handed.iter().filter(stray).copied().collect();
-        return if with.is_empty() { String::new() } else { format!("and box {} with it", crate::number::some(&with)) };
+/// What is handed out with a box and does not meet the query.
+fn with_it(side: &Side, (min, max): (Vec3, Vec3), place: usize, handed: &Option<Vec<usize>>) -> String {
+    let stray =
+        |&&other: &&usize| other != place && side.trace.items.get(other).is_some_and(|item| !item.meets(min, max));
+    let with: Vec<usize> = handed.iter().flatten().filter(stray).copied().collect();
+    match with.is_empty() {
+        true => String::new(),
+        false => format!("and box {} with it", crate::number::some(&with)),
     }
-    if matches!(verdict, Verdict::OnlyIn(_)) {
-        return String::new();
-    }
-    let asked = Asked { dump: side.dump, min, max, item: place };
-    let Some(leaf) = leaf_of(&asked) else { return "in no leaf".into() };
+}
+
+/// The record on the way to a leaf that misses.
+fn by_what(side: &Side, (min, max): (Vec3, Vec3), leaf: Option<usize>) -> String {
+    let Some(leaf) = leaf else { return "in no leaf".into() };
+    let odd = odd_values(side, leaf);
     match first_miss(side.dump, &walk(side.dump, min, max), leaf) {
-        Some(Reading::Node { node, .. }) if node == leaf => odd_values(side, leaf),
-        Some(Reading::Node { node, .. }) => format!("by node {node} above it"),
-        Some(Reading::Tree { tree, .. }) => format!("by tree {tree}"),
+        Some(Reading::Node { node, .. }) if node == leaf => format!("by its own record{odd}"),
+        Some(Reading::Node { node, .. }) => format!("by node {node} above it{odd}"),
+        Some(Reading::Tree { tree, .. }) => format!("by tree {tree}{odd}"),
         None => String::new(),
     }
 }
 
-/// What is odd about a leaf's values: wraps and NaN.
+/// What is odd about a leaf's values: wraps and NaN. Of bytes that the input does not give nothing is known.
 fn odd_values(side: &Side, leaf: usize) -> String {
+    if !side.account.differing.is_empty() {
+        return String::new();
+    }
     let value = |corner, axis| {
         let q = side.trace.quantised(leaf, corner, axis);
         match (q.wrapped(), q.product.is_nan()) {
-            (true, _) => Some(format!("{corner}.{axis} wraps: {} -> {} ({F8})", q.whole, q.short)),
-            (_, true) => Some(format!("{corner}.{axis} NaN -> 0 ({F8})")),
+            (true, _) => Some(format!("; {corner}.{axis} wraps {} -> {} ({F8})", q.whole, q.short)),
+            (_, true) => Some(format!("; {corner}.{axis} NaN -> 0 ({F8})")),
             _ => None,
         }
     };

@@ -3,7 +3,7 @@
 use crate::boxes::words;
 use crate::dump::Dump;
 use crate::explain::value_name;
-use crate::number::both;
+use crate::number::{both, float};
 use bounds::BvhItem;
 use std::fmt;
 
@@ -15,7 +15,12 @@ pub enum Change {
     /// Whether the entry at a place is present, in a and in b.
     Presence(usize, bool, bool),
     /// One of the six values of the box at a place.
-    Word { place: usize, value: usize, a: u32, b: u32 },
+    Word {
+        place: usize,
+        value: usize,
+        a: u32,
+        b: u32,
+    },
 }
 
 /// Every difference of the two inputs, entry by entry of those that both have.
@@ -52,6 +57,18 @@ impl Change {
             Change::Entries(..) => "the number of entries".into(),
             Change::Presence(place, ..) => format!("box {place}"),
             Change::Word { place, value, .. } => format!("box {place} {}", value_name(*value)),
+        }
+    }
+}
+
+impl Change {
+    /// The change, short enough to be read aloud: `box 2 min.x 4.0 -> NaN`.
+    pub fn short(&self) -> String {
+        match *self {
+            Change::Word { a, b, .. } => {
+                format!("{} {} -> {}", self.of(), float(f32::from_bits(a)), float(f32::from_bits(b)))
+            }
+            _ => self.to_string(),
         }
     }
 }

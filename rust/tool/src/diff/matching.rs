@@ -52,12 +52,9 @@ impl Matching {
         Matching { same_items: all[0][0] == all[1][0], partner, first_split }
     }
 
-    /// The nodes of a at which a split differs first, in preorder.
-    pub fn splits(&self) -> Vec<usize> {
-        let mut splits: Vec<usize> = self.first_split[0].iter().flatten().copied().collect();
-        splits.sort();
-        splits.dedup();
-        splits
+    /// The first node of a, in preorder, whose split differs.
+    pub fn first_of_all(&self) -> Option<usize> {
+        self.first_split[0].iter().flatten().copied().min()
     }
 }
 

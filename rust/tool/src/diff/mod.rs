@@ -72,7 +72,7 @@ fn known<'a>(a: &'a Dump, b: &'a Dump, fields: &[Field]) -> Result<Known<'a>, Fa
     let sides = [Side::of(a)?, Side::of(b)?];
     let changes = input::changes(a, b);
     let causes = causes::causes(&sides, fields, &changes);
-    let rows = found::rows(&sides)?;
+    let rows = found::rows(&sides);
     Ok(Known { causes, elsewhere: elsewhere(a, b), rows, changes, sides })
 }
 
@@ -81,9 +81,10 @@ fn elsewhere(a: &Dump, b: &Dump) -> Vec<(Field, String, String)> {
     let nodes = a.records.node_count().min(b.records.node_count());
     let meaning = |dump: &Dump, field: Field| match (field, field.value(&dump.records)) {
         (Field::Node(k, _), _) if k >= nodes => None,
-        (Field::Node(_, InRecord::Box(_, axis)) | Field::Tree(_, InRecord::Box(_, axis)), Some(Value::Short(value))) => {
-            Some(place(dump.records.stands_for(axis as usize, value)))
-        }
+        (
+            Field::Node(_, InRecord::Box(_, axis)) | Field::Tree(_, InRecord::Box(_, axis)),
+            Some(Value::Short(value)),
+        ) => Some(place(dump.records.stands_for(axis as usize, value))),
         _ => None,
     };
     let both = |field: Field| {

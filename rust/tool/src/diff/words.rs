@@ -1,12 +1,12 @@
 //! What there is to say of a cause: its values in a and in b.
 
-use super::causes::{Cause, Caused};
+use super::causes::Cause;
 use super::input::Change;
 use super::matching::Matching;
 use super::Side;
 use crate::boxes::words;
 use crate::explain::value_name;
-use crate::field::AXES;
+use crate::field::{AXES, CORNERS};
 use crate::number::{counted, float, place, some};
 use crate::rules::Rule::*;
 use crate::trace::fold;
@@ -16,23 +16,16 @@ use crate::trace::split::Split;
 /// A fold over more boxes than this is told by its ends.
 const SHOWN: usize = 10;
 
-/// Puts a cause into words.
-pub fn tell(sides: &[Side; 2], matching: &Matching, changes: &[Change], known: &mut Caused) {
-    known.title = known.cause.title();
-    known.rules = known.cause.rules();
-    known.lines = match known.cause {
-        Cause::Bytes => bytes(sides),
+/// A cause in words.
+pub fn lines(sides: &[Side; 2], matching: &Matching, changes: &[Change], cause: Cause) -> Vec<String> {
+    match cause {
+        Cause::Bytes => vec!["the line `bytes` above names them; what stands there is not explained".into()],
         Cause::Threshold | Cause::List => listed(changes, |change| !matches!(change, Change::Word { .. })),
         Cause::Scale(axis) => scale(sides, axis),
         Cause::Split(node) => split(sides, matching, node),
         Cause::Own(value) => own(sides, changes, value),
         Cause::Moved => vec!["the same boxes at other numbers".into()],
-    };
-}
-
-fn bytes(sides: &[Side; 2]) -> Vec<String> {
-    let warning = |side: &Side| side.account.warning(side.dump).map(|warning| format!("{warning}: not explained"));
-    sides.iter().filter_map(warning).collect()
+    }
 }
 
 fn listed(changes: &[Change], which: impl Fn(&Change) -> bool) -> Vec<String> {
@@ -60,12 +53,24 @@ fn scale(sides: &[Side; 2], axis: usize) -> Vec<String> {
     let pair = |what: &str, of: fn(&Scale) -> f32| {
         format!("{what}.{name} {} -> {}", float(of(&a.scales[axis])), float(of(&b.scales[axis])))
     };
-    let values = [pair("min", |s| s.min), pair("max", |s| s.max), pair("cen", |s| s.cen), pair("inverse", |s| s.inverse)];
+    let values =
+        [pair("min", |s| s.min), pair("max", |s| s.max), pair("cen", |s| s.cen), pair("inverse", |s| s.inverse)];
     lines.push(values.join("   "));
-    let ends = &b.scales[axis];
-    let outside = format!("{}..{}", place(ends.min as f64), place(ends.max as f64));
-    lines.push(format!("so every {name} value has another scale; in b what lies outside {outside} wraps ({F8})"));
+    lines.push(format!("so every {name} value has another scale"));
+    lines.extend(sides.iter().zip(["a", "b"]).filter_map(|(side, which)| wraps(side, which, axis)));
     lines
+}
+
+/// Node values that wrap: what lies outside the box of all, which a NaN made too small.
+fn wraps(side: &Side, which: &str, axis: usize) -> Option<String> {
+    let trace = &side.trace;
+    let values =
+        (0..trace.nodes.len()).flat_map(|node| CORNERS.map(|corner| trace.quantised(node, corner, AXES[axis])));
+    let wrapped = values.filter(|quantised| quantised.wrapped()).count();
+    let ends = &trace.scales[axis];
+    let outside = format!("{}..{}", place(ends.min as f64), place(ends.max as f64));
+    let count = counted(wrapped, "node value");
+    (wrapped > 0).then(|| format!("in {which} {count} on {} wrap ({F8}): they lie outside {outside}", AXES[axis]))
 }
 
 /// `0 2 NaN 6 -> 0 0 NaN 6`, and what a NaN did.
@@ -75,12 +80,20 @@ fn fold_line(side: &Side, value: usize) -> String {
     let show = |of: &[u32]| of.iter().map(|&word| float(f32::from_bits(word))).collect::<Vec<_>>().join(" ");
     let nan = given.iter().rposition(|&word| f32::from_bits(word).is_nan());
     let wiped = nan.map_or(String::new(), |at| {
-        let from = given.get(at + 1).map_or("nothing follows it".into(), |&next| format!("{} starts anew", float(f32::from_bits(next))));
+        let from = given
+            .get(at + 1)
+            .map_or("nothing follows it".into(), |&next| format!("{} starts anew", float(f32::from_bits(next))));
         format!("   <- the NaN of box {} wipes what came before ({F3}); {from}", trace.present[at])
     });
     if given.len() > SHOWN {
-        let whose = fold::winner(trace.items, &trace.present, value).map_or("the start".into(), |at| format!("box {}'s", trace.present[at]));
-        return format!("{} of {}: {}, {whose}{wiped}", value_name(value), counted(given.len(), "box"), float(f32::from_bits(trace.all[value])));
+        let whose = fold::winner(trace.items, &trace.present, value)
+            .map_or("the start".into(), |at| format!("box {}'s", trace.present[at]));
+        return format!(
+            "{} of {}: {}, {whose}{wiped}",
+            value_name(value),
+            counted(given.len(), "box"),
+            float(f32::from_bits(trace.all[value]))
+        );
     }
     format!("{}; after each {}{wiped}", show(&given), show(&fold::steps(trace.items, &trace.present, value)))
 }
@@ -99,19 +112,41 @@ fn split(sides: &[Side; 2], matching: &Matching, node: usize) -> Vec<String> {
     for (axis, name) in AXES.iter().enumerate() {
         if a.average[axis].to_bits() != b.average[axis].to_bits() {
             let (one, two) = (float(a.average[axis]), float(b.average[axis]));
-            lines.push(format!("average {name} {one} -> {two}{}", if b.average[axis].is_nan() { ": no centre is above or below it" } else { "" }));
+            lines.push(format!(
+                "average {name} {one} -> {two}{}",
+                if b.average[axis].is_nan() { ": no centre is above or below it" } else { "" }
+            ));
         }
     }
     let below = |split: &Split| format!("{:?}", split.below);
-    lines.push(format!("centres below it on x, y, z of {n}: {} -> {}; axis {} -> {}", below(&a), below(&b), AXES[a.axis], AXES[b.axis]));
+    lines.push(format!(
+        "centres below it on x, y, z of {n}: {} -> {}; axis {} -> {}",
+        below(&a),
+        below(&b),
+        AXES[a.axis],
+        AXES[b.axis]
+    ));
     lines.push(format!("a: {}", groups(&a)));
     lines.push(format!("b: {}", groups(&b)));
+    lines.extend(sorted_below(&sides[0], 'a', node));
+    lines.extend(sorted_below(&sides[1], 'b', twin));
     lines
+}
+
+/// The children of a split that fell back to sorting: what a NaN does goes on below.
+fn sorted_below(side: &Side, name: char, node: usize) -> Vec<String> {
+    let children = side.trace.nodes[node].children.into_iter().flatten();
+    let told = |child: usize| {
+        let split = side.trace.split(child)?;
+        split.sorted.then(|| format!("then {name}'s node {child}: {}", groups(&split)))
+    };
+    children.filter_map(told).collect()
 }
 
 fn groups(split: &Split) -> String {
     let [first, second] = split.clone().children();
-    let how = if split.sorted { format!("   none above: sorted, a NaN first, and cut ({T6}, {F2})") } else { String::new() };
+    let how =
+        if split.sorted { format!("   none above: sorted, a NaN first, and cut ({T6}, {F2})") } else { String::new() };
     format!("{} | {}{how}", some(&first), some(&second))
 }
 

@@ -81,6 +81,13 @@ impl Picture<'_> {
         } else {
             svg.rect(at, &format!("fill=\"{RED}\" fill-opacity=\"0.55\""));
         }
+        let few = self.trace.present.len() <= NAMED && self.trace.nodes[leaf].items == 1;
+        if few && !(x.agrees && y.agrees) {
+            // Far from its box: the record says whose it is.
+            let whose = format!("record of {}", self.trace.got(leaf)[0]);
+            let look = format!("font-size=\"10\" fill=\"{RED}\"");
+            svg.text((at.x + 3.0, at.y - 4.0), &look, &whose);
+        }
     }
 
     /// A box as floats, with its place.
@@ -90,7 +97,9 @@ impl Picture<'_> {
         let open = if v.iter().any(|x| x.is_nan()) { " stroke-dasharray=\"2 3\"" } else { "" };
         svg.rect(at, &format!("fill=\"none\" stroke=\"{INK}\"{open}"));
         if self.trace.present.len() <= NAMED {
-            let middle = (at.x + at.w / 2.0, at.y + at.h / 2.0 + 4.0);
+            // A box that is open at one end has its place at the other.
+            let share = if v[0].is_nan() { 0.9 } else { 0.5 };
+            let middle = (at.x + at.w * share, at.y + at.h / 2.0 + 4.0);
             svg.text(middle, &format!("text-anchor=\"middle\" font-size=\"11\" fill=\"{INK}\""), &place.to_string());
         }
     }

@@ -42,14 +42,20 @@ impl Ruler {
         }
         let first = (self.low / step).ceil();
         let places = (0..=most).map(|k| (first + k as f64) * step);
-        places.filter(|&place| place <= self.high).map(|place| if place.abs() < 1e-9 * step { 0.0 } else { place }).collect()
+        places
+            .filter(|&place| place <= self.high)
+            .map(|place| if place.abs() < 1e-9 * step { 0.0 } else { place })
+            .collect()
     }
 }
 
 /// A tick's number, without digits that say nothing.
 pub fn tick(place: f64) -> String {
     let size = place.abs();
-    if place != 0.0 && !(1e-3..1e6).contains(&size) {
+    if size == 0.0 {
+        return "0".into(); // of either sign
+    }
+    if !(1e-3..1e6).contains(&size) {
         return format!("{place:.1e}");
     }
     let text = format!("{place:.4}");

@@ -47,19 +47,19 @@ impl Picture<'_> {
         }
     }
 
-    /// `node 2: boxes 1,3,4`, indented by its depth; with a query, whether it was read and met.
+    /// `node 2: box 1,3,4, misses`, indented by its depth; with a query, whether it was read and met.
     fn label(&self, svg: &mut Svg, node: usize, y: f64) {
         let depth = self.trace.path(node).len() - 1;
         let got = self.trace.got(node);
-        let boxes = if got.len() > 5 { format!("{} boxes", got.len()) } else { some(&got) };
+        let boxes = if got.len() > 5 { format!("{} boxes", got.len()) } else { format!("box {}", some(&got)) };
         let (colour, said) = match (self.query, self.read[node]) {
             (None, _) => (INK, ""),
-            (_, Some(true)) => (INK, "  meets"),
-            (_, Some(false)) => (RED, "  misses"),
-            (_, None) => (GREY, "  not read"),
+            (_, Some(true)) => (INK, ", meets"),
+            (_, Some(false)) => (RED, ", misses"),
+            (_, None) => (GREY, ", not read"),
         };
-        let kind = if self.trace.nodes[node].children.is_some() { "" } else { "leaf " };
-        let text = format!("node {node}  {kind}{boxes}{said}");
+        let kind = if self.trace.nodes[node].children.is_some() { "node" } else { "leaf" };
+        let text = format!("{kind} {node}: {boxes}{said}");
         let x = MARGIN + 9.0 * depth.min(8) as f64;
         svg.text((x, y + 14.0), &format!("font-size=\"11\" fill=\"{colour}\""), &text);
         svg.line((MARGIN, y + ROW), (WIDTH - MARGIN, y + ROW), "stroke=\"#f2f2f2\"");

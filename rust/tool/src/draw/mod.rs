@@ -32,7 +32,8 @@ const GREY: &str = "#b8b8b8";
 const INK: &str = "#222222";
 
 /// Colours of ranges, told apart by eyes of every kind.
-const COLOURS: [&str; 7] = ["#8fb8de", "#f2c879", "#9fd3a8", "#cdb3e0", "#a9d6d8", "#e0b8a0", "#c9cc8f"];
+const COLOURS: [&str; 9] =
+    ["#8fb8de", "#f2c879", "#9fd3a8", "#cdb3e0", "#a9d6d8", "#e0b8a0", "#c9cc8f", "#f0b6c8", "#b9c4d6"];
 
 /// A query to be drawn.
 #[derive(Clone, Copy, Debug)]
@@ -97,7 +98,12 @@ impl<'a> Picture<'a> {
     fn title(&self, svg: &mut Svg) -> f64 {
         let (dump, trace) = (self.dump, self.trace);
         let (boxes, nodes) = (counted(trace.present.len(), "box"), counted(trace.nodes.len(), "node"));
-        let title = format!("{}: {boxes}, {nodes}, {}, threshold {}", dump.name, counted(trace.ranges.len(), "range"), dump.threshold);
+        let title = format!(
+            "{}: {boxes}, {nodes}, {}, threshold {}",
+            dump.name,
+            counted(trace.ranges.len(), "range"),
+            dump.threshold
+        );
         svg.text((MARGIN, 30.0), &format!("font-size=\"16\" font-weight=\"bold\" fill=\"{INK}\""), &title);
         let mut y = 30.0;
         let mut caption = |text: &str, colour: &str| {
@@ -108,7 +114,10 @@ impl<'a> Picture<'a> {
             caption(&format!("outside the premises, {broken}: items may be missed"), RED);
         }
         if !self.account.differing.is_empty() {
-            caption(&format!("{} of the dump not as its input gives", counted(self.account.differing.len(), "field")), RED);
+            caption(
+                &format!("{} of the dump not as its input gives", counted(self.account.differing.len(), "field")),
+                RED,
+            );
         }
         if self.rows.len() < trace.nodes.len() {
             caption(&format!("drawn are the {} nodes of the upper levels", self.rows.len()), INK);
@@ -118,7 +127,8 @@ impl<'a> Picture<'a> {
 
     /// Places on an axis that are to be seen: the boxes, their records, the query.
     fn ruler(&self, axis: usize) -> Ruler {
-        let items = self.trace.present.iter().map(|&place| self.trace.floats(place)).flat_map(|v| [v[axis], v[axis + 3]]);
+        let items =
+            self.trace.present.iter().map(|&place| self.trace.floats(place)).flat_map(|v| [v[axis], v[axis + 3]]);
         let bars = self.rows.iter().map(|&node| self.bar(node, axis)).flat_map(|bar| [bar.record.0, bar.record.1]);
         let pick = |v: Vec3| [v.x, v.y, v.z][axis] as f64;
         let query = self.query.iter().flat_map(|query| [pick(query.min), pick(query.max)]);

@@ -24,6 +24,9 @@ use std::path::Path;
 
 const FIRST_LINE: &str = "bounds dump 1";
 
+/// The most node records of a build: twice its entries and one.
+const MOST_NODES: usize = 65_535;
+
 /// Bytes of an entry in boxes.bin.
 const ENTRY: usize = 28;
 
@@ -58,9 +61,16 @@ pub fn read(path: &str) -> Result<Dump, Failure> {
     let file = |name: &str| Path::new(path).join(name).to_string_lossy().into_owned();
     let (threshold, entries) = manifest(&file("dump.txt"))?;
     let header = read_file(&file("header.bin"))?;
-    let header = header.as_slice().try_into().map_err(|_| length(&file("header.bin"), header.len(), 128, "a header"))?;
+    let header =
+        header.as_slice().try_into().map_err(|_| length(&file("header.bin"), header.len(), 128, "a header"))?;
     let mut records = Records { header, nodes: Vec::new(), trees: Vec::new(), order: Vec::new() };
     let (capacity, trees) = (records.header_word(12) as usize, records.header_word(120) as u16 as usize);
+    if capacity > MOST_NODES {
+        let path = file("header.bin");
+        return Err(Failure::File(format!(
+            "{path}, bytes 12-15: {capacity} node records; expected at most {MOST_NODES}"
+        )));
+    }
     records.nodes = exactly(&file("nodes.bin"), 16, capacity, "records, by bytes 12-15 of header.bin")?;
     records.trees = exactly(&file("trees.bin"), 16, trees, "records, by bytes 120-121 of header.bin")?;
     records.order = order(&file("order.bin"), entries)?;
@@ -117,7 +127,11 @@ fn manifest(path: &str) -> Result<(u32, usize), Failure> {
 fn order(path: &str, entries: usize) -> Result<Vec<u16>, Failure> {
     let bytes = read_file(path)?;
     if !bytes.len().is_multiple_of(2) || bytes.len() > 2 * entries {
-        return Err(Failure::File(format!("{path}: {} bytes; expected two a present entry, at most {}", bytes.len(), 2 * entries)));
+        return Err(Failure::File(format!(
+            "{path}: {} bytes; expected two a present entry, at most {}",
+            bytes.len(),
+            2 * entries
+        )));
     }
     Ok(bytes.chunks_exact(2).map(|b| u16::from_le_bytes([b[0], b[1]])).collect())
 }

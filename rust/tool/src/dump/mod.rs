@@ -64,7 +64,9 @@ impl Dump {
             return Ok(Dump::build(path, boxes, loading.threshold.unwrap_or(1))?.0);
         }
         if loading.threshold.is_some() || loading.form.is_some() {
-            let words = format!("{path} is a dump and has its own threshold and boxes: leave out --threshold, --text, --records");
+            let words = format!(
+                "{path} is a dump and has its own threshold and boxes: leave out --threshold, --text, --records"
+            );
             return Err(Failure::Usage(words));
         }
         folder::read(path)
@@ -85,7 +87,10 @@ impl Dump {
     /// Its input, without which nothing can be explained.
     pub fn input(&self) -> Result<&Boxes, Failure> {
         self.boxes.as_ref().ok_or_else(|| {
-            Failure::File(format!("{}: boxes.bin is missing; the records alone cannot be explained or drawn", self.name))
+            Failure::File(format!(
+                "{}: boxes.bin is missing; the records alone cannot be explained or drawn",
+                self.name
+            ))
         })
     }
 
@@ -105,6 +110,19 @@ impl Dump {
         } else {
             self.records.order.get(position).map(|&place| place as usize)
         }
+    }
+
+    /// The leaf record that holds each list place, by the records alone: the first where damaged ones have several.
+    pub fn leaves(&self) -> Vec<Option<usize>> {
+        let mut leaves = vec![None; self.entries];
+        for k in 0..self.records.node_count().min(self.records.capacity()) {
+            let Some(node) = self.records.node(k) else { break };
+            let (first, count) = (node.item_id.max(0) as usize, node.item_count.max(0) as usize);
+            for place in (first..first + count).filter_map(|position| self.place(position)) {
+                leaves.get_mut(place).into_iter().for_each(|leaf| *leaf = leaf.or(Some(k)));
+            }
+        }
+        leaves
     }
 
     /// The library's walk over the dump's bytes as they are.

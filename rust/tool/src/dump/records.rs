@@ -83,11 +83,17 @@ impl Records {
 
     /// A node's record, padding too.
     pub fn node(&self, k: usize) -> Option<BvhNode> {
-        Some(BvhNode::read(self.nodes.get(RECORD * k..RECORD * (k + 1))?.try_into().ok()?))
+        Some(BvhNode::read(record(&self.nodes, k)?))
     }
 
     /// A tree's record.
     pub fn tree(&self, k: usize) -> Option<BvhTree> {
-        Some(BvhTree::read(self.trees.get(RECORD * k..RECORD * (k + 1))?.try_into().ok()?))
+        Some(BvhTree::read(record(&self.trees, k)?))
     }
+}
+
+/// A record by its number; damaged records name numbers of any size.
+fn record(bytes: &[u8], k: usize) -> Option<&[u8; RECORD]> {
+    let start = k.checked_mul(RECORD)?;
+    bytes.get(start..start.checked_add(RECORD)?)?.try_into().ok()
 }

@@ -46,8 +46,9 @@ impl Explainer<'_> {
         }
         let last_nan = given.iter().rposition(|&word| f32::from_bits(word).is_nan());
         if let Some(at) = last_nan {
-            let lost = counted(at, "value");
-            let note = format!("the NaN of box {} wipes the {lost} before it; what follows starts anew", places[at]);
+            let wiped =
+                if at == 0 { "comes first".into() } else { format!("wipes the {} before it", counted(at, "value")) };
+            let note = format!("the NaN of box {} {wiped}; what follows starts anew", places[at]);
             steps.push(Step::new(&[F3], note).note(self.origin(places[at], value)));
         }
         steps

@@ -54,7 +54,10 @@ impl Explainer<'_> {
         };
         if point != Point::Cen {
             let (below, above, q) = (float(scale.below), float(scale.above), float(scale.extent));
-            steps.push(Step::new(&[T2, F3], format!("q, the larger of |min - cen| = {below} and |max - cen| = {above}: {q}")));
+            steps.push(Step::new(
+                &[T2, F3],
+                format!("q, the larger of |min - cen| = {below} and |max - cen| = {above}: {q}"),
+            ));
             steps.push(Step::new(&[T2], format!("quantum = {q} / 32767 = {}", float(scale.quantum))));
         }
         if point == Point::Inverse {
@@ -76,12 +79,10 @@ impl Explainer<'_> {
     fn centre_steps(&self, axis: Axis) -> Vec<Step> {
         let k = axis as usize;
         let scale = &self.trace.scales[k];
-        let box_of_all = format!("the box of all on {axis}: {} to {}", both(self.trace.all[k]), both(self.trace.all[k + 3]));
+        let box_of_all =
+            format!("the box of all on {axis}: {} to {}", both(self.trace.all[k]), both(self.trace.all[k + 3]));
         let cen = format!("cen = ({} + {}) * 0.5 = {}", float(scale.min), float(scale.max), float(scale.cen));
-        vec![
-            Step::new(&[T1], box_of_all).note(format!("header min.{axis}, max.{axis}")),
-            Step::new(&[T2, F13], cen),
-        ]
+        vec![Step::new(&[T1], box_of_all).note(format!("header min.{axis}, max.{axis}")), Step::new(&[T2, F13], cen)]
     }
 
     fn fold_point(&self, value: usize) -> Vec<Step> {
@@ -93,6 +94,7 @@ impl Explainer<'_> {
 }
 
 fn given(of: &str, records: u32) -> Vec<Step> {
-    let text = format!("the address of the {records} {of} records, as who wrote the header gave it; it follows from no box");
+    let text =
+        format!("the address of the {records} {of} records, as who wrote the header gave it; it follows from no box");
     vec![Step::new(&[R6], text)]
 }

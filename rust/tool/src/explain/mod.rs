@@ -29,6 +29,8 @@ pub struct Step {
 /// The steps that lead to a field.
 #[derive(Clone, Debug)]
 pub struct Explanation {
+    /// What is explained: `node 9 min.x`.
+    pub of: String,
     /// `19665 = bytes 0-1 of node 9, a leaf: box 0`.
     pub heading: String,
     pub steps: Vec<Step>,
@@ -64,7 +66,7 @@ impl<'a> Explainer<'a> {
             Field::Tree(k, at) => self.tree(k, at),
             Field::Order(k) => self.order(k),
         };
-        Explanation { heading: self.heading(field), steps, bytes: self.trace.bytes(field) }
+        Explanation { of: field.to_string(), heading: self.heading(field), steps, bytes: self.trace.bytes(field) }
     }
 
     /// What the field is, and of what.
@@ -112,7 +114,8 @@ impl Explanation {
             ])
         };
         Json::Object(vec![
-            ("field", self.heading.as_str().into()),
+            ("of", self.of.as_str().into()),
+            ("heading", self.heading.as_str().into()),
             ("bytes", self.bytes.as_ref().map(|bytes| number::bytes(bytes)).into()),
             ("steps", Json::list(self.steps.iter().map(step))),
         ])

@@ -108,12 +108,15 @@ impl Explainer<'_> {
         let node = &self.trace.nodes[k];
         if let Some([first, second]) = node.children {
             let (one, two) = (self.trace.nodes[first].size, self.trace.nodes[second].size);
-            let text = format!("an inner node's id is its number of nodes: 1 + {one} (node {first}) + {two} (node {second})");
+            let text =
+                format!("an inner node's id is its number of nodes: 1 + {one} (node {first}) + {two} (node {second})");
             return Step::new(&[R11], text);
         }
         let text = match (self.trace.threshold, node.items) {
             (_, 0) => "a leaf without a box has id 0".to_string(),
-            (1, _) => format!("a leaf's id is its first position; at threshold 1 that is the list place: {}", node.first),
+            (1, _) => {
+                format!("a leaf's id is its first position; at threshold 1 that is the list place: {}", node.first)
+            }
             _ => format!("a leaf's id is its first position; the leaves before it hold {}", counted(node.first, "box")),
         };
         Step::new(&[R11, R16], text)
@@ -134,7 +137,7 @@ impl Explainer<'_> {
 fn cast(product: f32, whole: i32) -> String {
     match product {
         x if x.is_nan() => "a NaN becomes 0".into(),
-        x if x >= 2147483648.0 || x < -2147483648.0 => format!("outside 32 bits, saturated: {whole}"),
+        x if !(-2147483648.0..2147483648.0).contains(&x) => format!("outside 32 bits, saturated: {whole}"),
         _ => format!("toward zero: {whole}"),
     }
 }

@@ -18,7 +18,8 @@ impl Explainer<'_> {
 
     fn rising(&self, k: usize, place: usize) -> Step {
         let absent = counted(place - k, "absent one");
-        let text = format!("at threshold 1 the present places, rising: number {k} is place {place} ({absent} before it)");
+        let text =
+            format!("at threshold 1 the present places, rising: number {k} is place {place} ({absent} before it)");
         Step::new(&[T9, R13], text)
     }
 
@@ -27,7 +28,10 @@ impl Explainer<'_> {
         let node = &self.trace.nodes[leaf];
         let mut steps = self.path_steps(leaf);
         let nth = k - node.first;
-        let text = format!("the leaves before node {leaf} hold {}; of its {} this is number {nth}: box {place}", node.first, node.items);
+        let text = format!(
+            "the leaves before node {leaf} hold {}; of its {} this is number {nth}: box {place}",
+            node.first, node.items
+        );
         steps.push(Step::new(&[R13, R16], text));
         steps
     }

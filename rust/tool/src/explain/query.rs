@@ -3,7 +3,7 @@
 use super::{fold::value_name, Explainer, Explanation, Step};
 use crate::dump::Dump;
 use crate::field::{Field, InRecord};
-use crate::number::{counted, float};
+use crate::number::{counted, float, place};
 use crate::rules::Rule::*;
 use crate::trace::walk::{walk, Miss, Reading, Span, Walked};
 use bounds::premises::{ordinary, Axis, Corner};
@@ -18,28 +18,28 @@ pub struct Asked<'a> {
 }
 
 impl Explainer<'_> {
-    /// The story of an item and a query. The records are the dump's; their values are told of only where `accounted`, as
-    /// coming from its input.
+    /// The story of an item and a query. The records are the dump's; where a value comes from is told only of fields that
+    /// are `accounted` for, as coming from its input.
     ///
     /// Also answers how many records it saw read, which must be as many as the library read.
-    pub fn query(&self, asked: &Asked, accounted: bool) -> (Explanation, usize) {
+    pub fn query(&self, asked: &Asked, accounted: &dyn Fn(Field) -> bool) -> (Explanation, usize) {
         let walked = walk(asked.dump, asked.min, asked.max);
         let place = |&position: &usize| asked.dump.place(position);
         let handed = walked.positions.iter().filter_map(place).any(|place| place == asked.item);
         let meets = self.trace.items[asked.item].meets(asked.min, asked.max);
         let mut steps = vec![Step::new(&[W1, F9], format!("the query in records: {}", span_words(&walked.span)))];
-        match leaf_of(asked) {
+        match asked.dump.leaves()[asked.item] {
             None => steps.push(Step::new(&[T9, R16], format!("no leaf of the records holds box {}", asked.item))),
             Some(leaf) => steps.extend(self.readings(asked, &walked, leaf, accounted)),
         }
         let (reads, out) = (counted(walked.readings.len(), "record"), counted(walked.positions.len(), "position"));
         steps.push(Step::new(&[W3, W5, W7], format!("in all {reads} read, {out} handed out")));
         let heading = verdict(asked, self.trace.items[asked.item].present != 0, meets, handed);
-        (Explanation { heading, steps, bytes: None }, walked.readings.len())
+        (Explanation { of: format!("query item {}", asked.item), heading, steps, bytes: None }, walked.readings.len())
     }
 
     /// What was read on the way to a leaf, up to the record that misses.
-    fn readings(&self, asked: &Asked, walked: &Walked, leaf: usize, accounted: bool) -> Vec<Step> {
+    fn readings(&self, asked: &Asked, walked: &Walked, leaf: usize, accounted: &dyn Fn(Field) -> bool) -> Vec<Step> {
         let way = way(asked.dump, walked, leaf);
         let met: Vec<String> = way.iter().filter(|r| r.miss().is_none()).map(|r| r.name()).collect();
         let mut steps = Vec::new();
@@ -50,14 +50,32 @@ impl Explainer<'_> {
             Some(reading) => steps.extend(self.missed(reading, leaf, accounted)),
             None if way.last().is_some_and(|r| r.name() == format!("node {leaf}")) => {
                 steps.push(Step::new(&[W7], format!("node {leaf}, its leaf, meets and hands out its positions")));
+                steps.extend(self.apart(asked, leaf));
             }
             None => steps.push(Step::new(&[R15], format!("node {leaf}, its leaf, lies in no range that was read"))),
         }
         steps
     }
 
+    /// Where a box does not meet the query and its leaf's record does: on the axis on which it does not, both.
+    fn apart(&self, asked: &Asked, leaf: usize) -> Option<Step> {
+        let v = self.trace.floats(asked.item);
+        let (min, max) = ([asked.min.x, asked.min.y, asked.min.z], [asked.max.x, asked.max.y, asked.max.z]);
+        let axis = (0..3).find(|&k| !(v[k] <= max[k] && min[k] <= v[k + 3]))?;
+        let (records, node) = (&asked.dump.records, asked.dump.records.node(leaf)?);
+        let stands = |value: i16| place(records.stands_for(axis, value));
+        let (low, high) = (stands(node.min[axis]), stands(node.max[axis]));
+        let (name, is) = (["x", "y", "z"][axis], format!("{}..{}", float(v[axis]), float(v[axis + 3])));
+        let whose = if node.item_count > 1 {
+            format!("the record of its {} boxes", node.item_count)
+        } else {
+            "its record".into()
+        };
+        Some(Step::new(&[T1, T2], format!("on {name} the box is {is}, and {whose} stands for {low}..{high}")))
+    }
+
     /// The record that misses, what it passes over, and where its value comes from.
-    fn missed(&self, reading: &Reading, leaf: usize, accounted: bool) -> Vec<Step> {
+    fn missed(&self, reading: &Reading, leaf: usize, accounted: &dyn Fn(Field) -> bool) -> Vec<Step> {
         let Some(miss) = reading.miss() else { return Vec::new() };
         let (corner, relation, side) =
             if miss.record_above { (Corner::Min, "above", "max") } else { (Corner::Max, "below", "min") };
@@ -67,14 +85,19 @@ impl Explainer<'_> {
         let over = match *reading {
             Reading::Tree { .. } => format!("its range is not read, node {leaf} with it"),
             Reading::Node { node, .. } if node == leaf => "it is the leaf, and hands out nothing".into(),
-            Reading::Node { passes, .. } => format!("{} passed over, node {leaf}, its leaf, among them", counted(passes, "node")),
+            Reading::Node { passes, .. } => {
+                format!("{} passed over, node {leaf}, its leaf, among them", counted(passes, "node"))
+            }
         };
         let mut steps = vec![Step::new(&[W2], text), Step::new(&[W3, W5], over)];
         let field = reading.field(corner, axis);
-        if accounted {
+        if accounted(field) {
             steps.extend(self.value_came(reading, corner, axis));
         } else {
-            steps.push(Step::new(&[], format!("{field} is not what the input gives: where {record} comes from is not explained")));
+            steps.push(Step::new(
+                &[],
+                format!("{field} is not what the input gives: where {record} comes from is not explained"),
+            ));
         }
         steps
     }
@@ -137,23 +160,15 @@ pub fn first_miss(dump: &Dump, walked: &Walked, leaf: usize) -> Option<Reading> 
     way(dump, walked, leaf).into_iter().find(|reading| reading.miss().is_some()).copied()
 }
 
-/// The leaf record that holds an item's position.
-pub fn leaf_of(asked: &Asked) -> Option<usize> {
-    let records = &asked.dump.records;
-    (0..records.node_count()).find(|&k| {
-        let Some(node) = records.node(k) else { return false };
-        let (first, count) = (node.item_id.max(0) as usize, node.item_count.max(0) as usize);
-        (first..first + count).any(|position| asked.dump.place(position) == Some(asked.item))
-    })
-}
-
 fn verdict(asked: &Asked, present: bool, meets: bool, handed: bool) -> String {
     let item = asked.item;
     match (present, meets, handed) {
         (false, ..) => format!("box {item} is absent ({T9}) and is not handed out"),
         (_, true, true) => format!("box {item} meets the query as floats ({W2}) and is handed out"),
         (_, true, false) => format!("box {item} meets the query as floats ({W2}) and is NOT handed out"),
-        (_, false, true) => format!("box {item} does not meet the query as floats ({W2}) and is handed out: its leaf's record meets"),
+        (_, false, true) => {
+            format!("box {item} does not meet the query as floats ({W2}) and is handed out: its leaf's record meets")
+        }
         (_, false, false) => format!("box {item} does not meet the query as floats ({W2}) and is not handed out"),
     }
 }

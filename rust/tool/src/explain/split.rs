@@ -26,7 +26,10 @@ impl Explainer<'_> {
         let heading = format!("the split at node {node}: {}", split_words(&split));
         let mut steps = self.path_steps(node);
         let average = split.average.map(float).join(", ");
-        steps.push(Step::new(&[T4, F13], format!("average of {n}: sum of min and max, item after item, * (0.5 / {n}): {average}")));
+        steps.push(Step::new(
+            &[T4, F13],
+            format!("average of {n}: sum of min and max, item after item, * (0.5 / {n}): {average}"),
+        ));
         let below = split.below.map(|count| count.to_string()).join(", ");
         let axis = AXES[split.axis];
         steps.push(Step::new(&[T3, T5, F1], format!("centres below it on x, y, z: {below}; nearest to {n}/2: {axis}")));
@@ -35,19 +38,24 @@ impl Explainer<'_> {
         let above = format!("centres above it on {axis}: {} of {n}{why}", split.above);
         steps.push(Step::new(&[T5, F1], above));
         if split.sorted {
-            steps.push(Step::new(&[T6, F2], "a group is empty: all sorted by min, then max, a NaN first, and cut at half"));
+            steps.push(Step::new(
+                &[T6, F2],
+                "a group is empty: all sorted by min, then max, a NaN first, and cut at half",
+            ));
         }
         steps.push(Step::new(&[], format!("group one: {}", some(&split.one))));
         steps.push(Step::new(&[], format!("group two: {}", some(&split.two))));
         steps.push(Step::new(&[T7], leads(&split)));
-        Some(Explanation { heading, steps, bytes: None })
+        Some(Explanation { of: format!("node {node} split"), heading, steps, bytes: None })
     }
 }
 
 fn leads(split: &Split) -> String {
     match split.two_leads() {
         true => format!("group two has more ({} > {}): it is the first child", split.two.len(), split.one.len()),
-        false => format!("group two has no more ({} <= {}): group one is the first child", split.two.len(), split.one.len()),
+        false => {
+            format!("group two has no more ({} <= {}): group one is the first child", split.two.len(), split.one.len())
+        }
     }
 }
 

@@ -61,7 +61,17 @@ impl<'a> Trace<'a> {
         let scales = std::array::from_fn(|axis| Scale::of(f32::from_bits(all[axis]), f32::from_bits(all[axis + 3])));
         let grown = grow::grow(items, threshold.max(1), &present);
         let ranges = ranges(&grown.nodes);
-        Trace { items, threshold, present, all, scales, nodes: grown.nodes, ranges, order: grown.order, leaves: grown.leaves }
+        Trace {
+            items,
+            threshold,
+            present,
+            all,
+            scales,
+            nodes: grown.nodes,
+            ranges,
+            order: grown.order,
+            leaves: grown.leaves,
+        }
     }
 
     /// From the root to a node, the node last.

@@ -25,10 +25,21 @@ pub struct Miss {
 /// A record that was read.
 #[derive(Clone, Copy, Debug, PartialEq, Eq)]
 pub enum Reading {
-    Tree { tree: usize, miss: Option<Miss> },
+    Tree {
+        tree: usize,
+        miss: Option<Miss>,
+    },
     /// Where a count-0 node misses, `passes` further nodes are not read; a leaf that meets hands out `hands` positions.
-    Node { node: usize, miss: Option<Miss>, passes: usize, hands: usize },
+    Node {
+        node: usize,
+        miss: Option<Miss>,
+        passes: usize,
+        hands: usize,
+    },
 }
+
+/// Damaged records can make a walk read more than there is room to tell; a build's are far below.
+const MOST_READINGS: usize = 1 << 20;
 
 /// All readings of a walk, and what was handed out.
 pub struct Walked {
@@ -67,6 +78,9 @@ pub fn walk(dump: &Dump, min: Vec3, max: Vec3) -> Walked {
     let mut walked = Walked { span, readings: Vec::new(), positions: Vec::new() };
     for tree in 0..dump.records.tree_count() {
         let Some(record) = dump.records.tree(tree) else { break };
+        if walked.readings.len() >= MOST_READINGS {
+            break;
+        }
         let miss = miss(record.min, record.max, &span);
         walked.readings.push(Reading::Tree { tree, miss });
         if miss.is_none() {
@@ -80,7 +94,7 @@ impl Walked {
     /// The nodes of a range (W5).
     fn range(&mut self, dump: &Dump, first: usize, last: usize) {
         let mut at = first;
-        while at < last {
+        while at < last && self.readings.len() < MOST_READINGS {
             let Some(node) = dump.records.node(at) else { return };
             let miss = miss(node.min, node.max, &self.span);
             let over = if node.item_count == 0 && miss.is_some() { (node.item_id.max(1)) as usize } else { 1 };

@@ -1,6 +1,8 @@
 //! Random lists, as hostile as floats allow, from a seed.
 #![allow(dead_code)] // each test takes what it needs
 
+pub mod command;
+
 use bounds::{BvhItem, Vec3};
 
 /// splitmix64.
@@ -26,8 +28,24 @@ impl Random {
 
 /// Words that floats go wrong on.
 const HARD: [u32; 18] = [
-    0, 0x8000_0000, 0x0000_0001, 0x807F_FFFF, 0x0080_0000, 0x3F80_0000, 0xBF80_0000, 0x4700_0000, 0x4B80_0000,
-    0x7180_0000, 0x7F7F_FFFF, 0xFF7F_FFFF, 0x7F80_0000, 0xFF80_0000, 0x7FC0_0000, 0xFFC0_0000, 0x7F80_0001, 0xFFA5_A5A5,
+    0,
+    0x8000_0000,
+    0x0000_0001,
+    0x807F_FFFF,
+    0x0080_0000,
+    0x3F80_0000,
+    0xBF80_0000,
+    0x4700_0000,
+    0x4B80_0000,
+    0x7180_0000,
+    0x7F7F_FFFF,
+    0xFF7F_FFFF,
+    0x7F80_0000,
+    0xFF80_0000,
+    0x7FC0_0000,
+    0xFFC0_0000,
+    0x7F80_0001,
+    0xFFA5_A5A5,
 ];
 
 /// How the values of a list are spread: small whole numbers with many ties, a street, one size whichever it is, every
