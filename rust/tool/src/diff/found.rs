@@ -1,4 +1,4 @@
-//! Which boxes a query at their own place finds, in a and in b.
+//! Which boxes a query at their own place finds, in a and in b. One that has moved is asked for where each has it.
 
 use super::Side;
 use crate::explain::query::first_miss;
@@ -6,7 +6,7 @@ use crate::field::{AXES, CORNERS};
 use crate::number::{float, place};
 use crate::rules::Rule::*;
 use crate::trace::walk::{walk, Reading};
-use bounds::{BvhItem, Vec3};
+use bounds::Vec3;
 
 /// What became of a box.
 #[derive(Clone, Copy, Debug, PartialEq, Eq)]
@@ -74,23 +74,24 @@ fn axis(sides: &[Side; 2]) -> usize {
     (0..3).find(scale).or((0..3).find(own)).unwrap_or(0)
 }
 
-/// The place at which a box is asked for: where a has it, or b where a's has a NaN.
-fn asked_at(sides: &[Side; 2], place: usize, there: [bool; 2]) -> (Vec3, Vec3) {
-    let item = |side: usize| sides[side].trace.items[place];
-    let whole = |item: &BvhItem| crate::boxes::words(item).iter().all(|&word| !f32::from_bits(word).is_nan());
-    let chosen = match there {
-        [true, true] if !whole(&item(0)) => item(1),
-        [true, _] => item(0),
-        _ => item(1),
-    };
-    (chosen.min, chosen.max)
+/// A box that a query can be made of.
+fn askable(side: &Side, place: usize) -> Option<(Vec3, Vec3)> {
+    let item = side.trace.items.get(place).filter(|item| item.present != 0)?;
+    let whole = crate::boxes::words(item).iter().all(|&word| !f32::from_bits(word).is_nan());
+    whole.then_some((item.min, item.max))
+}
+
+/// Where each side is asked for a box: at its own place; one with a NaN has none, and is asked for where the other has it.
+fn asked_at(sides: &[Side; 2], place: usize) -> [Option<(Vec3, Vec3)>; 2] {
+    let [a, b] = [askable(&sides[0], place), askable(&sides[1], place)];
+    [a.or(b), b.or(a)]
 }
 
 impl Asker<'_> {
     /// A box in both dumps, by the records of each.
     fn row(&self, place: usize, there: [bool; 2]) -> Row {
-        let (min, max) = asked_at(self.sides, place, there);
-        let places = [0, 1].map(|side: usize| handed(&self.sides[side], min, max));
+        let asked = asked_at(self.sides, place);
+        let places = [0, 1].map(|side: usize| handed(&self.sides[side], asked[side]));
         let verdict = verdict(there, [0, 1].map(|side: usize| places[side].as_ref().map(|all| all.contains(&place))));
         let leaves = [0, 1].map(|side: usize| self.leaves[side].get(place).copied().flatten());
         let mut row = Row {
@@ -104,8 +105,8 @@ impl Asker<'_> {
             why: String::new(),
         };
         row.why = match verdict {
-            Verdict::Found | Verdict::Gained => with_it(&self.sides[1], (min, max), place, &places[1]),
-            Verdict::Lost | Verdict::Missed => by_what(&self.sides[1], (min, max), leaves[1]),
+            Verdict::Found | Verdict::Gained => with_it(&self.sides[1], asked[1], place, &places[1]),
+            Verdict::Lost | Verdict::Missed => by_what(&self.sides[1], asked[1], leaves[1]),
             Verdict::OnlyIn(_) | Verdict::Refused(_) => String::new(),
         };
         if let Some(leaf) = leaves[1] {
@@ -115,8 +116,9 @@ impl Asker<'_> {
     }
 }
 
-/// The places that a walk hands out; none where it is refused.
-fn handed(side: &Side, min: Vec3, max: Vec3) -> Option<Vec<usize>> {
+/// The places that a walk hands out: none where it is refused, and nothing where nothing can be asked.
+fn handed(side: &Side, asked: Option<(Vec3, Vec3)>) -> Option<Vec<usize>> {
+    let Some((min, max)) = asked else { return Some(Vec::new()) };
     let found = side.dump.walk(min, max).ok()?;
     Some(found.positions.iter().filter_map(|&position| side.dump.place(position as usize)).collect())
 }
@@ -147,7 +149,8 @@ fn show_leaf(side: &Side, axis: usize, leaf: usize, at: usize, row: &mut Row) {
 }
 
 /// What is handed out with a box and does not meet the query.
-fn with_it(side: &Side, (min, max): (Vec3, Vec3), place: usize, handed: &Option<Vec<usize>>) -> String {
+fn with_it(side: &Side, asked: Option<(Vec3, Vec3)>, place: usize, handed: &Option<Vec<usize>>) -> String {
+    let Some((min, max)) = asked else { return String::new() };
     let stray =
         |&&other: &&usize| other != place && side.trace.items.get(other).is_some_and(|item| !item.meets(min, max));
     let with: Vec<usize> = handed.iter().flatten().filter(stray).copied().collect();
@@ -158,7 +161,8 @@ fn with_it(side: &Side, (min, max): (Vec3, Vec3), place: usize, handed: &Option<
 }
 
 /// The record on the way to a leaf that misses.
-fn by_what(side: &Side, (min, max): (Vec3, Vec3), leaf: Option<usize>) -> String {
+fn by_what(side: &Side, asked: Option<(Vec3, Vec3)>, leaf: Option<usize>) -> String {
+    let Some((min, max)) = asked else { return format!("a NaN meets no query ({W2})") };
     let Some(leaf) = leaf else { return "in no leaf".into() };
     let odd = odd_values(side, leaf);
     match first_miss(side.dump, &walk(side.dump, min, max), leaf) {

@@ -12,6 +12,7 @@ use crate::rules::Rule::*;
 use crate::trace::fold;
 use crate::trace::scale::Scale;
 use crate::trace::split::Split;
+use std::collections::BTreeSet;
 
 /// A fold over more boxes than this is told by its ends.
 const SHOWN: usize = 10;
@@ -128,9 +129,18 @@ fn split(sides: &[Side; 2], matching: &Matching, node: usize) -> Vec<String> {
     ));
     lines.push(format!("a: {}", groups(&a)));
     lines.push(format!("b: {}", groups(&b)));
+    lines.extend(changed_sides(&a, &b));
     lines.extend(sorted_below(&sides[0], 'a', node));
     lines.extend(sorted_below(&sides[1], 'b', twin));
     lines
+}
+
+/// Of long groups that differ by few boxes: those that went from one child to the other.
+fn changed_sides(a: &Split, b: &Split) -> Option<String> {
+    let firsts = [a, b].map(|split| split.clone().children()[0].iter().copied().collect::<BTreeSet<usize>>());
+    let moved: Vec<usize> = firsts[0].symmetric_difference(&firsts[1]).copied().collect();
+    let long = firsts[0].len() > SHOWN;
+    (long && moved.len() <= SHOWN).then(|| format!("on the other side in b: box {}", some(&moved)))
 }
 
 /// The children of a split that fell back to sorting: what a NaN does goes on below.

@@ -7,6 +7,9 @@ use super::{Picture, INK, MARGIN, RED, WIDTH};
 /// Boxes have their places written in them up to so many.
 const NAMED: usize = 60;
 
+/// Above so many boxes outlines are thin, lest they hide the colours.
+const MANY: usize = 1_000;
+
 const LEAST_HEIGHT: f64 = 120.0;
 const MOST_HEIGHT: f64 = 420.0;
 
@@ -95,7 +98,8 @@ impl Picture<'_> {
         let v = self.trace.floats(place).map(f64::from);
         let at = paper.rect((v[0], v[3]), (v[1], v[4]));
         let open = if v.iter().any(|x| x.is_nan()) { " stroke-dasharray=\"2 3\"" } else { "" };
-        svg.rect(at, &format!("fill=\"none\" stroke=\"{INK}\"{open}"));
+        let thin = if self.trace.present.len() > MANY { " stroke-width=\"0.25\"" } else { "" };
+        svg.rect(at, &format!("fill=\"none\" stroke=\"{INK}\"{thin}{open}"));
         if self.trace.present.len() <= NAMED {
             // A box that is open at one end has its place at the other.
             let share = if v[0].is_nan() { 0.9 } else { 0.5 };

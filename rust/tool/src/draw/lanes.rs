@@ -4,7 +4,7 @@ use super::axis::tick;
 use super::svg::{Rect, Svg};
 use super::{Bar, Picture, Query, GREY, INK, MARGIN, RED, ROW, WIDTH};
 use crate::field::AXES;
-use crate::number::some;
+use crate::number::{counted, some};
 
 impl Picture<'_> {
     /// Draws the rows from `top` on, and answers where they end.
@@ -51,7 +51,8 @@ impl Picture<'_> {
     fn label(&self, svg: &mut Svg, node: usize, y: f64) {
         let depth = self.trace.path(node).len() - 1;
         let got = self.trace.got(node);
-        let boxes = if got.len() > 5 { format!("{} boxes", got.len()) } else { format!("box {}", some(&got)) };
+        let named = some(&got);
+        let boxes = if got.is_empty() || named.len() > 14 { counted(got.len(), "box") } else { format!("box {named}") };
         let (colour, said) = match (self.query, self.read[node]) {
             (None, _) => (INK, ""),
             (_, Some(true)) => (INK, ", meets"),
