@@ -38,6 +38,11 @@ pub fn counted(n: usize, noun: &str) -> String {
     format!("{n} {noun}{}", if n == 1 { "" } else { plural })
 }
 
+/// A verb behind a count: `1 field differs`, `2 fields differ`.
+pub fn verb(n: usize, verb: &str) -> String {
+    format!("{verb}{}", if n == 1 { "s" } else { "" })
+}
+
 /// A list of numbers, the middle of a long one left out: `0,1,2 .. 97,98,99 (100)`.
 pub fn some<T: std::fmt::Display>(of: &[T]) -> String {
     const SHOWN: usize = 12;

@@ -37,8 +37,11 @@ fn every_rule_named_is_on_the_page() {
     }
 }
 
-/// The rows of a table of fields: ranges of bytes, and the rules of the last cell.
-fn rows(page: &str, heading: &str) -> Vec<(Vec<(usize, usize)>, BTreeSet<String>)> {
+/// A row of a table of fields: ranges of bytes, and the rules of the last cell.
+type Row = (Vec<(usize, usize)>, BTreeSet<String>);
+
+/// The rows of a table of fields.
+fn rows(page: &str, heading: &str) -> Vec<Row> {
     let from = page.find(heading).expect("the table");
     let table = page[from..].lines().skip_while(|line| !line.starts_with('|')).take_while(|line| line.starts_with('|'));
     let row = |line: &str| {

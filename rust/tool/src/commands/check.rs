@@ -5,7 +5,7 @@ use crate::cli::{Answer, Command, Line};
 use crate::failure::Failure;
 use crate::field::{AXES, CORNERS};
 use crate::json::Json;
-use crate::number::{both, counted};
+use crate::number::{both, counted, verb};
 use crate::rules::Rule::*;
 use crate::trace::Trace;
 use bounds::premises::{ordinary, Broken};
@@ -102,7 +102,7 @@ impl Checked {
         let at = self.where_it_stands.as_ref().map_or(String::new(), |at| format!(" ({at})"));
         let more = match self.breaking {
             0 => "none breaks them by itself; a query may miss items\n".to_string(),
-            n => format!("{} break them; a query may miss items\n", counted(n, "value")),
+            n => format!("{} {} them; a query may miss items\n", counted(n, "value"), verb(n, "break")),
         };
         format!("OUTSIDE the premises ({P4}): {broken}{at}\n{list}; {more}{cut}")
     }

@@ -20,8 +20,9 @@ const HELP: &str = "bounds diff A B [--json]
 
 The verdict in one line; what differs in the inputs; whether each is within the premises; the fields that differ, grouped
 by their first cause, with the values at each step in a and in b; fields of equal bytes that stand for different places;
-and of each box whether a query at its place finds it. Nodes are matched by their boxes, not by their numbers. A dump
-whose bytes are not what its input gives is named. Exit status 0 whether or not they differ.
+and of each box whether a query at its place finds it. Nodes are matched by their boxes, not by their numbers: a field of a
+node that has other boxes counts for the first split above it that differs, one of the same boxes for their own values or
+for the scale. A dump whose bytes are not what its input gives is named. Exit status 0 whether or not they differ.
 
 examples
   bounds diff yesterday today

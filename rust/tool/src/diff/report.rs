@@ -6,7 +6,7 @@ use crate::boxes::words;
 use crate::dump::Dump;
 use crate::field::{Field, AXES};
 use crate::json::Json;
-use crate::number::{both, counted};
+use crate::number::{both, counted, verb};
 use crate::rules::{self, Rule::*};
 use bounds::premises::Broken;
 
@@ -39,7 +39,7 @@ impl Comparison<'_> {
     fn verdict(&self) -> String {
         let fields = match self.fields.len() {
             0 => "no field differs".to_string(),
-            n => format!("{n} of {} fields {}", self.total, differ(n)),
+            n => format!("{n} of {} fields {}", self.total, verb(n, "differ")),
         };
         let Some(known) = &self.known else { return fields };
         let input = match &known.changes[..] {
@@ -58,7 +58,12 @@ impl Comparison<'_> {
         let shown: Vec<String> = self.fields.iter().take(4).map(|field| field.to_string()).collect();
         match n {
             0 => format!("records  all {} fields are the same\n", self.total),
-            _ => format!("records  {n} of {} fields {}, first {}; {end}\n", self.total, differ(n), shown.join(", ")),
+            _ => format!(
+                "records  {n} of {} fields {}, first {}; {end}\n",
+                self.total,
+                verb(n, "differ"),
+                shown.join(", ")
+            ),
         }
     }
 
@@ -97,17 +102,10 @@ impl Known<'_> {
             return "input    the same\n".into();
         }
         let only_words = self.changes.iter().all(|change| matches!(change, Change::Word { .. }));
-        let noun = if only_words { "word" } else { "difference" };
-        let verb = if only_words {
-            if n == 1 {
-                " differs"
-            } else {
-                " differ"
-            }
-        } else {
-            ""
+        let head = match only_words {
+            true => format!("{} {}", counted(n, "word"), verb(n, "differ")),
+            false => counted(n, "difference"),
         };
-        let head = format!("{}{verb}", counted(n, noun));
         let lines: Vec<String> = self.changes.iter().take(SHOWN).map(Change::to_string).collect();
         let more = if n > SHOWN { format!("\n         and {} more", n - SHOWN) } else { String::new() };
         format!("input    {head}: {}{more}\n", lines.join("\n         "))
@@ -200,14 +198,6 @@ impl Known<'_> {
             text += &format!("       and {} more\n", told.len() - ROWS_SHOWN);
         }
         text
-    }
-}
-
-fn differ(n: usize) -> &'static str {
-    if n == 1 {
-        "differs"
-    } else {
-        "differ"
     }
 }
 
