@@ -26,8 +26,8 @@ pub enum Cause {
     Split(usize),
     /// The boxes' own values, one of six, in a node that has the same boxes.
     Own(usize),
-    /// Positions and numbers that moved with the trees' shapes.
-    Moved,
+    /// None of these: said as such, and never met on random pairs.
+    Unknown,
 }
 
 /// A cause with the fields that it explains, and what there is to say of it.
@@ -101,7 +101,7 @@ impl Finder<'_> {
         if self.scale_differs(axis) {
             Cause::Scale(axis as usize)
         } else {
-            Cause::Moved
+            Cause::Unknown
         }
     }
 
@@ -125,7 +125,7 @@ impl Finder<'_> {
         if self.sides[0].dump.threshold != self.sides[1].dump.threshold {
             return Cause::Threshold;
         }
-        above.or(other).or(self.first_of_all).map_or(Cause::Moved, Cause::Split)
+        above.or(other).or(self.first_of_all).map_or(Cause::Unknown, Cause::Split)
     }
 }
 
@@ -139,7 +139,7 @@ impl Cause {
             Cause::Scale(_) => vec![T1, F3, T2],
             Cause::Split(_) => vec![T4, T5, T6, T7],
             Cause::Own(_) => vec![T1, F3],
-            Cause::Moved => vec![R10, R11],
+            Cause::Unknown => vec![],
         }
     }
 
@@ -152,7 +152,7 @@ impl Cause {
             Cause::Scale(axis) => format!("the box of all, axis {}", AXES[axis]),
             Cause::Split(node) => format!("the split at node {node}"),
             Cause::Own(value) => format!("the boxes' own {}", crate::explain::value_name(value)),
-            Cause::Moved => "numbers that moved".into(),
+            Cause::Unknown => "no cause is known".into(),
         }
     }
 }

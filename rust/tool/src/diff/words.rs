@@ -25,7 +25,7 @@ pub fn lines(sides: &[Side; 2], matching: &Matching, changes: &[Change], cause: 
         Cause::Scale(axis) => scale(sides, axis),
         Cause::Split(node) => split(sides, matching, node),
         Cause::Own(value) => own(sides, changes, value),
-        Cause::Moved => vec!["the same boxes at other numbers".into()],
+        Cause::Unknown => vec!["not explained".into()],
     }
 }
 

@@ -15,6 +15,9 @@ use bounds::BvhItem;
 use fold::Words;
 use scale::{Quantised, Scale};
 use split::Split;
+use std::cell::RefCell;
+use std::collections::HashMap;
+use std::rc::Rc;
 
 /// Most nodes of a range (R14).
 const RANGE_LIMIT: usize = 127;
@@ -51,7 +54,12 @@ pub struct Trace<'a> {
     pub order: Vec<usize>,
     /// The leaf that holds each place.
     pub leaves: Vec<Option<usize>>,
+    /// What some nodes got: who asks for a node asks for its neighbours next.
+    known: RefCell<HashMap<usize, Rc<Vec<usize>>>>,
 }
+
+/// So many lists are kept at a time.
+const KEPT: usize = 64;
 
 impl<'a> Trace<'a> {
     /// Follows the build of a list that the library built: the threshold is 1 at least.
@@ -71,6 +79,7 @@ impl<'a> Trace<'a> {
             ranges,
             order: grown.order,
             leaves: grown.leaves,
+            known: RefCell::default(),
         }
     }
 
@@ -81,18 +90,38 @@ impl<'a> Trace<'a> {
         path
     }
 
-    /// The places that a node got, in the order in which it got them.
-    pub fn got(&self, node: usize) -> Vec<usize> {
-        let path = self.path(node);
-        path.windows(2).fold(self.present.clone(), |got, step| {
-            let second = self.nodes[step[0]].children.is_some_and(|[_, second]| second == step[1]);
-            let [one, two] = split::split(self.items, &got).children();
-            if second {
-                two
-            } else {
-                one
+    /// The places that a node got, in the order in which it got them: by the splits from the nearest node above it of which
+    /// they are known.
+    pub fn got(&self, node: usize) -> Rc<Vec<usize>> {
+        let mut below = Vec::new();
+        let mut at = node;
+        let from = loop {
+            if let Some(known) = self.known.borrow().get(&at) {
+                break known.clone();
             }
-        })
+            let Some(parent) = self.nodes[at].parent else { break Rc::new(self.present.clone()) };
+            below.push((parent, at));
+            at = parent;
+        };
+        let got =
+            below.into_iter().rev().fold(from, |got, (parent, child)| Rc::new(self.child_of(&got, parent, child)));
+        let mut known = self.known.borrow_mut();
+        if known.len() >= KEPT {
+            known.clear();
+        }
+        known.insert(node, got.clone());
+        got
+    }
+
+    /// Of what a node got, what one of its children gets.
+    fn child_of(&self, got: &[usize], parent: usize, child: usize) -> Vec<usize> {
+        let second = self.nodes[parent].children.is_some_and(|[_, second]| second == child);
+        let [one, two] = split::split(self.items, got).children();
+        if second {
+            two
+        } else {
+            one
+        }
     }
 
     /// The split of an inner node.
