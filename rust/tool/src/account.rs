@@ -4,6 +4,7 @@ use crate::dump::{Dump, Records};
 use crate::failure::Failure;
 use crate::field::Field;
 use crate::number::counted;
+use crate::trace::Trace;
 use bounds::Tree;
 use std::collections::HashSet;
 
@@ -25,6 +26,19 @@ pub fn account(dump: &Dump) -> Result<Account, Failure> {
     }
     let differing = differing(&rebuilt, &dump.records);
     Ok(Account { set: differing.iter().copied().collect(), differing, rebuilt })
+}
+
+/// The build of a dump's input, step by step, which must come to the library's bytes in every field.
+pub fn traced<'a>(dump: &'a Dump, account: &Account) -> Result<Trace<'a>, Failure> {
+    let trace = Trace::of(&dump.input()?.items, dump.threshold as usize);
+    match Field::all(&account.rebuilt).into_iter().find(|&field| !trace.reaches(field, &account.rebuilt)) {
+        None => Ok(trace),
+        Some(field) => {
+            let words =
+                format!("{}: the trace does not reach the library's bytes at {field}; nothing is explained", dump.name);
+            Err(Failure::Refused(words))
+        }
+    }
 }
 
 /// The fields that two dumps do not share, or have different values in. Addresses are given, and may be any.

@@ -104,11 +104,15 @@ pub fn corner(word: &str) -> Result<Vec3, Failure> {
     Ok(Vec3::new(x, y, z))
 }
 
-/// Runs a command line and answers the exit status.
+/// Runs a command line and answers the exit status. A program that asked for JSON has a failure as JSON too.
 pub fn run(given: &[String]) -> Result<u8, Failure> {
-    let answer = respond(given)?;
-    output::answer(&answer.text)?;
-    Ok(answer.status)
+    let answer = respond(given);
+    match &answer {
+        Ok(answer) => output::answer(&answer.text)?,
+        Err(failure) if given.iter().any(|word| word == "--json") => output::answer(&failure.json())?,
+        Err(_) => (),
+    }
+    answer.map(|answer| answer.status)
 }
 
 fn respond(given: &[String]) -> Result<Answer, Failure> {

@@ -1,5 +1,6 @@
 //! What can go wrong, in words that say what to change, and the exit status that goes with it.
 
+use crate::json::Json;
 use bounds::walk::Refused;
 use bounds::Refusal;
 use std::{fmt, io};
@@ -24,6 +25,12 @@ impl Failure {
             Failure::Refused(_) => 1,
             Failure::Usage(_) | Failure::File(_) | Failure::Output(_) => 2,
         }
+    }
+
+    /// For programs: the words and the status.
+    pub fn json(&self) -> String {
+        let status = Json::Number(self.status() as i64);
+        format!("{}\n", Json::Object(vec![("error", self.to_string().into()), ("status", status)]))
     }
 
     /// A file that cannot be reached.

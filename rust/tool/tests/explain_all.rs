@@ -4,6 +4,7 @@ mod common;
 
 use bounds::Tree;
 use common::{length, list, Random, THRESHOLDS};
+use std::io::Write;
 use tool::boxes::{Boxes, Origin};
 use tool::dump::{Dump, Records};
 use tool::explain::query::Asked;
@@ -45,7 +46,8 @@ fn every_field_of_1000_random_builds() {
         met.builds += 1;
         met.thresholds.insert(threshold);
     }
-    println!("{met:#?}");
+    // Past the capture of tests, so that the count is seen.
+    let _ = writeln!(std::io::stderr(), "explain reaches the library's bytes: {met:?}");
     assert_eq!(met.thresholds.len(), 7, "{met:?}");
     for seen in [met.padding, met.wrapped, met.made_nan, met.sorted, met.outside] {
         assert!(seen > 100, "{met:?}");
@@ -120,6 +122,7 @@ fn every_item_of_random_queries() {
             missed += lost as usize;
         }
     }
-    println!("{asked} items asked about, {handed_out} handed out, {missed} missed outside the premises");
+    let counts = format!("{asked} items asked about, {handed_out} handed out, {missed} missed outside the premises");
+    let _ = writeln!(std::io::stderr(), "explain query ends as the library's walk: {counts}");
     assert!(asked > 4_000 && handed_out > 500 && missed > 10);
 }

@@ -91,12 +91,3 @@ fn help() {
     lines.extend(each.iter().map(String::as_str));
     logged("help", &lines);
 }
-
-/// The picture itself, apart from the log.
-#[test]
-fn a_picture_of_the_nan() {
-    let folder = Folder::with_inputs("picture");
-    let output = folder.run("draw b.bin --query 6,0,0 7,1,1");
-    assert!(output.status.success());
-    expect("nan.svg", &String::from_utf8_lossy(&output.stdout));
-}

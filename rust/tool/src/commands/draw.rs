@@ -1,13 +1,12 @@
 //! `bounds draw`: a dump as a picture.
 
-use crate::account::account;
+use crate::account::{account, traced};
 use crate::cli::{corner, Answer, Command, Line};
 use crate::draw::{Picture, Query};
 use crate::dump::Dump;
 use crate::failure::Failure;
 use crate::json::Json;
 use crate::output::write_file;
-use crate::trace::Trace;
 
 pub fn command() -> Command {
     Command {
@@ -34,7 +33,7 @@ examples
 fn run(line: &Line) -> Result<Answer, Failure> {
     let dump = Dump::load(&line.words[0], line.loading()?)?;
     let account = account(&dump)?;
-    let trace = Trace::of(&dump.input()?.items, dump.threshold as usize);
+    let trace = traced(&dump, &account)?;
     let query = match (line.option("--query"), line.option("--query-max")) {
         (Some(min), Some(max)) => Some(Query { min: corner(min)?, max: corner(max)? }),
         _ => None,

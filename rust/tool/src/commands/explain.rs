@@ -1,6 +1,6 @@
 //! `bounds explain`: the rules that made a field, or that handed an item out.
 
-use crate::account::{account, Account};
+use crate::account::{account, traced, Account};
 use crate::cli::{corner, Answer, Command, Line};
 use crate::dump::Dump;
 use crate::explain::query::Asked;
@@ -8,7 +8,6 @@ use crate::explain::{Explainer, Explanation};
 use crate::failure::Failure;
 use crate::field::Field;
 use crate::json::Json;
-use crate::trace::Trace;
 
 pub fn command() -> Command {
     Command {
@@ -40,7 +39,7 @@ fn run(line: &Line) -> Result<Answer, Failure> {
     let dump = Dump::load(&line.words[0], line.loading()?)?;
     let account = account(&dump)?;
     let boxes = dump.input()?;
-    let trace = Trace::of(&boxes.items, dump.threshold as usize);
+    let trace = traced(&dump, &account)?;
     let explainer = Explainer { boxes, trace: &trace, records: &account.rebuilt };
     let explanation = explanation(&dump, &account, &explainer, &line.words[1..])?;
     if line.json() {
@@ -58,7 +57,7 @@ fn explanation(dump: &Dump, account: &Account, with: &Explainer, words: &[String
     let plain: Vec<&str> = words.iter().map(String::as_str).collect();
     match plain[..] {
         ["query", min, max, "item", item] => query(dump, account, with, [min, max, item]),
-        ["node", node, "split"] => split(account, with, node),
+        ["node", node, "split"] => split(with, node),
         _ => {
             let field = Field::parse(words).ok_or_else(|| unknown(words))?;
             explained(dump, account, with, field)
@@ -73,7 +72,7 @@ fn unknown(words: &[String]) -> Failure {
     ))
 }
 
-/// A field, explained only where both the library and the trace make its bytes from the input.
+/// A field, explained only where its bytes are what the input gives.
 fn explained(dump: &Dump, account: &Account, with: &Explainer, field: Field) -> Result<Explanation, Failure> {
     let there = |records| field.raw(records).is_some();
     if !there(&dump.records) && !there(&account.rebuilt) {
@@ -83,20 +82,13 @@ fn explained(dump: &Dump, account: &Account, with: &Explainer, field: Field) -> 
         let words = account.difference(dump, field);
         return Err(Failure::Refused(format!("{}: {words}; what stands there is not explained", dump.name)));
     }
-    if !with.trace.reaches(field, &account.rebuilt) {
-        let words = format!("{field}: the trace does not reach the library's bytes; it is not explained");
-        return Err(Failure::Refused(words));
-    }
     Ok(with.field(field))
 }
 
-fn split(account: &Account, with: &Explainer, node: &str) -> Result<Explanation, Failure> {
+fn split(with: &Explainer, node: &str) -> Result<Explanation, Failure> {
     let nodes = with.trace.nodes.len();
     let node = node.parse().ok().filter(|&k: &usize| k < nodes);
     let node = node.ok_or_else(|| Failure::Usage(format!("expected a node's number below {nodes}")))?;
-    if account.rebuilt.node_count() != nodes {
-        return Err(Failure::Refused("the trace does not reach the library's tree; it is not explained".into()));
-    }
     with.split(node).ok_or_else(|| Failure::Usage(format!("node {node} is a leaf: it is not split")))
 }
 

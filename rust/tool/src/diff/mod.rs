@@ -8,7 +8,7 @@ mod matching;
 mod report;
 mod words;
 
-use crate::account::{account, differing, Account};
+use crate::account::{account, differing, traced, Account};
 use crate::dump::Dump;
 use crate::failure::Failure;
 use crate::field::{Field, InRecord, Value};
@@ -50,9 +50,9 @@ pub struct Known<'a> {
 
 impl<'a> Side<'a> {
     fn of(dump: &'a Dump) -> Result<Side<'a>, Failure> {
-        let items = &dump.input()?.items;
-        let trace = Trace::of(items, dump.threshold as usize);
-        Ok(Side { dump, account: account(dump)?, trace, broken: ordinary(items).err() })
+        let account = account(dump)?;
+        let trace = traced(dump, &account)?;
+        Ok(Side { dump, broken: ordinary(trace.items).err(), account, trace })
     }
 }
 

@@ -28,9 +28,13 @@ impl Explainer<'_> {
         let handed = walked.positions.iter().filter_map(place).any(|place| place == asked.item);
         let meets = self.trace.items[asked.item].meets(asked.min, asked.max);
         let mut steps = vec![Step::new(&[W1, F9], format!("the query in records: {}", span_words(&walked.span)))];
-        match asked.dump.leaves()[asked.item] {
+        let leaf = asked.dump.leaves()[asked.item];
+        match leaf {
             None => steps.push(Step::new(&[T9, R16], format!("no leaf of the records holds box {}", asked.item))),
             Some(leaf) => steps.extend(self.readings(asked, &walked, leaf, accounted)),
+        }
+        if let Some(leaf) = leaf {
+            steps.extend(beside(asked.dump, &walked, leaf));
         }
         let (reads, out) = (counted(walked.readings.len(), "record"), counted(walked.positions.len(), "position"));
         steps.push(Step::new(&[W3, W5, W7], format!("in all {reads} read, {out} handed out")));
@@ -153,6 +157,16 @@ fn way<'w>(dump: &Dump, walked: &'w Walked, leaf: usize) -> Vec<&'w Reading> {
         Reading::Node { node, .. } => above.nodes.contains(&node),
     };
     walked.readings.iter().filter(on_it).collect()
+}
+
+/// What was read besides: records on no way to the leaf.
+fn beside(dump: &Dump, walked: &Walked, leaf: usize) -> Option<Step> {
+    let way = way(dump, walked, leaf);
+    let other = walked.readings.iter().filter(|reading| !way.contains(reading));
+    let told =
+        |reading: &Reading| format!("{} {}", reading.name(), if reading.miss().is_none() { "meets" } else { "misses" });
+    let told: Vec<String> = other.map(told).collect();
+    (!told.is_empty()).then(|| Step::new(&[W5], format!("besides: {}", shortened(&told))))
 }
 
 /// The record on the way to a leaf that misses.
