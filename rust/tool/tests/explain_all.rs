@@ -2,7 +2,7 @@
 
 mod common;
 
-use bounds::Tree;
+use bounds::{BvhItem, Tree};
 use common::{length, list, Random, THRESHOLDS};
 use std::io::Write;
 use tool::boxes::{Boxes, Origin};
@@ -35,9 +35,13 @@ fn every_field_of_1000_random_builds() {
     let mut random = Random(2026);
     let mut met = Met::default();
     while met.builds < BUILDS {
-        let n = length(&mut random);
-        let threshold = random.pick(&THRESHOLDS);
-        let items = list(&mut random, n);
+        let (items, threshold) = match met.builds {
+            edge @ 0..12 => about_a_ranges_limit(&mut random, 58 + edge),
+            _ => {
+                let n = length(&mut random);
+                (list(&mut random, n), random.pick(&THRESHOLDS))
+            }
+        };
         let tree = Tree::build(&items, threshold).expect("within the limits");
         let records = Records::of(&tree);
         met.outside += tree.premises().is_err() as usize;
@@ -53,6 +57,13 @@ fn every_field_of_1000_random_builds() {
         assert!(seen > 100, "{met:?}");
     }
     assert!(met.fields > 150_000 && met.ranges > 10 && met.empty > 10, "{met:?}");
+}
+
+/// 64 boxes at threshold 1 have 127 nodes, the most of a range.
+fn about_a_ranges_limit(random: &mut Random, n: usize) -> (Vec<BvhItem>, u32) {
+    let mut items = list(random, n);
+    items.iter_mut().for_each(|item| item.present = 1);
+    (items, 1)
 }
 
 fn each_field(boxes: &Boxes, threshold: u32, records: &Records, met: &mut Met) {

@@ -26,6 +26,8 @@ pub enum Cause {
     Split(usize),
     /// The boxes' own values, one of six, in a node that has the same boxes.
     Own(usize),
+    /// The same boxes in the same leaves, in another order.
+    Order,
     /// None of these: said as such, and never met on random pairs.
     Unknown,
 }
@@ -77,7 +79,10 @@ impl Finder<'_> {
                     _ => self.shape(0),
                 }
             }
-            Field::Order(k) => self.shape(self.leaf_at(k)),
+            Field::Order(k) => match self.shape(self.leaf_at(k)) {
+                Cause::Unknown => Cause::Order,
+                other => other,
+            },
         }
     }
 
@@ -139,6 +144,7 @@ impl Cause {
             Cause::Scale(_) => vec![T1, F3, T2],
             Cause::Split(_) => vec![T4, T5, T6, T7],
             Cause::Own(_) => vec![T1, F3],
+            Cause::Order => vec![T6, F2, R13],
             Cause::Unknown => vec![],
         }
     }
@@ -152,6 +158,7 @@ impl Cause {
             Cause::Scale(axis) => format!("the box of all, axis {}", AXES[axis]),
             Cause::Split(node) => format!("the split at node {node}"),
             Cause::Own(value) => format!("the boxes' own {}", crate::explain::value_name(value)),
+            Cause::Order => "the same boxes of a leaf in another order".into(),
             Cause::Unknown => "no cause is known".into(),
         }
     }

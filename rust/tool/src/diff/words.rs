@@ -25,6 +25,7 @@ pub fn lines(sides: &[Side; 2], matching: &Matching, changes: &[Change], cause: 
         Cause::Scale(axis) => scale(sides, axis),
         Cause::Split(node) => split(sides, matching, node),
         Cause::Own(value) => own(sides, changes, value),
+        Cause::Order => order(sides),
         Cause::Unknown => vec!["not explained".into()],
     }
 }
@@ -158,6 +159,16 @@ fn groups(split: &Split) -> String {
     let how =
         if split.sorted { format!("   none above: sorted, a NaN first, and cut ({T6}, {F2})") } else { String::new() };
     format!("{} | {}{how}", some(&first), some(&second))
+}
+
+/// The first leaf whose boxes a sort above it put in another order.
+fn order(sides: &[Side; 2]) -> Vec<String> {
+    let [a, b] = [&sides[0].trace, &sides[1].trace];
+    let at =
+        a.order.iter().zip(&b.order).find(|(one, two)| one != two).map(|(&one, &two)| (a.leaves[one], b.leaves[two]));
+    let Some((Some(leaf), Some(twin))) = at else { return Vec::new() };
+    let (one, two) = (some(&a.got(leaf)), some(&b.got(twin)));
+    vec![format!("node {leaf} has {one} in a and {two} in b: a sort above it compares the values that changed")]
 }
 
 /// Boxes whose own value changed.

@@ -13,14 +13,18 @@ pub const START: Words = {
     [least, least, least, most, most, most]
 };
 
-/// Rule F3 on words: a where a < b (for the least) or a > b (for the greatest), else b.
-pub fn pick(corner: Corner, a: u32, b: u32) -> u32 {
+/// Rule F3: whether a is kept, being less (of minima) or greater (of maxima) than b.
+fn keeps(corner: Corner, a: u32, b: u32) -> bool {
     let (x, y) = (f32::from_bits(a), f32::from_bits(b));
-    let keeps = match corner {
+    match corner {
         Corner::Min => x < y,
         Corner::Max => x > y,
-    };
-    if keeps {
+    }
+}
+
+/// Rule F3 on words: a where it is kept, else b.
+pub fn pick(corner: Corner, a: u32, b: u32) -> u32 {
+    if keeps(corner, a, b) {
         a
     } else {
         b
@@ -61,17 +65,9 @@ pub fn winner(items: &[BvhItem], places: &[usize], value: usize) -> Option<usize
     let mut won = None;
     for (at, &place) in places.iter().enumerate() {
         let next = words(&items[place])[value];
-        let picked = pick(corner_of(value), sum, next);
-        // A tie keeps the second, so that equal words are the later item's.
-        let (x, y) = (f32::from_bits(sum), f32::from_bits(next));
-        let first_kept = match corner_of(value) {
-            Corner::Min => x < y,
-            Corner::Max => x > y,
-        };
-        if !first_kept {
-            won = Some(at);
+        if !keeps(corner_of(value), sum, next) {
+            (sum, won) = (next, Some(at)); // a tie is the later item's
         }
-        sum = picked;
     }
     won
 }

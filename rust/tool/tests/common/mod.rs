@@ -49,7 +49,7 @@ const HARD: [u32; 18] = [
 ];
 
 /// How the values of a list are spread: small whole numbers with many ties, a street, one size whichever it is, every
-/// pattern, hard words.
+/// pattern, hard words, zeros of both signs, and one value throughout, which leaves all to the sort.
 #[derive(Clone, Copy)]
 pub enum Spread {
     Small,
@@ -57,6 +57,8 @@ pub enum Spread {
     Scaled(u32),
     Any,
     Hard,
+    Zeros,
+    Same(f32),
 }
 
 fn value(random: &mut Random, spread: Spread) -> f32 {
@@ -66,13 +68,17 @@ fn value(random: &mut Random, spread: Spread) -> f32 {
         Spread::Scaled(exponent) => f32::from_bits(random.next() as u32 & 0x807F_FFFF | exponent << 23),
         Spread::Any => f32::from_bits(random.next() as u32),
         Spread::Hard => f32::from_bits(random.pick(&HARD)),
+        Spread::Zeros => random.pick(&[0.0, -0.0, 0.0, -0.0, 1.0]),
+        Spread::Same(value) => value,
     }
 }
 
 /// A list of `n` entries; `tame` ones have min at most max and no NaN.
 pub fn list(random: &mut Random, n: usize) -> Vec<BvhItem> {
     let scaled = Spread::Scaled(random.below(254) as u32);
-    let spread = random.pick(&[Spread::Small, Spread::Street, Spread::Street, scaled, Spread::Any, Spread::Hard]);
+    let same = Spread::Same(random.below(9) as f32 - 4.0);
+    let others = [Spread::Any, Spread::Hard, Spread::Zeros, same];
+    let spread = random.pick(&[[Spread::Small, Spread::Street, Spread::Street, scaled], others].concat());
     let (turned, odd) = (random.below(3) == 0, random.below(3) == 0);
     let absent = random.pick(&[usize::MAX, usize::MAX, 5, 2]);
     let mut one = |_| {
@@ -98,7 +104,7 @@ pub fn length(random: &mut Random) -> usize {
     match random.below(40) {
         0 => 60 + random.below(12),
         1 => 128 + random.below(60),
-        2..=9 => 16 + random.below(20),
+        2..=9 => 16 + random.below(48),
         _ => random.below(14),
     }
 }
