@@ -20,20 +20,8 @@
 //! ```
 
 use crate::ffi::{self, Words3};
+pub use crate::types::BvhItem;
 use crate::{Refusal, Vec3};
-
-/// An entry of the list: a mark and the box of an item, which is known by its place in the list. Any floats will do.
-///
-/// It is lent to the library as it lies in memory, as `bounds_item` of the C interface: seven words.
-#[derive(Clone, Copy, Debug, Default, PartialEq)]
-#[allow(missing_docs)]
-#[repr(C)]
-pub struct BvhItem {
-    /// Any number but 0 where the entry is present.
-    pub present: u32,
-    pub min: Vec3,
-    pub max: Vec3,
-}
 
 impl BvhItem {
     /// An entry that is not there; what its box is does not matter.
@@ -43,6 +31,22 @@ impl BvhItem {
     /// A present entry with this box.
     pub fn new(min: Vec3, max: Vec3) -> BvhItem {
         BvhItem { present: 1, min, max }
+    }
+
+    /// Whether its box and the box from `min` to `max` meet: on each axis each least value is at most the other's greatest.
+    /// They do where they touch, and never where a NaN stands.
+    ///
+    /// ```
+    /// # use bounds::{BvhItem, Vec3};
+    /// let unit = BvhItem::new(Vec3::ZERO, Vec3::new(1.0, 1.0, 1.0));
+    /// assert!(unit.meets(Vec3::new(1.0, 0.0, 0.0), Vec3::new(2.0, 0.0, 0.0)));
+    /// assert!(!unit.meets(Vec3::new(1.5, 0.0, 0.0), Vec3::new(2.0, 0.0, 0.0)));
+    /// ```
+    pub fn meets(&self, min: Vec3, max: Vec3) -> bool {
+        let on = |low: f32, high: f32, least: f32, greatest: f32| low <= greatest && least <= high;
+        on(self.min.x, self.max.x, min.x, max.x)
+            && on(self.min.y, self.max.y, min.y, max.y)
+            && on(self.min.z, self.max.z, min.z, max.z)
     }
 }
 

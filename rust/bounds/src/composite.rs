@@ -21,6 +21,7 @@
 //! ```
 
 use crate::bvh::{built, cut, records_len, work_len, BuiltTree, ENTRIES};
+pub use crate::types::Child;
 use crate::{ffi, Mat4, Refusal, Vec3};
 
 /// Bytes of a child's box.
@@ -28,27 +29,6 @@ pub const CHILD_BOX: usize = 32;
 
 /// A composite of more children than these has a tree.
 pub const WITHOUT_TREE: usize = 5;
-
-/// A child of a composite: a mark, its box, margin and transform. Any floats will do.
-///
-/// It is lent to the library as it lies in memory: 24 words.
-///
-/// ```
-/// # use bounds::{Child, Mat4, Vec3};
-/// let child = Child::new(Vec3::ZERO, Vec3::new(1.0, 1.0, 1.0), 0.04, Mat4::identity());
-/// assert!(child.present != 0 && Child::ABSENT.present == 0);
-/// ```
-#[derive(Clone, Copy, Debug, PartialEq)]
-#[allow(missing_docs)]
-#[repr(C)]
-pub struct Child {
-    /// Any number but 0 where the child is present.
-    pub present: u32,
-    pub box_min: Vec3,
-    pub box_max: Vec3,
-    pub margin: f32,
-    pub transform: Mat4,
-}
 
 impl Child {
     /// A child that is not there; what else it holds does not matter.

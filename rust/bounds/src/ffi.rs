@@ -6,12 +6,7 @@
 //! every argument that its C signature admits.
 #![allow(unsafe_code)]
 
-use crate::bvh::BvhItem;
-use crate::composite::Child;
-use crate::geometry::{BoundMaterial, BoundVertex};
-use crate::math::{Mat4, Vec3, Vec4};
-use crate::shrink::ShrinkBound;
-use crate::walk::Records;
+use crate::types::{BoundMaterial, BoundVertex, BvhItem, Child, Mat4, Records, ShrinkBound, Vec3, Vec4};
 
 /// `bounds_aabb`.
 #[derive(Clone, Copy)]

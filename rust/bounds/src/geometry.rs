@@ -14,6 +14,7 @@
 
 use crate::bvh::parts;
 use crate::ffi::{self, PolygonC};
+pub use crate::types::{BoundMaterial, BoundVertex};
 use crate::{BvhItem, Refusal, Vec3};
 
 /// Bytes of a polygon's record.
@@ -202,15 +203,6 @@ fn cut(work: &mut [u32], polygons: usize) -> [&mut [u32]; 5] {
     parts(work, [part, part, part, part, usize::MAX])
 }
 
-/// A material of a geometry.
-#[derive(Clone, Copy, PartialEq, Eq, Hash, Default, Debug)]
-#[repr(C)]
-#[allow(missing_docs)]
-pub struct BoundMaterial {
-    pub data1: u32,
-    pub data2: u32,
-}
-
 /// Lists the materials that polygons use, each once, by first appearance, eight bytes each, and each polygon's index
 /// among them; answers how many there are. `numbers` has the number of each polygon's material; one that is not given
 /// stands for (0, 0). What lies behind the written bytes stays as it was.
@@ -238,11 +230,6 @@ pub fn build_materials(
     Refusal::check(answer.refusal)?;
     Ok(answer.count)
 }
-
-/// A vertex in units of its geometry's quantum.
-#[derive(Clone, Copy, PartialEq, Eq, Debug)]
-#[repr(C)]
-pub struct BoundVertex(pub i16, pub i16, pub i16);
 
 impl BoundVertex {
     /// On each axis the point by the quantum: NaN to 0, clamped to 32,767 either way, truncated.

@@ -5,7 +5,8 @@
 //!
 //! - [`float`]: one float step each, on values and on words (a float's 32 bits).
 //! - [`math`]: points, boxes and transforms.
-//! - [`bvh`]: the tree over a list of boxes, and its header.
+//! - [`tree`]: a tree with its boxes and records, to be queried: the form to begin with.
+//! - [`bvh`]: the tree over a list of boxes, and its header, in lent buffers.
 //! - [`composite`]: a composite's children, their boxes and the tree over them.
 //! - [`geometry`]: polygons, their links and materials, stored vertices.
 //! - [`octants`]: the vertices of a geometry that no other one shadows, in eight directions.
@@ -26,6 +27,8 @@ pub mod octants;
 pub mod premises;
 pub mod refusal;
 pub mod shrink;
+pub mod tree;
+mod types;
 pub mod walk;
 
 pub use bvh::{build_bvh, tree_header, BuiltTree, Bvh, BvhItem};
@@ -36,3 +39,4 @@ pub use octants::{calculate_octants, Octants};
 pub use premises::ordinary;
 pub use refusal::Refusal;
 pub use shrink::{calculate_verts_shrunk, ShrinkBound, Shrunk, ShrunkBy};
+pub use tree::{BvhNode, BvhTree, Tree};

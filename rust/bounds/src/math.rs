@@ -1,34 +1,9 @@
 //! Points, boxes and transforms.
 
 use crate::ffi::{self, Aabb, Words3};
+pub use crate::types::{Mat4, Vec3, Vec4};
 use std::cmp::Ordering;
 use std::ops::{Add, Mul, Neg, Sub};
-
-/// A point or a direction.
-#[derive(Clone, Copy, Debug, Default, PartialEq)]
-#[repr(C)]
-#[allow(missing_docs)]
-pub struct Vec3 {
-    pub x: f32,
-    pub y: f32,
-    pub z: f32,
-}
-
-/// A point with its fourth coordinate.
-#[derive(Clone, Copy, Debug, Default, PartialEq)]
-#[repr(C)]
-#[allow(missing_docs)]
-pub struct Vec4 {
-    pub x: f32,
-    pub y: f32,
-    pub z: f32,
-    pub w: f32,
-}
-
-/// A transform, row by row: a point goes through as `p * M`, and the translation is the fourth row.
-#[derive(Clone, Copy, Debug, PartialEq)]
-#[repr(C)]
-pub struct Mat4(pub [f32; 16]);
 
 impl Vec3 {
     /// The origin.

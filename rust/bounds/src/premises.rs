@@ -35,6 +35,7 @@ pub enum Corner {
 
 /// What breaks the premises first.
 #[derive(Clone, Copy, Debug, PartialEq, Eq, Hash)]
+#[non_exhaustive]
 pub enum Broken {
     /// This coordinate of the entry at the place is a NaN, infinite, or above 2^100 in size.
     #[allow(missing_docs)]

@@ -4,6 +4,7 @@ use std::fmt;
 
 /// Why an operation was refused; the number is the one that the C interface returns.
 #[derive(Clone, Copy, Debug, PartialEq, Eq, Hash)]
+#[non_exhaustive]
 #[repr(u8)]
 pub enum Refusal {
     /// A list is over its limit.
@@ -96,7 +97,9 @@ impl Refusal {
     /// What was refused, and what to change.
     fn words(self) -> &'static str {
         match self {
-            Refusal::ListTooLong => "a list is over its limit; split it",
+            Refusal::ListTooLong => {
+                "a list is over its limit (32,767 boxes or polygons, 32,768 vertices, 256 materials); split it"
+            }
             Refusal::BufferTooShort => "a lent buffer is too short; lend the size that the operation names",
             Refusal::Threshold => "the threshold is outside 1 to 32,767; choose one within",
             Refusal::TooManyNodes => "the tree would have over 32,767 nodes; give fewer boxes or a higher threshold",
@@ -104,9 +107,13 @@ impl Refusal {
             Refusal::UnknownKind => "the kind is unknown; see the operation for those that are known",
             Refusal::InfiniteMargin => "the starting margin is infinite; give a finite margin or a finite box",
             Refusal::TooManyMaterials => "too many different materials are used; merge some",
-            Refusal::TreeRange => "a tree record's nodes are out of range; the records are damaged",
-            Refusal::NodeRecord => "a node record leads out of its tree or list; the records are damaged",
-            Refusal::TooManyHandedOut => "more items would be handed out than there are; the records are damaged",
+            Refusal::TreeRange => "a tree record's nodes are out of range; the records are damaged, build them anew",
+            Refusal::NodeRecord => {
+                "a node record leads out of its tree or list; the records are damaged, build them anew"
+            }
+            Refusal::TooManyHandedOut => {
+                "more items would be handed out than there are; the records are damaged, build them anew"
+            }
             Refusal::Address => "the bytes would pass the last address; place them lower",
             Refusal::RaggedInput => "the input ends inside a record; its length must be a multiple of 32",
             Refusal::Unknown => "the library's refusal is not known here; build both from one version",

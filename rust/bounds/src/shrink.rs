@@ -23,23 +23,10 @@ use crate::geometry::RECORD;
 use crate::octants::VERTICES;
 use crate::{ffi, Mat4, Refusal, Vec3};
 
+pub use crate::types::ShrinkBound;
+
 /// Most polygons.
 pub const POLYGONS: usize = 32_767;
-
-/// What shrinking reads of a geometry beside its vertices and polygons. Any floats will do.
-///
-/// It is given to the library as it lies in memory, as `bounds_geometry` of the C interface: 26 floats.
-#[derive(Clone, Copy, Debug, PartialEq)]
-#[allow(missing_docs)]
-#[repr(C)]
-pub struct ShrinkBound {
-    pub box_min: Vec3,
-    pub box_max: Vec3,
-    /// Added to the vertices where they meet the box and the transform.
-    pub center_geom: Vec3,
-    pub margin: f32,
-    pub transform: Mat4,
-}
 
 impl ShrinkBound {
     /// Of this box and margin, without a centre of its own and with the identity as transform.

@@ -17,23 +17,9 @@
 //! ```
 
 use crate::ffi;
+pub use crate::types::Records;
 use crate::{Refusal, Vec3};
 use std::fmt;
-
-/// The records that are walked over. Any bytes will do: damaged ones are refused where they are read.
-#[derive(Clone, Copy, Debug)]
-pub struct Records<'a> {
-    /// Node records, 16 bytes each, in preorder.
-    pub node_bytes: &'a [u8],
-    /// Nodes, without the padding.
-    pub nodes_count: usize,
-    /// Tree records, 16 bytes each.
-    pub tree_bytes: &'a [u8],
-    /// Trees.
-    pub trees_count: usize,
-    /// Positions that leaves may name: the entries of the list at threshold 1, else the present items.
-    pub items_count: usize,
-}
 
 /// What a walk came to.
 #[derive(Clone, Copy, Debug, Default, PartialEq, Eq)]

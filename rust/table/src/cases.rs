@@ -15,9 +15,8 @@ pub const WORDS: [u32; 40] = [
 ];
 
 /// For `wrap_i16`.
-pub const INTEGERS: [i32; 14] = [
-    0, 1, -1, 32767, 32768, -32767, -32768, -32769, 40000, 65535, 65536, -65537, i32::MAX, i32::MIN,
-];
+pub const INTEGERS: [i32; 14] =
+    [0, 1, -1, 32767, 32768, -32767, -32768, -32769, 40000, 65535, 65536, -65537, i32::MAX, i32::MIN];
 
 /// For `of_count`.
 pub const COUNTS: [u16; 7] = [0, 1, 3, 255, 256, 32767, 65535];
@@ -46,9 +45,8 @@ pub const POINTS: [[u32; 3]; 20] = [
 ];
 
 /// What points are scaled by, and what is added to them.
-pub const FACTORS: [u32; 8] = [
-    0x00000000, 0x80000000, 0x3f000000, 0xbf800000, 0x7fc00000, 0x7f800000, 0x3eaaaaab, 0x7f7fffff,
-];
+pub const FACTORS: [u32; 8] =
+    [0x00000000, 0x80000000, 0x3f000000, 0xbf800000, 0x7fc00000, 0x7f800000, 0x3eaaaaab, 0x7f7fffff];
 
 /// Two corners each.
 pub const BOXES: [[u32; 6]; 11] = [

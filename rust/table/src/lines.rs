@@ -30,7 +30,9 @@ fn line(number: usize, words: &[u32]) -> String {
 }
 
 /// How many wrong lines an operation gets: not the same for all, so that a count at another's place is seen.
-fn wrong_lines(number: usize) -> usize { number % 4 + 1 }
+fn wrong_lines(number: usize) -> usize {
+    number % 4 + 1
+}
 
 /// Lines that no operation has.
 const BAD: [&str; 16] = [
@@ -61,7 +63,9 @@ pub fn print(out: &mut impl Write) -> io::Result<()> {
         }
     }
     for op in &operations {
-        for (k, case) in hard(op).iter().filter(|case| !is_open(op.number, case)).take(wrong_lines(op.number)).enumerate() {
+        for (k, case) in
+            hard(op).iter().filter(|case| !is_open(op.number, case)).take(wrong_lines(op.number)).enumerate()
+        {
             let mut answer = (op.answer)(case);
             let at = answer.len() - 1 - k % answer.len();
             answer[at] ^= 1 << (7 * k);

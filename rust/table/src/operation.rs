@@ -5,23 +5,39 @@ use std::cmp::Ordering;
 use std::hint::black_box;
 
 /// The float of a word. The compiler is not shown it, so that each step is taken by the machine.
-fn value(word: u32) -> f32 { f32::from_bits(black_box(word)) }
+fn value(word: u32) -> f32 {
+    f32::from_bits(black_box(word))
+}
 
 /// The word of a float that was computed: every NaN that arithmetic made is written as one.
 fn made(x: f32) -> u32 {
-    if x.is_nan() { 0x7fc00000 } else { x.to_bits() }
+    if x.is_nan() {
+        0x7fc00000
+    } else {
+        x.to_bits()
+    }
 }
 
-fn point(w: &[u32]) -> Vec3 { Vec3(value(w[0]), value(w[1]), value(w[2])) }
+fn point(w: &[u32]) -> Vec3 {
+    Vec3(value(w[0]), value(w[1]), value(w[2]))
+}
 
-fn matrix(w: &[u32]) -> Mat4 { Mat4(std::array::from_fn(|i| value(w[i]))) }
+fn matrix(w: &[u32]) -> Mat4 {
+    Mat4(std::array::from_fn(|i| value(w[i])))
+}
 
-fn made3(v: Vec3) -> Vec<u32> { vec![made(v.0), made(v.1), made(v.2)] }
+fn made3(v: Vec3) -> Vec<u32> {
+    vec![made(v.0), made(v.1), made(v.2)]
+}
 
 /// 0 less, 1 equal, 2 greater.
-fn order(o: Ordering) -> u32 { (o as i32 + 1) as u32 }
+fn order(o: Ordering) -> u32 {
+    (o as i32 + 1) as u32
+}
 
-fn both(w: &[u32]) -> (f32, f32) { (value(w[0]), value(w[1])) }
+fn both(w: &[u32]) -> (f32, f32) {
+    (value(w[0]), value(w[1]))
+}
 
 pub struct Operation {
     pub number: usize,
@@ -30,7 +46,9 @@ pub struct Operation {
     pub answer: fn(&[u32]) -> Vec<u32>,
 }
 
-fn op(number: usize, inputs: usize, answer: fn(&[u32]) -> Vec<u32>) -> Operation { Operation { number, inputs, answer } }
+fn op(number: usize, inputs: usize, answer: fn(&[u32]) -> Vec<u32>) -> Operation {
+    Operation { number, inputs, answer }
+}
 
 /// 0 for a NaN, else 2^31 and the magnitude's bits above or below it.
 fn order_key(word: u32) -> u32 {

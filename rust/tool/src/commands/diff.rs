@@ -1,0 +1,37 @@
+//! `bounds diff`: two dumps, from the first word that differs to the boxes that are lost.
+
+use crate::cli::{Answer, Command, Line};
+use crate::diff::compare;
+use crate::dump::Dump;
+use crate::failure::Failure;
+
+pub fn command() -> Command {
+    Command {
+        name: "diff",
+        does: "says how two dumps differ, and by which first causes",
+        options: &["--threshold", "--text", "--records"],
+        words: (2, 2),
+        run,
+        help: HELP,
+    }
+}
+
+const HELP: &str = "bounds diff A B [--json]
+
+The verdict in one line; what differs in the inputs; whether each is within the premises; the fields that differ, grouped
+by their first cause, with the values at each step in a and in b; fields of equal bytes that stand for different places;
+and of each box whether a query at its place finds it. Nodes are matched by their boxes, not by their numbers: a field of a
+node that has other boxes counts for the first split above it that differs, one of the same boxes for their own values or
+for the scale. A dump whose bytes are not what its input gives is named. Exit status 0 whether or not they differ.
+
+examples
+  bounds diff yesterday today
+  bounds diff a.bin b.bin
+";
+
+fn run(line: &Line) -> Result<Answer, Failure> {
+    let a = Dump::load(&line.words[0], line.loading()?)?;
+    let b = Dump::load(&line.words[1], line.loading()?)?;
+    let comparison = compare(&a, &b)?;
+    Ok(Answer::of(if line.json() { format!("{}\n", comparison.json()) } else { comparison.text() }))
+}

@@ -1,0 +1,105 @@
+//! Each rule that the tool names is a rule of docs/RULES.md, and the rules of a field are those of the page's tables.
+
+use std::collections::BTreeSet;
+use std::path::Path;
+use tool::field::{Field, InHeader, InRecord};
+use tool::rules::Rule;
+
+fn page() -> String {
+    let path = Path::new(env!("CARGO_MANIFEST_DIR")).join("../../docs/RULES.md");
+    std::fs::read_to_string(path).expect("docs/RULES.md")
+}
+
+/// A rule's name: a capital and a number.
+fn is_rule(word: &str) -> bool {
+    let mut chars = word.chars();
+    chars.next().is_some_and(|c| c.is_ascii_uppercase())
+        && chars.clone().count() > 0
+        && chars.all(|c| c.is_ascii_digit())
+}
+
+fn rules_in(text: &str) -> BTreeSet<String> {
+    text.split(|c: char| !c.is_ascii_alphanumeric()).filter(|word| is_rule(word)).map(String::from).collect()
+}
+
+/// The first cells of the tables: where a rule is said.
+fn said(page: &str) -> BTreeSet<String> {
+    let cell = |line: &str| line.strip_prefix('|')?.split('|').next().map(rules_in);
+    page.lines().filter_map(cell).flatten().collect()
+}
+
+#[test]
+fn every_rule_named_is_on_the_page() {
+    let said = said(&page());
+    assert!(said.len() > 90, "{said:?}");
+    for rule in Rule::ALL {
+        assert!(said.contains(rule.name()), "{rule} is not on the page");
+    }
+}
+
+/// A row of a table of fields: ranges of bytes, and the rules of the last cell.
+type Row = (Vec<(usize, usize)>, BTreeSet<String>);
+
+/// The rows of a table of fields.
+fn rows(page: &str, heading: &str) -> Vec<Row> {
+    let from = page.find(heading).expect("the table");
+    let table = page[from..].lines().skip_while(|line| !line.starts_with('|')).take_while(|line| line.starts_with('|'));
+    let row = |line: &str| {
+        let cells: Vec<&str> = line.trim_matches('|').split('|').collect();
+        let range = |part: &str| {
+            let (first, last) = part.trim().split_once('–')?;
+            Some((first.parse().ok()?, last.parse().ok()?))
+        };
+        let ranges: Vec<(usize, usize)> = cells[0].split(',').filter_map(range).collect();
+        (!ranges.is_empty()).then(|| (ranges, rules_in(cells[cells.len() - 1])))
+    };
+    table.filter_map(row).collect()
+}
+
+/// Each rule of a field stands in the page's row for its bytes.
+fn held_to(heading: &str, fields: Vec<Field>) {
+    let rows = rows(&page(), heading);
+    assert!(rows.len() >= 3, "{heading}: {rows:?}");
+    for field in fields {
+        let bytes = field.bytes();
+        let covers = |(first, last): &(usize, usize)| *first <= bytes.start && bytes.end <= last + 1;
+        let row = rows.iter().find(|(ranges, _)| ranges.iter().any(covers)).expect("a row for the field");
+        for rule in field.rules(usize::MAX) {
+            assert!(row.1.contains(rule.name()), "{field}: {rule} is not in the row {row:?}");
+        }
+    }
+}
+
+#[test]
+fn the_rules_of_a_field_are_the_tables() {
+    held_to("### Fields of a node record", InRecord::all().into_iter().map(|f| Field::Node(0, f)).collect());
+    held_to("### Fields of a tree record", InRecord::all().into_iter().map(|f| Field::Tree(0, f)).collect());
+    held_to("### Fields of the header", InHeader::all().into_iter().map(Field::Header).collect());
+}
+
+/// Texts name rules through the type, so that the test above sees all of them: no string has one written out.
+#[test]
+fn no_text_names_a_rule_by_itself() {
+    let mut folders = vec![Path::new(env!("CARGO_MANIFEST_DIR")).join("src")];
+    let mut files = 0;
+    while let Some(folder) = folders.pop() {
+        for entry in std::fs::read_dir(folder).expect("the sources") {
+            let path = entry.expect("an entry").path();
+            if path.is_dir() {
+                folders.push(path);
+                continue;
+            }
+            files += 1;
+            let source = std::fs::read_to_string(&path).expect("a source");
+            for line in source.lines().filter(|line| !line.trim_start().starts_with("//")) {
+                let strings: String = line.split('"').skip(1).step_by(2).collect::<Vec<_>>().join(" ");
+                let outside: String =
+                    strings.split('{').map(|part| part.split_once('}').map_or(part, |(_, rest)| rest)).collect();
+                let named = rules_in(&outside);
+                let known = named.iter().find(|name| Rule::ALL.iter().any(|rule| rule.name() == name.as_str()));
+                assert_eq!(known, None, "{}: {line}", path.display());
+            }
+        }
+    }
+    assert!(files > 25, "{files} files");
+}
