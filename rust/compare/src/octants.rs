@@ -317,6 +317,9 @@ mod tests {
     /// One of each kind, and each within the limit.
     #[test]
     fn long_lists_match_in_time() {
+        if left_out("long_lists_match_in_time") {
+            return;
+        }
         let line = long(1, 1, proved::octants);
         assert_eq!((line.mismatches, line.smallest), (0, None));
         assert_eq!(line.reached.len(), LONG.len());

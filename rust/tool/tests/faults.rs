@@ -148,6 +148,23 @@ fn closed_pipes_and_full_disks() {
     assert!(std::fs::metadata("/dev/full").expect("it").file_type().is_char_device(), "it is still a device");
 }
 
+/// `-` is standard input, text and records alike, and a file that never ends is not waited for.
+#[test]
+fn standard_input_is_a_file() {
+    let folder = Folder::with_inputs("stdin");
+    let from = |name: &str, line: &str| {
+        let input = File::open(name).or_else(|_| File::open(folder.0.join(name))).expect("an input");
+        folder.command(line).stdin(input).output().expect("it runs")
+    };
+    let whole = folder.run("build a.bin").stdout;
+    assert_eq!(from("a.bin", "build -").stdout, whole);
+    assert_eq!(from("six.txt", "build -").stdout, whole);
+    assert_eq!(from("b.bin", "check -").status.code(), Some(1));
+    let endless = from("/dev/zero", "build -");
+    assert_eq!(endless.status.code(), Some(2));
+    assert!(String::from_utf8_lossy(&endless.stderr).contains("expected a list of at most 32,767 boxes"));
+}
+
 /// A picture replaces the one that was there, whole; a folder that is there is left alone.
 #[test]
 fn files_are_replaced_whole_and_folders_kept() {

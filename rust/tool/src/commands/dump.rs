@@ -26,6 +26,10 @@ Every field of header, node records, tree records and order list, one a line: it
 with its word; of a record's box also the place that it stands for), and the rules of docs/RULES.md that made it. The
 same dump gives the same text, so that two can be compared; `bounds diff` says why they differ.
 
+Records that another builder made are a dump too: put its bytes into header.bin, nodes.bin, trees.bin and order.bin, and
+beside them dump.txt with four lines: `bounds dump 1`, `kind boxes`, `threshold N`, `entries N`. Without boxes.bin (28 bytes
+an entry: a mark, min x y z, max x y z) they can be dumped, queried and compared, but not explained or drawn.
+
 examples
   bounds dump six
   bounds dump six.txt --threshold 4

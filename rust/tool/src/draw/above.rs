@@ -101,10 +101,18 @@ impl Picture<'_> {
         let thin = if self.trace.present.len() > MANY { " stroke-width=\"0.25\"" } else { "" };
         svg.rect(at, &format!("fill=\"none\" stroke=\"{INK}\"{thin}{open}"));
         if self.trace.present.len() <= NAMED {
-            // A box that is open at one end has its place at the other.
-            let share = if v[0].is_nan() { 0.9 } else { 0.5 };
-            let middle = (at.x + at.w * share, at.y + at.h / 2.0 + 4.0);
-            svg.text(middle, &format!("text-anchor=\"middle\" font-size=\"11\" fill=\"{INK}\""), &place.to_string());
+            self.name(svg, at, place, v[0].is_nan());
+        }
+    }
+
+    /// A box's place, written in it; beside one that is too small. One that is open at one end has it at the other.
+    fn name(&self, svg: &mut Svg, at: Rect, place: usize, open: bool) {
+        let (share, middle) = (if open { 0.9 } else { 0.5 }, at.y + at.h / 2.0 + 4.0);
+        if at.w < 16.0 {
+            svg.text((at.x + at.w + 2.0, middle), &format!("font-size=\"8\" fill=\"{INK}\""), &place.to_string());
+        } else {
+            let look = format!("text-anchor=\"middle\" font-size=\"11\" fill=\"{INK}\"");
+            svg.text((at.x + at.w * share, middle), &look, &place.to_string());
         }
     }
 }

@@ -6,6 +6,7 @@
 mod above;
 mod axis;
 mod lanes;
+mod rows;
 mod svg;
 
 use crate::account::Account;
@@ -15,7 +16,6 @@ use crate::trace::walk::{walk, Reading};
 use crate::trace::Trace;
 use axis::Ruler;
 use bounds::Vec3;
-use std::collections::BTreeSet;
 use svg::{Rect, Svg};
 
 const WIDTH: f64 = 1120.0;
@@ -24,9 +24,6 @@ const MARGIN: f64 = 20.0;
 const LABELS: f64 = 250.0;
 const GAP: f64 = 22.0;
 const ROW: f64 = 20.0;
-
-/// The most rows: of a larger tree some nodes are drawn.
-const MOST_ROWS: usize = 64;
 
 const RED: &str = "#d62728";
 const GREY: &str = "#b8b8b8";
@@ -79,34 +76,9 @@ impl<'a> Picture<'a> {
         let blank = Ruler { low: 0.0, high: 1.0, left: 0.0, width: 1.0 };
         let mut picture =
             Picture { dump, trace, account, query, rows: Vec::new(), shown: "", read, rulers: [blank; 3] };
-        picture.choose_rows();
+        (picture.rows, picture.shown) = picture.choose_rows();
         picture.rulers = std::array::from_fn(|axis| picture.ruler(axis));
         picture
-    }
-
-    /// All nodes where there is room; else those that the query read, or the upper levels and nodes whose records differ
-    /// from their floats.
-    fn choose_rows(&mut self) {
-        let all = self.trace.nodes.len();
-        let read = (0..all).filter(|&node| self.read[node].is_some()).take(MOST_ROWS);
-        let differs = |node: &usize| (0..3).any(|axis| !self.bar(*node, axis).agrees);
-        (self.rows, self.shown) = if all <= MOST_ROWS {
-            ((0..all).collect(), "")
-        } else if self.query.is_some() {
-            (read.collect(), "those that the query read first")
-        } else {
-            let odd: BTreeSet<usize> = (0..all).filter(differs).take(MOST_ROWS / 2).collect();
-            match odd.is_empty() {
-                true => (upper_levels(self.trace, MOST_ROWS), "the upper levels"),
-                false => {
-                    let upper = upper_levels(self.trace, MOST_ROWS / 2);
-                    (
-                        odd.into_iter().chain(upper).collect::<BTreeSet<_>>().into_iter().collect(),
-                        "the upper levels, and where records differ",
-                    )
-                }
-            }
-        };
     }
 
     /// How many nodes have a row.
@@ -200,24 +172,4 @@ impl<'a> Picture<'a> {
         }
         y
     }
-}
-
-/// The nodes of the upper levels, as many whole levels as there is room for.
-fn upper_levels(trace: &Trace, room: usize) -> Vec<usize> {
-    let mut depths = vec![0usize; trace.nodes.len()];
-    for at in 1..trace.nodes.len() {
-        depths[at] = trace.nodes[at].parent.map_or(0, |parent| depths[parent] + 1);
-    }
-    let mut levels: Vec<usize> = Vec::new();
-    for &depth in &depths {
-        levels.resize(levels.len().max(depth + 1), 0);
-        levels[depth] += 1;
-    }
-    let mut sum = 0;
-    let fits = |count: &&usize| {
-        sum += **count;
-        sum <= room
-    };
-    let whole = levels.iter().take_while(fits).count();
-    (0..trace.nodes.len()).filter(|&at| depths[at] < whole).collect()
 }

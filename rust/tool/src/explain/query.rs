@@ -112,6 +112,9 @@ impl Explainer<'_> {
             Reading::Tree { tree, .. } => self.trace.ranges[tree].0,
             Reading::Node { node, .. } => node,
         };
+        if node >= self.trace.nodes.len() {
+            return vec![Step::new(&[R12], format!("node {node} is padding, which no build's walk reads"))];
+        }
         let quantised = self.trace.quantised(node, corner, axis);
         let value = 3 * corner as usize + axis as usize;
         let v = f32::from_bits(self.trace.nodes[node].bounds[value]);
@@ -177,7 +180,8 @@ pub fn first_miss(dump: &Dump, walked: &Walked, leaf: usize) -> Option<Reading> 
 fn verdict(asked: &Asked, present: bool, meets: bool, handed: bool) -> String {
     let item = asked.item;
     match (present, meets, handed) {
-        (false, ..) => format!("box {item} is absent ({T9}) and is not handed out"),
+        (false, _, false) => format!("box {item} is absent ({T9}) and is not handed out"),
+        (false, _, true) => format!("box {item} is absent ({T9}), and the records hand it out: no build does that"),
         (_, true, true) => format!("box {item} meets the query as floats ({W2}) and is handed out"),
         (_, true, false) => format!("box {item} meets the query as floats ({W2}) and is NOT handed out"),
         (_, false, true) => {
