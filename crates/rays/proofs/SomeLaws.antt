@@ -11,7 +11,7 @@ use Rattle.base.specs.Lists.{upFrom}
 use Rattle.rays.specs.declared.rays.Ray.{Ray}
 use Rattle.rays.specs.Checks.{anyOf, trianglesOf, missing, ownOf, facetOver, wayBack, stops, fails, passes}
 use Rattle.rays.specs.Rays.{naught, facetOf, hits}
-use Rattle.rays.specs.Vertices.{vertexAt}
+use Rattle.points.specs.Points.{vertexAt}
 use Rattle.rays.specs.steps.Checking.{onTheWay, missingIn, movedIn, failsIn, stoppedIn}
 use Rattle.rays.specs.steps.Counting.{noneTo}
 use Rattle.rays.specs.steps.Rows.{Laid}

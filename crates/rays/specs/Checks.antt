@@ -13,7 +13,7 @@ use Rattle.math.specs.Vec3s.{_⊘_, one, subOf, scaleOf, lengthOf}
 use Rattle.rays.specs.declared.rays.Ray.{Ray}
 use Rattle.rays.specs.declared.rays.Facet.{Facet}
 use Rattle.rays.specs.Rays.{naught, facetOf, hits}
-use Rattle.rays.specs.Vertices.{vertexAt}
+use Rattle.points.specs.Points.{vertexAt}
 
 -- some number of the list passes the test
 abbrev pub anyOf : (ℕ → Bool) → List ℕ → Bool

@@ -1,4 +1,3 @@
 pub mod Checks
 pub mod Rays
 pub mod steps
-pub mod Vertices

@@ -1,8 +1,8 @@
 // No vertex that moved crosses, on its way back, a triangle that is not its own.
 use crate::rays::Ray;
 use crate::rows::hits_in;
-use crate::vertices::vertex_at;
 use math::vec3::Vec3;
+use points::vertex_at;
 ghost use mathlib.Core.Path.{_≡_};
 ghost use Prim.Native.Nat.{ℕ, _+_, _*_, _≤_, _<_};
 ghost use mathlib.Core.Bool.{false};
@@ -12,7 +12,7 @@ ghost use Rattle.rays.specs.steps.Counting.{noneTo};
 ghost use Rattle.rays.specs.Checks.{wayBack, passes};
 ghost use Rattle.rays.specs.steps.Checking.{hasMoved, missingIn, failsIn, stoppedIn, turnOf, Begun, Checkable, Ready, Stoppable};
 ghost use Rattle.rays.specs.steps.Rows.{InRows, Laid};
-ghost use Rattle.rays.specs.Vertices.{vertexAt};
+ghost use Rattle.points.specs.Points.{vertexAt};
 
 // Whether the vertices pass, and where they do not a vertex that fails.
 pub struct Checked {

@@ -1,7 +1,7 @@
 // The nine rows of the triangles' coordinates.
 use crate::rays::Facet;
-use crate::vertices::vertex_at;
 use math::vec3::Vec3;
+use points::vertex_at;
 ghost use mathlib.Core.Path.{_≡_};
 ghost use Prim.Native.Nat.{_+_, _*_, _≤_, _<_};
 ghost use lib.ListN.{length};

@@ -4,4 +4,3 @@ pub mod faces;
 pub mod rays;
 pub mod rows;
 pub mod triangles;
-pub mod vertices;

@@ -11,7 +11,7 @@ use borrow.Author.Count.{below-more}
 use Rattle.math.specs.declared.vec3.Vec3.{Vec3}
 use lib.Dec.{leb}
 use borrow.Author.Tests.{le-leb, lt-leb}
-use Rattle.rays.specs.Vertices.{vertexAt}
+use Rattle.points.specs.Points.{vertexAt}
 use Rattle.rings.specs.Normals.{origin, normalOf, polygonNormal}
 use Rattle.rings.specs.steps.Stored.{normalAt, putNormal}
 

@@ -2,26 +2,24 @@
 use mathlib.Core.Bool.{Bool, true, false, cond}
 use Prim.Native.Nat.{ℕ, zero, suc, _+_, _-_, _*_, _/_, _≤_, _<_}
 use native.Mathlib.Omega.{arith}
-use native.Mathlib.Numerals.{add-one}
 use mathlib.Core.Path.{_≡_, refl, sym, ap, ap₂, subst, _∙_}
 use mathlib.Core.Logic.{_⊎_, ⊎-elim}
-use mathlib.Core.List.{List, [], _∷_, _++_, map}
+use mathlib.Core.List.{List, [], _∷_, map}
 use lib.Dec.{eqb}
-use lib.ListN.{length, getD, take, drop, length-append}
-use lib.Seq.{getD-take, getD-drop, drop-drop, sets, sets-eq, take-at, drop-at, length-take-le}
+use lib.ListN.{length, getD, take}
+use lib.Seq.{getD-take}
 use lib.Ieee.{Float}
 use borrow.Author.Tests.{eqb-false, ne-eqb, eq-eqb}
 use Rattle.math.specs.declared.vec3.Vec3.{Vec3}
-use Rattle.math.specs.Stored.{valuesOf}
 use Rattle.rings.specs.declared.ring.Walker.{Walker}
-use Rattle.corners.specs.Corners.{none, inTurn}
+use Rattle.corners.specs.Corners.{none}
 use Rattle.rings.specs.Firsts.{noSide, firstSide}
-use Rattle.rings.specs.Meshes.{Mesh, normalIn, shrunkAt, shrunkBy, wordsOf}
+use Rattle.rings.specs.Meshes.{Mesh, normalIn, shrunkAt, shrunkBy}
 use Rattle.rings.specs.Moving.{movedOf}
 use Rattle.rings.specs.Rings.{onward, ringFrom, firstLink, ringOf}
 use Rattle.rings.specs.steps.Gathering.{Gathered, Movable}
 use Rattle.rings.specs.steps.Stored.{normalAt, normalsFrom, Linked, Neighbour, Begins}
-use Rattle.rays.specs.Vertices.{vertexAt}
+use Rattle.points.specs.Points.{vertexAt}
 use Rattle.rings.proofs.RingLaws.{first-place, onward-place}
 use Rattle.rings.proofs.SideLaws.{first-in}
 
@@ -121,40 +119,7 @@ module _ (mesh : Mesh) (by : Float) (i s : ℕ) (side : s ≡ firstSide (mesh .c
   pub side-in : (s ≡ noSide → ⊥) → s < 3 * mesh .n
   side-in e = ⊎-elim (λ none. absurd (e (side ∙ none))) (λ h. omega (arith, side)) (first-in (mesh .corners) i (3 * mesh .n))
 
--- ---- the points are written one after the other
-
-pub points-more : (points : List ℕ) (i : ℕ) (at : ℕ → Vec3) → 3 * i + 3 ≤ length points → take (3 * i) points ≡ inTurn i (λ i. wordsOf (at i))
-    → take (3 * (i + 1)) (sets points (3 * i) (wordsOf (at i))) ≡ inTurn (i + 1) (λ i. wordsOf (at i))
-points-more points i at h e =
-    let w = wordsOf (at i) in
-    let three : 3 * (i + 1) ≡ 3 * i + 3 = omega arith in
-    let size : length (take (3 * i) points ++ w) ≡ 3 * i + 3 =
-    omega (arith, length-append (take (3 * i) points) w, length-take-le (3 * i) points (omega arith)) in
-    let cut = sets-eq w points (3 * i) h in
-    ap₂ take three cut
-    ∙ take-at (take (3 * i) points ++ w) (drop (3 * i + 3) points) (3 * i + 3) size
-    ∙ ap (λ (l : List ℕ). l ++ w) e
-    ∙ sym (ap (λ (k : ℕ). inTurn k (λ i. wordsOf (at i))) (add-one i))
-
--- and those behind are left as they were
-pub points-behind : (points : List ℕ) (i : ℕ) (p : Vec3) → 3 * i + 3 ≤ length points → drop (3 * (i + 1)) (sets points (3 * i) (wordsOf p))
-    ≡ drop 3 (drop (3 * i) points)
-points-behind points i p h =
-    let w = wordsOf p in
-    let three : 3 * (i + 1) ≡ 3 * i + 3 = omega arith in
-    let size : length (take (3 * i) points ++ w) ≡ 3 * i + 3 =
-    omega (arith, length-append (take (3 * i) points) w, length-take-le (3 * i) points (omega arith)) in
-    ap₂ drop three (sets-eq w points (3 * i) h)
-    ∙ drop-at (take (3 * i) points ++ w) (drop (3 * i + 3) points) (3 * i + 3) size
-    ∙ sym (drop-drop 3 (3 * i) points)
-
-pub point-behind : (xs ys : List ℕ) (i : ℕ) → drop (3 * i) xs ≡ drop (3 * i) ys → vertexAt xs i ≡ vertexAt ys i
-point-behind xs ys i e =
-    let zero-on : 3 * i ≡ 3 * i + 0 = omega arith in
-    let at : (k : ℕ) → getD xs (3 * i + k) 0 ≡ getD ys (3 * i + k) 0 =
-    λ k. sym (getD-drop (3 * i) xs k 0) ∙ ap (λ (l : List ℕ). getD l k 0) e ∙ getD-drop (3 * i) ys k 0 in
-    let x : getD xs (3 * i) 0 ≡ getD ys (3 * i) 0 = ap (λ (k : ℕ). getD xs k 0) zero-on ∙ at 0 ∙ sym (ap (λ (k : ℕ). getD ys k 0) zero-on) in
-    λ j. valuesOf (record { x = x j; y = at 1 j; z = at 2 j })
+-- ---- what moving asks, of work that was written over
 
 pub movable-again : {mesh : Mesh} {firsts : List ℕ} {normals : List Float} {ring : List ℕ} {ns : List Float} → Movable mesh firsts normals ring ns
     → (ring′ : List ℕ) (ns′ : List Float) → length ring′ ≡ length ring → length ns′ ≡ length ns → Movable mesh firsts normals ring′ ns′

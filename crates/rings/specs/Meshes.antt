@@ -1,12 +1,12 @@
 -- Rules S2 to S5 together (bounds.rs, shrink_polys_by_margin): every vertex of a mesh, moved by a margin. Definitions only.
 use Prim.Native.Nat.{ℕ, _*_, _/_}
 use mathlib.Core.Bool.{cond}
-use mathlib.Core.List.{List, [], _∷_, map}
+use mathlib.Core.List.{List, map}
 use lib.Dec.{eqb}
-use lib.Ieee.{Float, binary32, toBits, neg}
+use lib.Ieee.{Float, neg}
 use Rattle.corners.specs.Corners.{inTurn}
 use Rattle.math.specs.declared.vec3.Vec3.{Vec3}
-use Rattle.rays.specs.Vertices.{vertexAt}
+use Rattle.points.specs.Points.{vertexAt, wordsOf}
 use Rattle.rings.specs.Firsts.{noSide, firstSide}
 use Rattle.rings.specs.Moving.{movedOf}
 use Rattle.rings.specs.Normals.{polygonNormal}
@@ -38,10 +38,6 @@ shrunkBy mesh by i s =
 
 unfoldable pub shrunkAt : Mesh → Float → ℕ → Vec3
 shrunkAt mesh by i = shrunkBy mesh by i (firstSide (mesh .corners) i (3 * mesh .n))
-
--- the words of a vertex
-abbrev pub wordsOf : Vec3 → List ℕ
-wordsOf p = toBits binary32 (p .x) ∷ toBits binary32 (p .y) ∷ toBits binary32 (p .z) ∷ []
 
 -- Rules S2 to S5: each vertex goes against its normals, so by the margin with its sign turned, and reads only the vertices as given.
 unfoldable pub byMargin : Mesh → Float → List ℕ

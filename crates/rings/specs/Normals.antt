@@ -7,7 +7,7 @@ use Rattle.math.specs.declared.vec3.Vec3.{Vec3}
 use Rattle.math.specs.Vec3s.{subOf, crossOf, normOf}
 use Rattle.rays.specs.Checks.{missing}
 use Rattle.rays.specs.Rays.{naught}
-use Rattle.rays.specs.Vertices.{vertexAt}
+use Rattle.points.specs.Points.{vertexAt}
 
 -- Rule S2 (`norm((v3 - v2).cross(v1 - v2))`)
 unfoldable pub normalOf : Vec3 → Vec3 → Vec3 → Vec3

@@ -1,6 +1,6 @@
 // The normal of each polygon over the vertices as given.
 use math::vec3::Vec3;
-use rays::vertices::vertex_at;
+use points::vertex_at;
 ghost use mathlib.Core.Path.{_≡_};
 ghost use Prim.Native.Nat.{_+_, _*_, _≤_, _<_};
 ghost use lib.ListN.{length};

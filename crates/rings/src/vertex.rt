@@ -4,12 +4,12 @@ use crate::moving::normal_at;
 use crate::normals::put_normal;
 use crate::normals::wide;
 use math::vec3::Vec3;
-use rays::vertices::vertex_at;
+use points::put_point;
+use points::vertex_at;
 ghost use mathlib.Core.Path.{_≡_};
 ghost use Prim.Native.Nat.{ℕ, _+_, _*_, _≤_, _<_};
 ghost use lib.ListN.{length, getD};
-ghost use lib.Seq.{sets};
-ghost use Rattle.rings.specs.Meshes.{meshOf, shrunkAt, byMargin, wordsOf};
+ghost use Rattle.rings.specs.Meshes.{meshOf, shrunkAt, byMargin};
 ghost use Rattle.rings.specs.steps.Gathering.{Gathered, Movable};
 
 // The normals of a polygon and of its ring, one after the other.
@@ -52,17 +52,6 @@ pub fn shrunk_at(
     let count = crate::ring::ring(corners, links, n, i as u32, side, ring);
     gather(normals, poly, ring, count, ns);
     crate::moving::moved(ns, count + 1, Push { from: from, by: by })
-}
-
-pub fn put_point(points: &mut [u32], i: usize, p: Vec3)
-    requires { ⌜ 3 * i + 3 ≤ length (now points) ⌝ }
-    ensures { λ _. ⌜ now (points .exit) ≡ sets (now (points .entry)) (3 * i) (wordsOf p) ⌝ }
-{
-    let w = math::words3::bits(p);
-    let at = 3 * i;
-    points[at] = w.x;
-    points[at + 1] = w.y;
-    points[at + 2] = w.z;
 }
 
 // All the vertices, moved by the margin. The slice is as long as the points' words.

@@ -7,8 +7,7 @@ use Rattle.float32.specs.Extremes.{maxNumberOf}
 use Rattle.math.specs.declared.vec3.Vec3.{Vec3}
 use Rattle.math.specs.declared.aabb.Aabb.{Aabb}
 use Rattle.math.specs.Vec3s.{subOf, vaddOf, vmin3Of, vmax3Of}
-use Rattle.rays.specs.Vertices.{vertexAt}
-use Rattle.rings.specs.Meshes.{wordsOf}
+use Rattle.points.specs.Points.{vertexAt, wordsOf}
 
 -- 0.025, the least that is taken off a side
 abbrev pub leastInset : Float

@@ -29,8 +29,8 @@ pub fn clamp_points(points: &mut [u32], v: usize, b: Aabb)
 {
     let mut i = 0;
     while i < v {
-        let s = rays::vertices::vertex_at(points, i);
-        rings::vertex::put_point(points, i, clamp(b, s));
+        let s = points::vertex_at(points, i);
+        points::put_point(points, i, clamp(b, s));
         i += 1;
     }
 }

@@ -11,8 +11,8 @@ use Rattle.corners.proofs.CornerLaws.{part-in-turn}
 use Rattle.math.specs.declared.vec3.Vec3.{Vec3}
 use Rattle.math.specs.Stored.{valuesOf}
 use Rattle.rays.specs.steps.Checking.{hasMoved, movedIn}
-use Rattle.rays.specs.Vertices.{vertexAt}
-use Rattle.rings.specs.Meshes.{Mesh, shrunkAt, wordsOf, byMargin}
+use Rattle.points.specs.Points.{vertexAt, wordsOf}
+use Rattle.rings.specs.Meshes.{Mesh, shrunkAt, byMargin}
 
 module _ (at : ℕ → Vec3) (i : ℕ) where
   pub point-there : (points : List ℕ) (v : ℕ) → i < v → take (3 * (i + 1)) points ≡ inTurn (i + 1) (λ i. wordsOf (at i))

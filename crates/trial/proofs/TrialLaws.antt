@@ -12,8 +12,8 @@ use Rattle.rays.specs.Checks.{passes}
 use Rattle.rays.specs.steps.Checking.{Begun, Checkable, Stoppable, stoppedIn}
 use Rattle.rays.specs.steps.Rows.{Laid}
 use Rattle.rays.proofs.SomeLaws.{passes-unmoved, stopped-passes-not}
-use Rattle.rays.specs.Vertices.{vertexAt}
-use Rattle.rings.specs.Meshes.{Mesh, shrunkAt, wordsOf, byMargin}
+use Rattle.points.specs.Points.{vertexAt, wordsOf}
+use Rattle.rings.specs.Meshes.{Mesh, shrunkAt, byMargin}
 use Rattle.rings.proofs.VertexLaws.{movable-again}
 use Rattle.trial.specs.Trials.{passesAt}
 use Rattle.trial.proofs.StayLaws.{stored-there}

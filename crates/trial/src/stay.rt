@@ -1,5 +1,5 @@
 // Whether a margin moves no vertex. Where a triangle has a corner past the vertices it passes only then.
-use rays::vertices::vertex_at;
+use points::vertex_at;
 ghost use mathlib.Core.Path.{_≡_};
 ghost use Prim.Native.Nat.{_*_};
 ghost use lib.ListN.{length};
@@ -28,7 +28,7 @@ pub fn all_stay(
     let by = -margin;
     let mut i = 0;
     while i < v {
-        rings::vertex::put_point(
+        points::put_point(
             points,
             i,
             rings::vertex::shrunk_at(

@@ -32,7 +32,7 @@ fn stopped_at(
         return false;
     }
     let by = -margin;
-    rings::vertex::put_point(
+    points::put_point(
         points,
         hint,
         rings::vertex::shrunk_at(

@@ -11,7 +11,7 @@ use Rattle.rays.specs.declared.rays.Ray.{Ray}
 use Rattle.rays.specs.declared.rays.Facet.{Facet}
 use Rattle.rays.specs.Checks.{trianglesOf}
 use Rattle.rays.specs.Rays.{facetOf, hits}
-use Rattle.rays.specs.Vertices.{vertexAt}
+use Rattle.points.specs.Points.{vertexAt}
 use Rattle.rays.specs.steps.Counting.{countTo}
 
 -- The three rows hold the corners of the triangles of n polygons, of which there are t.

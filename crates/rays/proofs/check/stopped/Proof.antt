@@ -4,7 +4,7 @@ use Rattle.rays.proofs.check.stopped.Statement.{statement}
 use Rattle.rays.proofs.check.stopped.Tie as tie
 use mathlib.Core.Path.{_∙_}
 use Rattle.rays.specs.Checks.{wayBack}
-use Rattle.rays.specs.Vertices.{vertexAt}
+use Rattle.points.specs.Points.{vertexAt}
 use Rattle.rays.proofs.CheckLaws.{unstopped, stopped-by-hits}
 
 vertex-at-requires : tie.Need-vertex-at-requires

@@ -2,7 +2,7 @@
 use mathlib.Core.Path.{ap, _∙_}
 use native.Mathlib.Omega.{arith}
 use Rattle.rings.specs.Normals.{normalOf}
-use Rattle.rays.specs.Vertices.{vertexAt}
+use Rattle.points.specs.Points.{vertexAt}
 use Rattle.rings.proofs.NormalLaws.{first-missing, second-missing, third-missing, all-there}
 use borrow.Author.Needs.{needs}
 use Rattle.rings.proofs.normals.polygon_normal.Statement.{statement}

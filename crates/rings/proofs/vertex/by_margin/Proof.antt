@@ -8,8 +8,10 @@ use lib.Ieee.{Float, neg}
 use Rattle.math.specs.declared.vec3.Vec3.{Vec3}
 use native.Mathlib.Omega.{arith}
 use Rattle.corners.specs.Corners.{inTurn}
-use Rattle.rings.specs.Meshes.{Mesh, meshOf, shrunkAt, wordsOf, byMargin}
-use Rattle.rings.proofs.VertexLaws.{points-more, movable-again}
+use Rattle.rings.specs.Meshes.{Mesh, meshOf, shrunkAt, byMargin}
+use Rattle.points.specs.Points.{wordsOf}
+use Rattle.points.proofs.PointLaws.{points-more}
+use Rattle.rings.proofs.VertexLaws.{movable-again}
 use Rattle.rings.proofs.vertex.by_margin.Statement.{statement}
 use Rattle.rings.proofs.vertex.by_margin.Tie as tie
 use borrow.Author.Needs.{needs}

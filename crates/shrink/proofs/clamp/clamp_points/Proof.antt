@@ -8,10 +8,9 @@ use Rattle.math.specs.declared.aabb.Aabb.{Aabb}
 use Rattle.math.specs.declared.vec3.Vec3.{Vec3}
 use native.Mathlib.Omega.{arith}
 use Rattle.corners.specs.Corners.{inTurn}
-use Rattle.rays.specs.Vertices.{vertexAt}
-use Rattle.rings.specs.Meshes.{wordsOf}
+use Rattle.points.specs.Points.{vertexAt, wordsOf}
 use Rattle.shrink.specs.Clamping.{clampOf, clampedWords}
-use Rattle.rings.proofs.VertexLaws.{points-more, points-behind, point-behind}
+use Rattle.points.proofs.PointLaws.{points-more, points-behind, point-behind}
 use Rattle.shrink.proofs.clamp.clamp_points.Statement.{statement}
 use Rattle.shrink.proofs.clamp.clamp_points.Tie as tie
 use borrow.Author.Needs.{needs}

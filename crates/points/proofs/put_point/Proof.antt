@@ -1,11 +1,11 @@
--- `vertex::put_point` meets its contract: three stores.
+-- `put_point` meets its contract: three stores.
 use mathlib.Core.Path.{_≡_}
 use Prim.Native.Nat.{suc, _+_, _*_}
 use native.Mathlib.Omega.{arith}
 use lib.ListN.{length-set, set}
 use borrow.Author.Needs.{needs}
-use Rattle.rings.proofs.vertex.put_point.Statement.{statement}
-use Rattle.rings.proofs.vertex.put_point.Tie as tie
+use Rattle.points.proofs.put_point.Statement.{statement}
+use Rattle.points.proofs.put_point.Tie as tie
 
 bits-requires : tie.Need-bits-requires
 bits-requires c κs = search needs
