@@ -1,5 +1,5 @@
 -- The work of a search is bounded by the numbers of vertices and triangles: at most 148 margins, each at most 41,664 triples a vertex, and two rays
--- a vertex and triangle. Each sum is at most so many times the most of its parts.
+-- a vertex and triangle, and a vertex more that is moved first. Each sum is at most so many times the most of its parts.
 use mathlib.Core.Bool.{Bool, true, false, cond}
 use Prim.Native.Nat.{ℕ, zero, suc, _+_, _*_, _/_, _≤_}
 use native.Mathlib.Omega.{arith}
@@ -22,21 +22,8 @@ use Rattle.rings.specs.Meshes.{Mesh, normalIn, around, byMargin}
 use Rattle.rings.specs.Triples.{triplesOf}
 use Rattle.rings.proofs.WorkLaws.{few-triples}
 use Rattle.trial.specs.Trials.{passesAt}
-use Rattle.shrink.specs.Costs.{
-  sumTo,
-  sumOver,
-  triplesTaken,
-  triplesFrom,
-  triplesAt,
-  triplesIn,
-  trianglesIn,
-  raysAt,
-  raysIn,
-  triedOf,
-  allTriples,
-  allRays,
-  WorkWithin,
-}
+use Rattle.shrink.specs.Costs.{sumTo, sumOver, triplesTaken, triplesFrom, triplesAt, triplesIn, trianglesIn, raysAt, raysIn, raysFirst}
+use Rattle.shrink.specs.Costs.{triedOf, allTriples, allRays, mostTriples, mostRays, WorkWithin}
 use Rattle.shrink.specs.Margins.{halved}
 use Rattle.shrink.proofs.AllTried.{few-above}
 
@@ -94,16 +81,21 @@ module _ (mesh : Mesh) where
       go false = taken-few (normalIn mesh (s / 3)) (around mesh i s) (few-triples mesh i s)
 
   -- Rule S5: at most 41,664 triples a vertex
-  pub triples-few : triplesIn mesh ≤ mesh .v * 41664
-  triples-few = sum-few 41664 (triplesAt mesh) (λ i. from-few i (firstSide (mesh .corners) i (3 * mesh .n))) (mesh .v)
+  pub vertex-few : (i : ℕ) → triplesAt mesh i ≤ 41664
+  vertex-few i = from-few i (firstSide (mesh .corners) i (3 * mesh .n))
+
+  triples-few : triplesIn mesh ≤ mesh .v * 41664
+  triples-few = sum-few 41664 (triplesAt mesh) vertex-few (mesh .v)
+
+  if-moved : (k : ℕ) (b : Bool) → cond b k 0 ≤ k
+  if-moved k true = omega arith
+  if-moved k false = omega arith
 
   -- Rule S6: at most two rays a vertex and triangle
-  pub rays-few : (margin : Float) → raysIn mesh margin ≤ mesh .v * (2 * trianglesIn mesh)
-  rays-few margin = sum-few (2 * trianglesIn mesh) (raysAt mesh margin) (λ i. go (movedIn (mesh .vertices) (byMargin mesh margin) i)) (mesh .v)
-    where
-      go : (b : Bool) → cond b (2 * trianglesIn mesh) 0 ≤ 2 * trianglesIn mesh
-      go true = omega arith
-      go false = omega arith
+  rays-few : (margin : Float) → raysIn mesh margin ≤ mesh .v * (2 * trianglesIn mesh)
+  rays-few margin =
+      sum-few (2 * trianglesIn mesh) (raysAt mesh margin) (λ i. if-moved (2 * trianglesIn mesh) (movedIn (mesh .vertices) (byMargin mesh margin) i))
+      (mesh .v)
 
   triangles-few : trianglesIn mesh ≤ mesh .n
   triangles-few = omega (arith, length-sift (λ p. there (mesh .corners) (3 * p)) (upFrom 0 (mesh .n)), length-up 0 (mesh .n))
@@ -112,15 +104,19 @@ module _ (mesh : Mesh) where
 
 within : (mesh : Mesh) (turns : ℕ) (start : Float) → length (triedOf (passesAt mesh) turns start) ≤ 148 → WorkWithin mesh turns start
 within mesh turns start few =
+    let v = mesh .v in
+    let t = trianglesIn mesh in
     let tried = triedOf (passesAt mesh) turns start in
-    let most = mesh .v * (2 * trianglesIn mesh) in
-    let triples = over-few (mesh .v * 41664) (λ m. triplesIn mesh) (λ m. triples-few mesh) tried in
-    let rays = over-few most (raysIn mesh) (rays-few mesh) tried in
-    let up : mesh .v * (2 * trianglesIn mesh) ≤ mesh .v * (2 * mesh .n) = mul-le-mul-left (mesh .v) (omega (arith, triangles-few mesh)) in
+    let triples : (first : Float → ℕ) → allTriples mesh first turns start ≤ length tried * ((v + 1) * 41664) = λ first.
+    over-few ((v + 1) * 41664) (λ m. triplesAt mesh (first m) + triplesIn mesh) (λ m. omega (arith, vertex-few mesh (first m), triples-few mesh)) tried in
+    let rays : (first : Float → ℕ) → allRays mesh first turns start ≤ length tried * ((2 * v + 1) * t) = λ first.
+    over-few ((2 * v + 1) * t) (λ m. raysFirst mesh m (first m) + raysIn mesh m)
+    (λ m. omega (arith, if-moved mesh t (movedIn (mesh .vertices) (byMargin mesh m) (first m)), rays-few mesh m)) tried in
+    let up : (2 * v + 1) * t ≤ (2 * v + 1) * mesh .n = mul-le-mul-left (2 * v + 1) (triangles-few mesh) in
     record {
-      triples = omega (arith, triples, mul-le-mul-right (mesh .v * 41664) few);
-      rays = omega (arith, rays, mul-le-mul-right most few);
-      rays-by-polygons = omega (arith, rays, mul-le-mul-right most few, up);
+      triples = λ first. omega (arith, triples first, mul-le-mul-right ((v + 1) * 41664) few);
+      rays = λ first. omega (arith, rays first, mul-le-mul-right ((2 * v + 1) * t) few);
+      rays-by-polygons = λ first. omega (arith, rays first, mul-le-mul-right ((2 * v + 1) * t) few, up);
     }
 
 -- Rules S5 to S7: whatever the margin, our search with its 148 turns takes no more triples and rays than the numbers of vertices and triangles allow;
@@ -130,3 +126,7 @@ work-within mesh start = within mesh 148 start (few-tried (passesAt mesh) 148 st
 -- and so does the rule, which has no counter, from every margin but +∞.
 pub work-of-rule : (mesh : Mesh) (k : ℕ) (start : Float) → T (fits binary32 start) → (start ≡ inf false → ⊥) → WorkWithin mesh (148 + k) start
 work-of-rule mesh k start f n = within mesh (148 + k) start (few-margins (passesAt mesh) k start f n)
+
+-- At the limits of a geometry, 32,768 vertices and 32,767 polygons: by computing.
+pub most-at-limits : (mostTriples 32768 ≡ 202062567168) × (mostRays 32768 32767 ≡ 317822730092)
+most-at-limits = (refl, refl)

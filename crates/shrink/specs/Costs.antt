@@ -50,26 +50,32 @@ raysAt mesh margin i = cond (movedIn (mesh .vertices) (byMargin mesh margin) i) 
 abbrev pub raysIn : Mesh → Float → ℕ
 raysIn mesh margin = sumTo (mesh .v) (raysAt mesh margin)
 
+-- Our search moves a vertex of each margin first, the one that failed before, and tests its ray against each triangle as it was.
+abbrev pub raysFirst : Mesh → Float → ℕ → ℕ
+raysFirst mesh margin i = cond (movedIn (mesh .vertices) (byMargin mesh margin) i) (trianglesIn mesh) 0
+
 -- Rule S7: of at most `left` margins those that are tried: each is above 1e-6, and none before it passed.
 abbrev pub triedOf : (Float → Bool) → ℕ → Float → List Float
 triedOf test zero m = []
 triedOf test (suc left) m = cond (lt tolerance m) (m ∷ cond (test m) [] (triedOf test left (m ⊗ half))) []
 
--- Rules S5 to S7: all the triples and rays of a search that begins with the margin `start` and has so many turns at most
-abbrev pub allTriples : Mesh → ℕ → Float → ℕ
-allTriples mesh turns start = sumOver (triedOf (passesAt mesh) turns start) (λ m. triplesIn mesh)
+-- Rules S5 to S7: all the triples and rays of a search that begins with the margin `start` and has so many turns at most. The vertex `first m` is
+-- the one that is moved first at margin m, and then once more with the others.
+abbrev pub allTriples : Mesh → (Float → ℕ) → ℕ → Float → ℕ
+allTriples mesh first turns start = sumOver (triedOf (passesAt mesh) turns start) (λ m. triplesAt mesh (first m) + triplesIn mesh)
 
-abbrev pub allRays : Mesh → ℕ → Float → ℕ
-allRays mesh turns start = sumOver (triedOf (passesAt mesh) turns start) (raysIn mesh)
+abbrev pub allRays : Mesh → (Float → ℕ) → ℕ → Float → ℕ
+allRays mesh first turns start = sumOver (triedOf (passesAt mesh) turns start) (λ m. raysFirst mesh m (first m) + raysIn mesh m)
 
 -- The most that they can be, by the numbers of vertices and triangles alone: 148 margins, 41,664 triples a vertex, two rays a vertex and triangle.
 abbrev pub mostTriples : ℕ → ℕ
-mostTriples v = 148 * (v * 41664)
+mostTriples v = 148 * ((v + 1) * 41664)
 
 abbrev pub mostRays : ℕ → ℕ → ℕ
-mostRays v t = 148 * (v * (2 * t))
+mostRays v t = 148 * ((2 * v + 1) * t)
 
+-- The work keeps within them, whichever vertices are moved first.
 pub record WorkWithin (mesh : Mesh) (turns : ℕ) (start : Float) : Type 0 where
-  pub triples : allTriples mesh turns start ≤ mostTriples (mesh .v)
-  pub rays : allRays mesh turns start ≤ mostRays (mesh .v) (trianglesIn mesh)
-  pub rays-by-polygons : allRays mesh turns start ≤ mostRays (mesh .v) (mesh .n)
+  pub triples : (first : Float → ℕ) → allTriples mesh first turns start ≤ mostTriples (mesh .v)
+  pub rays : (first : Float → ℕ) → allRays mesh first turns start ≤ mostRays (mesh .v) (trianglesIn mesh)
+  pub rays-by-polygons : (first : Float → ℕ) → allRays mesh first turns start ≤ mostRays (mesh .v) (mesh .n)

@@ -14,8 +14,8 @@ use Rattle.rays.specs.steps.Checking.{movedIn}
 use Rattle.rays.specs.steps.Counting.{noneTo}
 use Rattle.rays.proofs.CountLaws.{none-next, some-at}
 use Rattle.points.specs.Points.{wordsOf}
-use Rattle.rings.specs.Meshes.{Mesh, meshOf, shrunkAt, byMargin}
 use Rattle.points.proofs.PointLaws.{points-more}
+use Rattle.rings.specs.Meshes.{Mesh, meshOf, shrunkAt, byMargin}
 use Rattle.rings.proofs.VertexLaws.{movable-again}
 use Rattle.trial.proofs.StayLaws.{compared}
 use native.Mathlib.Omega.{arith}
