@@ -146,26 +146,33 @@ const RAYS: [&str; 4] = ["rays::", "shrink", "shrunk", "hits"];
 const PRODUCTS: usize = 20;
 const AROUND: usize = 150;
 
-/// Four triangles at once: one division, and the products around it.
+/// Four triangles at once: a division, and the products around it. The given and the shrunk triangles have a loop each, or
+/// one in a function that both call.
 fn rays(functions: &[Function]) -> Result<String, String> {
     let of = named(functions, &RAYS);
     if of.is_empty() {
         return Err(format!("rays: no function named {} in the archive", RAYS.join(", ")));
     }
-    let mut most = 0;
+    let products = |code: &[Instruction], at: usize| {
+        let near = &code[at.saturating_sub(AROUND)..code.len().min(at + AROUND)];
+        near.iter().filter(|i| i.name == "mulps").count()
+    };
+    let mut nearly = String::new();
     for function in &of {
         let code = &function.code;
-        for at in (0..code.len()).filter(|&at| code[at].name == "divps") {
-            let near = &code[at.saturating_sub(AROUND)..code.len().min(at + AROUND)];
-            let found = near.iter().filter(|i| i.name == "mulps").count();
-            if found >= PRODUCTS {
-                return Ok(format!("rays: divps and {found} mulps in {}", function.name));
-            }
-            most = most.max(found);
+        let divisions = (0..code.len()).filter(|&at| code[at].name == "divps");
+        let loops = divisions.filter(|&at| products(code, at) >= PRODUCTS).count();
+        let wanted = if function.name.contains("hits") { 1 } else { 2 };
+        if loops >= wanted {
+            return Ok(format!("rays: {loops} divps with {PRODUCTS} mulps or more around it in {}", function.name));
+        }
+        if loops > 0 {
+            nearly = format!("; {} has {loops} of {wanted}", function.name);
         }
     }
     Err(format!(
-        "rays: no divps with {PRODUCTS} mulps around it, the most being {most}, in {}: triangles are taken one by one",
+        "rays: no divps with {PRODUCTS} mulps around it for the given and for the shrunk triangles in {}: triangles are taken \
+         one by one{nearly}",
         names(&of)
     ))
 }
@@ -249,7 +256,7 @@ mod tests {
         let lines = [
             "has     walk: 2 pcmpgtw in bounds_walk",
             "has     counts: movups, cmpltps, psubd in bounds_build_bvh",
-            "has     rays: divps and 26 mulps in rays::rows::hits_in",
+            "has     rays: 1 divps with 20 mulps or more around it in rays::rows::hits_in",
         ];
         assert_eq!(found.lines().collect::<Vec<_>>(), lines);
     }
@@ -257,11 +264,14 @@ mod tests {
     #[test]
     fn rays_one_by_one_are_found() {
         let lacking = |rays: &str| judged(&format!("{WALK}\n{COUNTS}\n{rays}")).expect_err("no vector code");
-        assert!(
-            lacking(&rays("divss", 26)).contains("LACKS   rays: no divps with 20 mulps around it, the most being 0")
-        );
-        assert!(lacking(&rays("divps", 4)).contains("the most being 4, in rays::rows::hits_in"));
+        assert!(lacking(&rays("divss", 26)).contains("LACKS   rays: no divps with 20 mulps around it"));
+        assert!(lacking(&rays("divps", 4)).contains("in rays::rows::hits_in: triangles are taken one by one\n"));
         assert!(lacking("").contains("LACKS   rays: no function named rays::"));
+        // Inlined, the loops of both sorts have to have it.
+        let inlined = rays("divps", 26).replace("rays::rows::hits_in", "bounds_calculate_verts_shrunk");
+        assert!(lacking(&inlined).contains("; bounds_calculate_verts_shrunk has 1 of 2"));
+        let second: String = rays("divps", 26).lines().skip(1).map(|line| format!("{line}\n")).collect();
+        assert!(judged(&format!("{WALK}\n{COUNTS}\n{inlined}{second}")).is_ok());
     }
 
     #[test]
