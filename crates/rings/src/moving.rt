@@ -4,12 +4,18 @@ ghost use mathlib.Core.Path.{_≡_};
 ghost use Prim.Native.Nat.{_+_, _-_, _*_, _≤_, _<_};
 ghost use lib.ListN.{length};
 ghost use Rattle.rings.specs.Moving.{alongOf, wayOf, fartherOf, meetOf, tripleOf, eachThird, eachSecond, eachFirst, sumFrom, betweenOf, movedOf};
-ghost use Rattle.rings.specs.steps.Stored.{normalAt, normalsFrom};
+ghost use Rattle.rings.specs.steps.Stored.{normalAt, normalsFrom, reachOf};
 
 // A vertex, and how far it goes along a normal: the margin with its sign turned.
 pub struct Push {
     pub from: Vec3,
     pub by: f32,
+}
+
+// A point, and the square of the way to it: carried along, so that no triple waits for the way of the one before.
+pub struct Reach {
+    pub point: Vec3,
+    pub way: f32,
 }
 
 fn along(m: Push, n: Vec3) -> Vec3
@@ -25,12 +31,21 @@ fn way(m: Push, x: Vec3) -> f32
     d.dot(d)
 }
 
-fn farther(m: Push, best: Vec3, x: Vec3) -> Vec3
-    ensures { λ r. ⌜ r ≡ fartherOf m best x ⌝ }
+fn reached(m: Push, x: Vec3) -> Reach
+    ensures { λ r. ⌜ r ≡ reachOf m x ⌝ }
 {
-    let old = way(m, best);
-    let new = way(m, x);
-    if new > old { x } else { best }
+    Reach {
+        point: x,
+        way: way(m, x),
+    }
+}
+
+fn farther(m: Push, best: Reach, x: Vec3) -> Reach
+    requires { ⌜ best ≡ reachOf m (best .point) ⌝ }
+    ensures { λ r. ⌜ r ≡ reachOf m (fartherOf m (best .point) x) ⌝ }
+{
+    let new = reached(m, x);
+    if new.way > best.way { new } else { best }
 }
 
 // Where the planes of three normals meet, of which k is the cross product of the last two.
@@ -42,8 +57,9 @@ fn meet(m: Push, a: Vec3, b: Vec3, c: Vec3) -> Vec3
     along(m, sum.scale(1.0 / a.dot(k)))
 }
 
-fn triple(m: Push, a: Vec3, b: Vec3, best: Vec3, c: Vec3) -> Vec3
-    ensures { λ r. ⌜ r ≡ tripleOf m a b best c ⌝ }
+fn triple(m: Push, a: Vec3, b: Vec3, best: Reach, c: Vec3) -> Reach
+    requires { ⌜ best ≡ reachOf m (best .point) ⌝ }
+    ensures { λ r. ⌜ r ≡ reachOf m (tripleOf m a b (best .point) c) ⌝ }
 {
     let d = float32::signs::abs(a.dot(b.cross(c)));
     if d > 0.25 {
@@ -65,9 +81,17 @@ pub fn normal_at(ns: &[f32], i: usize) -> Vec3
 }
 
 // The triples of a and b with each normal from number `from` on.
-fn each_third(ns: &[f32], count: usize, from: usize, m: Push, a: Vec3, b: Vec3, start: Vec3) -> Vec3
-    requires { ⌜ (from ≤ count) × (3 * count ≤ length (now ns)) ⌝ }
-    ensures { λ r. ⌜ r ≡ eachThird m a b start (normalsFrom (now (ns .entry)) from (count - from)) ⌝ }
+fn each_third(
+    ns: &[f32],
+    count: usize,
+    from: usize,
+    m: Push,
+    a: Vec3,
+    b: Vec3,
+    start: Reach,
+) -> Reach
+    requires { ⌜ (from ≤ count) × (3 * count ≤ length (now ns)) × (start ≡ reachOf m (start .point)) ⌝ }
+    ensures { λ r. ⌜ r ≡ reachOf m (eachThird m a b (start .point) (normalsFrom (now (ns .entry)) from (count - from))) ⌝ }
 {
     let mut best = start;
     let mut i = from;
@@ -79,9 +103,9 @@ fn each_third(ns: &[f32], count: usize, from: usize, m: Push, a: Vec3, b: Vec3, 
 }
 
 // The triples of a with each two normals from number `from` on.
-fn each_second(ns: &[f32], count: usize, from: usize, m: Push, a: Vec3, start: Vec3) -> Vec3
-    requires { ⌜ (from ≤ count) × (3 * count ≤ length (now ns)) ⌝ }
-    ensures { λ r. ⌜ r ≡ eachSecond m a start (normalsFrom (now (ns .entry)) from (count - from)) ⌝ }
+fn each_second(ns: &[f32], count: usize, from: usize, m: Push, a: Vec3, start: Reach) -> Reach
+    requires { ⌜ (from ≤ count) × (3 * count ≤ length (now ns)) × (start ≡ reachOf m (start .point)) ⌝ }
+    ensures { λ r. ⌜ r ≡ reachOf m (eachSecond m a (start .point) (normalsFrom (now (ns .entry)) from (count - from))) ⌝ }
 {
     let mut best = start;
     let mut i = from;
@@ -97,13 +121,13 @@ fn each_first(ns: &[f32], count: usize, m: Push, start: Vec3) -> Vec3
     requires { ⌜ 3 * count ≤ length (now ns) ⌝ }
     ensures { λ r. ⌜ r ≡ eachFirst m start (normalsFrom (now (ns .entry)) 0 count) ⌝ }
 {
-    let mut best = start;
+    let mut best = reached(m, start);
     let mut i = 0;
     while i < count {
         best = each_second(ns, count, i + 1, m, normal_at(ns, i), best);
         i += 1;
     }
-    best
+    best.point
 }
 
 fn sum_from(ns: &[f32], count: usize, own: Vec3) -> Vec3
@@ -128,7 +152,9 @@ fn between(m: Push, a: Vec3, b: Vec3, best: Vec3) -> Vec3
     if g < 0.1 {
         return along(m, a);
     }
-    triple(m, a, b, best, c.scale(1.0 / float32::root::sqrt(g)))
+    let third = c.scale(1.0 / float32::root::sqrt(g));
+    let found = triple(m, a, b, reached(m, best), third);
+    found.point
 }
 
 // Rule S5, by the vertex's own normal and those of its ring, `count` in all.

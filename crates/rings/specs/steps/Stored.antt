@@ -9,7 +9,10 @@ use lib.ListN.{length, getD, take, set}
 use lib.Ieee.{Float, nan}
 use Rattle.corners.specs.Corners.{none}
 use Rattle.math.specs.declared.vec3.Vec3.{Vec3}
+use Rattle.rings.specs.declared.moving.Push.{Push}
+use Rattle.rings.specs.declared.moving.Reach.{Reach}
 use Rattle.rings.specs.Firsts.{noSide, firstSide}
+use Rattle.rings.specs.Moving.{wayOf}
 use Rattle.rings.specs.Normals.{polygonNormal}
 
 -- ---- normals
@@ -29,6 +32,10 @@ putNormal fs i p = set (set (set fs (3 * i) (p .x)) (3 * i + 1) (p .y)) (3 * i +
 -- The floats hold the normals of the first k polygons.
 pub record Normals (corners ws : List ℕ) (v : ℕ) (fs : List Float) (k : ℕ) : Type 0 where
   pub normals : (p : ℕ) → p < k → normalAt fs p ≡ polygonNormal corners ws v p
+
+-- a point and the square of the way to it
+abbrev pub reachOf : Push → Vec3 → Reach
+reachOf m x = record { point = x; way = wayOf m x }
 
 -- ---- first sides
 

@@ -1,26 +1,23 @@
 -- `moving::farther` meets its contract: each arm by its test on the two ways.
-use mathlib.Core.Bool.{Bool, cond}
-use mathlib.Core.Path.{sym, ap, ap₂, _∙_}
-use lib.Ieee.{lt}
 use borrow.Author.Needs.{needs}
 use Rattle.rings.proofs.moving.farther.Statement.{statement}
 use Rattle.rings.proofs.moving.farther.Tie as tie
+use Rattle.rings.proofs.MovingLaws.{farther-is, farther-not}
 
-way-requires : tie.Need-way-requires
-way-requires c κs = search needs
-
-way-requires-2 : tie.Need-way-requires-2
-way-requires-2 c κs = search needs
+reached-requires : tie.Need-reached-requires
+reached-requires c κs = search needs
 
 returns : tie.Need-returns
 returns c =
-    let a = c .before .before .before .args in
-    ap (λ (t : Bool). cond t (a .x) (a .best)) (sym (c .if1 .taken) ∙ ap₂ lt (c .before .before .way .ensures) (c .before .way2 .ensures))
+    let a = c .before .before .before .before .args in
+    farther-is (a .m) (a .best) (c .before .before .before .reached .result) (a .x) (c .before .before .before .before .pre) (c .before .before .before
+    .reached .ensures) (c .if1 .taken)
 
 returns-2 : tie.Need-returns-2
 returns-2 c =
-    let a = c .before .before .before .args in
-    ap (λ (t : Bool). cond t (a .x) (a .best)) (sym (c .if1 .left) ∙ ap₂ lt (c .before .before .way .ensures) (c .before .way2 .ensures))
+    let a = c .before .before .before .before .args in
+    farther-not (a .m) (a .best) (c .before .before .before .reached .result) (a .x) (c .before .before .before .before .pre) (c .before .before .before
+    .reached .ensures) (c .if1 .left)
 
 pub farther-spec : {M : Type 1} → statement M
-farther-spec = tie.close (tie.spec way-requires way-requires-2 returns returns-2)
+farther-spec = tie.close (tie.spec reached-requires returns returns-2)
