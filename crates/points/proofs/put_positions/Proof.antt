@@ -33,7 +33,14 @@ vertex-pos-requires : tie.Need-vertex-pos-requires Inv-loop μ-loop
 vertex-pos-requires c κs = omega (arith, c .before .before .before .before .before .pre .0, c .before .loop-test .taken)
 
 put-point-requires : tie.Need-put-point-requires Inv-loop μ-loop
-put-point-requires c κs = omega (arith, c .before .before .before .before .before .before .pre .1, c .before .before .loop-test .taken, c .before .before .before .loop .inv .same-length)
+put-point-requires c κs =
+    omega (
+      arith,
+      c .before .before .before .before .before .before .pre .1,
+      c .before .before .loop-test .taken,
+      c .before .before .before .loop .inv
+          .same-length,
+    )
 
 add-i : tie.Need-add-i Inv-loop μ-loop
 add-i c = search needs
@@ -46,13 +53,18 @@ loop-again c =
     let a = c .before .before .before .before .before .before .before .before .before .args in
     let l = c .before .before .before .before .before .before .loop in
     let more = c .before .before .before .before .before .loop-test .taken in
-    let put = c .before .before .put-point .ensures ∙ ap (λ (p : Vec3). sets (l .points) (3 * l .i) (wordsOf p)) (c .before .before .before .vertex-pos .ensures) in
+    let put = c .before .before .put-point .ensures ∙ ap (λ (p : Vec3). sets (l .points) (3 * l .i) (wordsOf p)) (c .before .before .before .vertex-pos
+    .ensures) in
     record {
       upto = omega arith;
       same-length = c .before .before .put-point .kept .0 ∙ l .inv .same-length;
       written =
           put ∙ ap (λ (ws : List ℕ). sets ws (3 * l .i) (wordsOf (posOf (a .transform) (a .center) (a .vertices .now) (l .i)))) (l .inv .written)
-          ∙ points-next (posOf (a .transform) (a .center) (a .vertices .now)) (a .points .now) (l .i) (omega (arith, c .before .before .before .before .before .before .before .before .before .pre .1));
+          ∙ points-next (posOf (a .transform) (a .center) (a .vertices .now)) (a .points .now) (l .i) (omega (
+            arith,
+            c .before .before .before .before
+                .before .before .before .before .before .pre .1,
+          ));
     }
 
 same-length : tie.Need-same-length Inv-loop μ-loop

@@ -38,7 +38,9 @@ same-length-9 : tie.Need-same-length-9
 same-length-9 c = search needs
 
 returns : tie.Need-returns
-returns c = answered-in _ _ _ _ _ _ _ _ _ _ (c .before .before .before .before .before .before .before .before .before .before .before .before .before .before .before .before .before .before .before .calculate-verts-shrunk .ensures) (c .answer .ensures)
+returns c =
+    answered-in _ _ _ _ _ _ _ _ _ _ (c .before .before .before .before .before .before .before .before .before .before .before .before .before .before
+    .before .before .before .before .before .calculate-verts-shrunk .ensures) (c .answer .ensures)
 
 pub bounds-calculate-verts-shrunk-spec : {M : Type 1} → statement M
 bounds-calculate-verts-shrunk-spec =

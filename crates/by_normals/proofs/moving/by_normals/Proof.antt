@@ -10,7 +10,11 @@ put-sums-requires : tie.Need-put-sums-requires
 put-sums-requires c κs = c .before .before .before .before .pre
 
 put-pushed-requires : tie.Need-put-pushed-requires
-put-pushed-requires c κs = (c .before .before .before .before .before .before .before .before .pre .vertices-in, c .before .before .before .put-sums .kept .1 .1 .1 .1 .1 .1 .0 ∙ c .before .before .before .before .before .before .before .before .pre .size)
+put-pushed-requires c κs = (
+  c .before .before .before .before .before .before .before .before .pre .vertices-in,
+  c .before .before .before .put-sums .kept .1 .1 .1 .1 .1 .1 .0 ∙ c
+      .before .before .before .before .before .before .before .before .pre .size,
+)
 
 same-length : tie.Need-same-length
 same-length c = search needs

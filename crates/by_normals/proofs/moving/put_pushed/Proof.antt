@@ -47,10 +47,17 @@ pushed-requires : tie.Need-pushed-requires Inv-loop μ-loop
 pushed-requires c κs = search needs
 
 put-point-requires : tie.Need-put-point-requires Inv-loop μ-loop
-put-point-requires c κs = omega (arith, c .before .before .before .before .before .before .loop .inv .size, c .before .before .before .before .before .loop-test .taken)
+put-point-requires c κs =
+    omega (arith, c .before .before .before .before .before .before .loop .inv .size, c .before .before .before .before .before .loop-test .taken)
 
 add-i : tie.Need-add-i Inv-loop μ-loop
-add-i c = omega (arith, c .before .before .before .before .before .before .before .before .loop-test .taken, c .before .before .before .before .before .before .before .before .before .before .before .before .fits .v .fits)
+add-i c =
+    omega (
+      arith,
+      c .before .before .before .before .before .before .before .before .loop-test .taken,
+      c .before .before .before .before .before .before
+          .before .before .before .before .before .before .fits .v .fits,
+    )
 
 loop-less : tie.Need-loop-less Inv-loop μ-loop
 loop-less c = search needs
@@ -62,7 +69,8 @@ loop-again c =
     let more : l .i < a .v = c .before .before .before .before .before .before .before .before .loop-test .taken in
     let room : 3 * l .i + 3 ≤ length (l .points) = omega (arith, l .inv .size) in
     let read = c .before .before .before .before .before .before .vertex-at .ensures ∙ point-behind (l .points) (a .points .now) (l .i) (l .inv .behind) in
-    let moved = c .before .before .before .pushed .ensures ∙ ap₂ (λ (from sum : Vec3). pushedOf from sum (a .by)) (c .before .before .before .before .vertex-at2 .ensures) read in
+    let moved = c .before .before .before .pushed .ensures ∙ ap₂ (λ (from sum : Vec3). pushedOf from sum (a .by)) (c .before .before .before .before
+    .vertex-at2 .ensures) read in
     let put = c .before .before .put-point .ensures ∙ ap (λ (p : Vec3). sets (l .points) (3 * l .i) (wordsOf p)) moved in
     let same = c .before .before .put-point .kept .0 in
     record {

@@ -25,7 +25,8 @@ returns : tie.Need-returns
 returns c =
     let a = c .before .before .before .before .before .before .before .before .args in
     c .before .before .put-point .ensures
-    ∙ ap (λ (p : Vec3). sets (a .points .now) (3 * a .i) (wordsOf p)) (c .before .before .before .before .add .ensures ∙ ap (λ (p : Vec3). addOf p (a .n)) (c .before .before .before .before .before .vertex-at .ensures))
+    ∙ ap (λ (p : Vec3). sets (a .points .now) (3 * a .i) (wordsOf p)) (c .before .before .before .before .add .ensures ∙ ap (λ (p : Vec3). addOf p (a .n))
+    (c .before .before .before .before .before .vertex-at .ensures))
 
 pub add-at-spec : {M : Type 1} → statement M
 add-at-spec =

@@ -60,19 +60,31 @@ wide-requires-3 c κs = search needs
 returns : tie.Need-returns
 returns c =
     let s = c .before .before .before .before .before .before .before .before .before .before in
-    none-added (whole s) (s .args .p) (s .args .points .now) (first-gone (whole s) (s .args .p) (omega (arith, c .before .before .before .before .before .wide .ensures))) (s .pre .1)
+    none-added (whole s) (s .args .p) (s .args .points .now) (first-gone (whole s) (s .args .p) (omega (
+      arith,
+      c .before .before .before .before .before
+          .wide .ensures,
+    ))) (s .pre .1)
 
 returns-2 : tie.Need-returns-2
 returns-2 c =
     let s = c .before .before .before .before .before .before .before .before .before .before .before in
     none-added (whole s) (s .args .p) (s .args .points .now)
-    (second-gone (whole s) (s .args .p) (omega (arith, c .before .before .before .before .before .before .wide .ensures)) (omega (arith, c .before .before .before .before .wide2 .ensures))) (s .pre .1)
+    (second-gone (whole s) (s .args .p) (omega (arith, c .before .before .before .before .before .before .wide .ensures)) (omega (
+      arith,
+      c .before .before
+          .before .before .wide2 .ensures,
+    ))) (s .pre .1)
 
 returns-3 : tie.Need-returns-3
 returns-3 c =
     let s = c .before .before .before .before .before .before .before .before .before .before .before .before in
     none-added (whole s) (s .args .p) (s .args .points .now)
-    (third-gone (whole s) (s .args .p) (omega (arith, c .before .before .before .before .before .before .before .wide .ensures)) (omega (arith, c .before .before .before .before .before .wide2 .ensures)) (omega (arith, c .before .before .before .wide3 .ensures))) (s .pre .1)
+    (third-gone (whole s) (s .args .p) (omega (arith, c .before .before .before .before .before .before .before .wide .ensures)) (omega (
+      arith,
+      c .before
+          .before .before .before .before .wide2 .ensures,
+    )) (omega (arith, c .before .before .before .wide3 .ensures))) (s .pre .1)
 
 vertex-pos-requires : tie.Need-vertex-pos-requires
 vertex-pos-requires c κs = search needs
@@ -87,13 +99,38 @@ facing-requires : tie.Need-facing-requires
 facing-requires c κs = search needs
 
 add-at-requires : tie.Need-add-at-requires
-add-at-requires c κs = omega (arith, c .before .before .before .before .before .before .before .before .before .before .before .before .before .before .before .before .before .pre .0 .size, c .before .before .before .before .before .before .before .if1 .left)
+add-at-requires c κs =
+    let f = c .before in
+    omega (
+      arith,
+      f .before .before .before .before .before .before .before .before .before .before .before .before .before .before .before .before .pre .0
+          .size,
+      f .before .before .before .before .before .before .if1 .left,
+    )
 
 add-at-requires-2 : tie.Need-add-at-requires-2
-add-at-requires-2 c κs = omega (arith, c .before .before .before .before .before .before .before .before .before .before .before .before .before .before .before .before .before .before .before .before .before .pre .0 .size, c .before .before .before .before .before .before .before .before .before .before .if2 .left, c .before .before .before .add-at .kept .0)
+add-at-requires-2 c κs =
+    let f = c .before .before .before .before .before in
+    omega (
+      arith,
+      f .before .before .before .before .before .before .before .before .before .before .before .before .before .before .before .before .pre .0
+          .size,
+      f .before .before .before .before .before .if2 .left,
+      c .before .before .before .add-at .kept .0,
+    )
 
 add-at-requires-3 : tie.Need-add-at-requires-3
-add-at-requires-3 c κs = omega (arith, c .before .before .before .before .before .before .before .before .before .before .before .before .before .before .before .before .before .before .before .before .before .before .before .before .before .pre .0 .size, c .before .before .before .before .before .before .before .before .before .before .before .before .before .if3 .left, c .before .before .before .before .before .before .before .add-at .kept .0, c .before .before .before .add-at2 .kept .0)
+add-at-requires-3 c κs =
+    let f = c .before .before .before .before .before .before .before .before .before in
+    omega (
+      arith,
+      f .before .before .before .before .before .before .before .before .before .before .before .before .before .before .before .before .pre .0
+          .size,
+      f .before .before .before .before .if3 .left,
+      c .before .before .before .before .before .before .before .add-at .kept .0,
+      c .before .before
+          .before .add-at2 .kept .0,
+    )
 
 same-length : tie.Need-same-length
 same-length c = search needs
@@ -101,22 +138,30 @@ same-length c = search needs
 returns-4 : tie.Need-returns-4
 unfolding triangleNormal
 returns-4 c =
-    let s = c .before .before .before .before .before .before .before .before .before .before .before .before .before .before .before .before .before .before .before .before .before .before .before .before .before .before .before .before in
+    let first = c .before .before .before .before .before .before .before .before .before .before in
+    let f = first .before .before in
+    let s = f .before .before .before .before .before .before .before .before .before .before .before .before .before .before .before .before in
     let a = s .args in
-    let x = c .before .before .before .before .before .before .before .before .before .before .before .before .before .before .before .before .before .before .before .before .before .before .before .wide .ensures in
-    let y = c .before .before .before .before .before .before .before .before .before .before .before .before .before .before .before .before .before .before .before .before .before .wide2 .ensures in
-    let z = c .before .before .before .before .before .before .before .before .before .before .before .before .before .before .before .before .before .before .before .wide3 .ensures in
+    let n = f .facing .result in
+    let x = f .before .before .before .before .before .before .before .before .before .before .before .wide .ensures in
+    let y = f .before .before .before .before .before .before .before .before .before .wide2 .ensures in
+    let z = f .before .before .before .before .before .before .before .wide3 .ensures in
     let at : ℕ → Vec3 = posOf (a .transform) (a .center) (a .vertices .now) in
-    let one = c .before .before .before .before .before .before .before .before .before .before .before .before .before .before .before .vertex-pos .ensures ∙ ap at x in
-    let two = c .before .before .before .before .before .before .before .before .before .before .before .before .before .before .vertex-pos2 .ensures ∙ ap at y in
-    let three = c .before .before .before .before .before .before .before .before .before .before .before .before .before .vertex-pos3 .ensures ∙ ap at z in
-    let n = c .before .before .before .before .before .before .before .before .before .before .before .before .facing .ensures ∙ (λ i. facing (one i) (two i) (three i)) in
-    one-added (whole s) (a .p) (c .before .before .before .before .before .before .before .before .before .before .before .before .facing .result) (a .points .now) (c .before .before .before .before .before .before .before .before .before .before .add-at .last .0) (c .before .before .before .before .before .before .add-at2 .last .0) (c .before .before .add-at3 .last .0)
-    (s .pre .0 .size) (c .before .before .before .before .before .before .before .before .before .before .add-at .kept .0) (c .before .before .before .before .before .before .add-at2 .kept .0) (omega (arith, x, c .before .before .before .before .before .before .before .before .before .before .before .before .before .before .before .before .before .before .if1 .left)) (omega (arith, y, c .before .before .before .before .before .before .before .before .before .before .before .before .before .before .before .before .before .if2 .left))
-    (omega (arith, z, c .before .before .before .before .before .before .before .before .before .before .before .before .before .before .before .before .if3 .left)) n
-    (c .before .before .before .before .before .before .before .before .before .before .add-at .ensures ∙ ap (stored (a .points .now) (c .before .before .before .before .before .before .before .before .before .before .before .before .facing .result)) x)
-    (c .before .before .before .before .before .before .add-at2 .ensures ∙ ap (stored (c .before .before .before .before .before .before .before .before .before .before .add-at .last .0) (c .before .before .before .before .before .before .before .before .before .before .before .before .facing .result)) y)
-    (c .before .before .add-at3 .ensures ∙ ap (stored (c .before .before .before .before .before .before .add-at2 .last .0) (c .before .before .before .before .before .before .before .before .before .before .before .before .facing .result)) z) (s .pre .1)
+    let one = f .before .before .before .vertex-pos .ensures ∙ ap at x in
+    let two = f .before .before .vertex-pos2 .ensures ∙ ap at y in
+    let three = f .before .vertex-pos3 .ensures ∙ ap at z in
+    let u = first .add-at in
+    let v = c .before .before .before .before .before .before .add-at2 in
+    let w = c .before .before .add-at3 in
+    one-added (whole s) (a .p) n (a .points .now) (u .last .0) (v .last .0) (w .last .0) (s .pre .0 .size) (u .kept .0) (v .kept .0)
+    (omega (arith, x, f .before .before .before .before .before .before .if1 .left)) (omega (
+      arith,
+      y,
+      f .before .before .before .before .before .if2
+          .left,
+    )) (omega (arith, z, f .before .before .before .before .if3 .left))
+    (f .facing .ensures ∙ (λ i. facing (one i) (two i) (three i))) (u .ensures ∙ ap (stored (a .points .now) n) x)
+    (v .ensures ∙ ap (stored (u .last .0) n) y) (w .ensures ∙ ap (stored (v .last .0) n) z) (s .pre .1)
 
 pub add-triangle-spec : {M : Type 1} → statement M
 add-triangle-spec =

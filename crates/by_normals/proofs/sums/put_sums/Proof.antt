@@ -53,12 +53,19 @@ add-triangle-requires : tie.Need-add-triangle-requires Inv-loop μ-loop
 add-triangle-requires c κs =
     let s = c .before .before .before .before .before .before .before .before .before .before in
     let l = c .before .before .loop in (
-      one-of (l .points) (l .p) (omega (arith, c .before .loop-test .taken)) (l .inv .same-length ∙ c .before .before .before .before .before .clear .kept .0) (s .pre),
+      one-of (l .points) (l .p) (omega (arith, c .before .loop-test .taken)) (l .inv .same-length ∙ c .before .before .before .before .before .clear .kept
+          .0) (s .pre),
       l .inv .sums-are,
     )
 
 add-p : tie.Need-add-p Inv-loop μ-loop
-add-p c = omega (arith, c .before .before .before .before .loop-test .taken, c .before .before .before .before .before .before .before .before .before .before .before .before .before .pre .few)
+add-p c =
+    omega (
+      arith,
+      c .before .before .before .before .loop-test .taken,
+      c .before .before .before .before .before .before .before .before .before .before
+          .before .before .before .pre .few,
+    )
 
 loop-less : tie.Need-loop-less Inv-loop μ-loop
 loop-less c = search needs
@@ -72,7 +79,8 @@ loop-again c =
       upto = omega (arith, c .before .before .before .before .loop-test .taken);
       same-length = c .before .before .add-triangle .kept .1 .1 .1 .1 .1 .1 .0 ∙ l .inv .same-length;
       sums-are =
-          subst (λ (m : ℕ). Sums (placedOf (a .corners .now) (a .vertices .now) (a .v) (a .center) (a .transform)) m (c .before .before .add-triangle .last .1 .1 .1 .1 .1 .1 .0))
+          subst (λ (m : ℕ). Sums (placedOf (a .corners .now) (a .vertices .now) (a .v) (a .center) (a .transform)) m (c .before .before .add-triangle .last
+          .1 .1 .1 .1 .1 .1 .0))
           next (c .before .before .add-triangle .ensures);
     }
 

@@ -31,10 +31,11 @@ too-short-requires c κs = search needs
 
 returns-3 : tie.Need-returns-3
 returns-3 c =
-    let s = c .before .before .before .before .before .before .before .before .before .before .before .before .before .before .before in
+    let t = c .before in
+    let s = t .before .before .before .before .before .before .before .before .before .before .before .before .before .before in
     let a = s .args in
-    too-small (a .geometry) (a .n) (a .polygons .now) (a .v) (a .vertices .now) (sizes s) (a .points .now) (c .before .before .before .if1 .left) (c .before .before .if2 .left)
-    (sym (c .before .too-short .ensures) ∙ c .if3 .taken)
+    too-small (a .geometry) (a .n) (a .polygons .now) (a .v) (a .vertices .now) (sizes s) (a .points .now) (t .before .before .if1 .left) (t .before .if2
+    .left) (sym (t .too-short .ensures) ∙ c .if3 .taken)
 
 kinds-known-requires : tie.Need-kinds-known-requires
 kinds-known-requires c κs =
@@ -43,27 +44,33 @@ kinds-known-requires c κs =
 
 returns-4 : tie.Need-returns-4
 returns-4 c =
-    let s = c .before .before .before .before .before .before .before .before .before .before .before .before .before .before .before .before .before in
+    let t = c .before .before .before in
+    let s = t .before .before .before .before .before .before .before .before .before .before .before .before .before .before in
     let a = s .args in
-    unknown (a .geometry) (a .n) (a .polygons .now) (a .v) (a .vertices .now) (sizes s) (a .points .now) (c .before .before .before .before .before .if1 .left) (c .before .before .before .before .if2 .left)
-    (sym (c .before .before .before .too-short .ensures) ∙ c .before .before .if3 .left) (sym (c .before .kinds-known .ensures) ∙ not-true _ (c .if4 .taken))
+    unknown (a .geometry) (a .n) (a .polygons .now) (a .v) (a .vertices .now) (sizes s) (a .points .now) (t .before .before .if1 .left) (t .before .if2 .left)
+    (sym (t .too-short .ensures) ∙ c .before .before .if3 .left) (sym (c .before .kinds-known .ensures) ∙ not-true _ (c .if4 .taken))
 
 returns-5 : tie.Need-returns-5
 returns-5 c =
-    let s = c .before .before .before .before .before .before .before .before .before .before .before .before .before .before .before .before .before .before in
+    let t = c .before .before .before .before in
+    let s = t .before .before .before .before .before .before .before .before .before .before .before .before .before .before in
     let a = s .args in
-    none-there (a .geometry) (a .n) (a .polygons .now) (a .v) (a .vertices .now) (sizes s) (a .points .now) (c .before .before .before .before .before .before .if1 .left) (c .before .before .before .before .before .if2 .left)
-    (sym (c .before .before .before .before .too-short .ensures) ∙ c .before .before .before .if3 .left) (sym (c .before .before .kinds-known .ensures) ∙ not-false _ (c .before .if4 .left)) (c .if5 .taken)
+    none-there (a .geometry) (a .n) (a .polygons .now) (a .v) (a .vertices .now) (sizes s) (a .points .now) (t .before .before .if1 .left) (t .before .if2
+    .left)
+    (sym (t .too-short .ensures) ∙ c .before .before .before .if3 .left) (sym (c .before .before .kinds-known .ensures) ∙ not-false _ (c .before .if4
+    .left)) (c .if5 .taken)
 
 infinite-start-requires : tie.Need-infinite-start-requires
 infinite-start-requires c κs = search needs
 
 returns-6 : tie.Need-returns-6
 returns-6 c =
-    let s = c .before .before .before .before .before .before .before .before .before .before .before .before .before .before .before .before .before .before .before .before in
+    let t = c .before .before .before .before .before .before in
+    let s = t .before .before .before .before .before .before .before .before .before .before .before .before .before .before in
     let a = s .args in
-    infinite (a .geometry) (a .n) (a .polygons .now) (a .v) (a .vertices .now) (sizes s) (a .points .now) (c .before .before .before .before .before .before .before .before .if1 .left) (c .before .before .before .before .before .before .before .if2 .left)
-    (sym (c .before .before .before .before .before .before .too-short .ensures) ∙ c .before .before .before .before .before .if3 .left) (sym (c .before .before .before .before .kinds-known .ensures) ∙ not-false _ (c .before .before .before .if4 .left)) (c .before .before .if5 .left)
+    infinite (a .geometry) (a .n) (a .polygons .now) (a .v) (a .vertices .now) (sizes s) (a .points .now) (t .before .before .if1 .left) (t .before .if2 .left)
+    (sym (t .too-short .ensures) ∙ c .before .before .before .before .before .if3 .left) (sym (c .before .before .before .before .kinds-known .ensures) ∙
+    not-false _ (c .before .before .before .if4 .left)) (c .before .before .if5 .left)
     (sym (c .before .infinite-start .ensures) ∙ c .if6 .taken)
 
 mul-shrink-polygons : tie.Need-mul-shrink-polygons
@@ -71,20 +78,26 @@ mul-shrink-polygons c = search needs
 
 slice-relend-prefix-shrink-polygons : tie.Need-slice-relend-prefix-shrink-polygons
 slice-relend-prefix-shrink-polygons c =
-    let s = c .before .before .before .before .before .before .before .before .before .before .before .before .before .before .before .before .before .before .before .before in
-    room (s .args .n) (s .args .v) (sizes s) (sym (c .before .before .before .before .before .before .too-short .ensures) ∙ c .before .before .before .before .before .if3 .left) .points
+    let t = c .before .before .before .before .before .before in
+    let s = t .before .before .before .before .before .before .before .before .before .before .before .before .before .before in
+    room (s .args .n) (s .args .v) (sizes s) (sym (t .too-short .ensures) ∙ c .before .before .before .before .before .if3 .left) .points
 
 slice-aggregate-shrink-polygons : tie.Need-slice-aggregate-shrink-polygons
 slice-aggregate-shrink-polygons c =
-    let s = c .before .before .before .before .before .before .before .before .before .before .before .before .before .before .before .before .before .before .before .before .before in
-    sym (length-take-le (3 * s .args .v) (s .args .points .now) (room (s .args .n) (s .args .v) (sizes s) (sym (c .before .before .before .before .before .before .before .too-short .ensures) ∙ c .before .before .before .before .before .before .if3 .left) .points))
+    let t = c .before .before .before .before .before .before .before in
+    let s = t .before .before .before .before .before .before .before .before .before .before .before .before .before .before in
+    let r = room (s .args .n) (s .args .v) (sizes s) (sym (t .too-short .ensures) ∙ c .before .before .before .before .before .before .if3 .left) in
+    sym (length-take-le (3 * s .args .v) (s .args .points .now) (r .points))
 
 shrink-polygons-requires : tie.Need-shrink-polygons-requires
 shrink-polygons-requires c κs =
-    let s = c .before .before .before .before .before .before .before .before .before .before .before .before .before .before .before .before .before .before .before .before .before .before .before .before .before .before .before .before .before in
+    let u = c .before .before .before .before .before .before .before .before .before .before .before .before .before .before in
+    let t = u .before in
+    let s = t .before .before .before .before .before .before .before .before .before .before .before .before .before .before in
     let a = s .args in
     lent (a .n) (a .v) (a .polygons .now) (a .vertices .now) (a .points .now) (a .corners .now) (a .tri .now) (a .firsts .now) (a .spare .now)
-    (a .links .now) (a .normals .now) (a .olds .now) (a .news .now) (c .before .before .before .before .before .before .before .before .before .before .before .before .before .before .before .before .before .if1 .left) (c .before .before .before .before .before .before .before .before .before .before .before .before .before .before .before .before .if2 .left) (sym (c .before .before .before .before .before .before .before .before .before .before .before .before .before .before .before .too-short .ensures) ∙ c .before .before .before .before .before .before .before .before .before .before .before .before .before .before .if3 .left)
+    (a .links .now) (a .normals .now) (a .olds .now) (a .news .now) (t .before .before .if1 .left) (t .before .if2 .left) (sym (t .too-short .ensures) ∙ u
+    .if3 .left)
 
 shrunk-by-requires : tie.Need-shrunk-by-requires
 shrunk-by-requires c κs = search needs
@@ -118,14 +131,20 @@ same-length-9 c = search needs
 
 returns-7 : tie.Need-returns-7
 returns-7 c =
-    let s = c .before .before .before .before .before .before .before .before .before .before .before .before .before .before .before .before .before .before .before .before .before .before .before .before .before .before .before .before .before .before .before .before .before .before .before .before .before .before .before .before .before .before .before .before .before .before .before .before .before in
+    let call = c .before .before .before .before .before .before .before .before .before .before .before .before .before .before .before .before .before
+    .before .before in
+    let w = call .before .before .before .before .before .before .before .before .before .before in
+    let u = w .before .before .before .before .before in
+    let t = u .before in
+    let s = t .before .before .before .before .before .before .before .before .before .before .before .before .before .before in
     let a = s .args in
-    let long = sym (c .before .before .before .before .before .before .before .before .before .before .before .before .before .before .before .before .before .before .before .before .before .before .before .before .before .before .before .before .before .before .before .before .before .before .before .too-short .ensures) ∙ c .before .before .before .before .before .before .before .before .before .before .before .before .before .before .before .before .before .before .before .before .before .before .before .before .before .before .before .before .before .before .before .before .before .before .if3 .left in
-    let ways = room (a .n) (a .v) (sizes s) long .points in
-    served (a .geometry) (a .n) (a .polygons .now) (a .v) (a .vertices .now) (sizes s) (a .points .now) (c .before .before .before .before .before .before .before .before .before .before .before .before .before .before .before .before .before .before .before .before .before .before .before .before .before .before .before .before .before .before .before .before .before .before .before .before .before .if1 .left) (c .before .before .before .before .before .before .before .before .before .before .before .before .before .before .before .before .before .before .before .before .before .before .before .before .before .before .before .before .before .before .before .before .before .before .before .before .if2 .left) long
-    (sym (c .before .before .before .before .before .before .before .before .before .before .before .before .before .before .before .before .before .before .before .before .before .before .before .before .before .before .before .before .before .before .before .before .before .kinds-known .ensures) ∙ not-false _ (c .before .before .before .before .before .before .before .before .before .before .before .before .before .before .before .before .before .before .before .before .before .before .before .before .before .before .before .before .before .before .before .before .if4 .left)) (c .before .before .before .before .before .before .before .before .before .before .before .before .before .before .before .before .before .before .before .before .before .before .before .before .before .before .before .before .before .before .before .if5 .left) (sym (c .before .before .before .before .before .before .before .before .before .before .before .before .before .before .before .before .before .before .before .before .before .before .before .before .before .before .before .before .before .before .infinite-start .ensures) ∙ c .before .before .before .before .before .before .before .before .before .before .before .before .before .before .before .before .before .before .before .before .before .before .before .before .before .before .before .before .before .if6 .left) _
-    (c .before .before .before .before .before .before .before .before .before .before .before .before .before .before .before .before .before .before .before .shrink-polygons .result) _ (c .before .before .before .before .before .before .before .before .before .before .before .before .before .before .before .before .before .before .before .shrink-polygons .kept .1 .1 .1 .1 .1 .0 ∙ length-take-le (3 * a .v) (a .points .now) ways)
-    (c .before .before .before .before .before .before .before .before .before .before .before .before .before .before .before .before .before .before .before .shrink-polygons .ensures) (c .shrunk-by .ensures)
+    let long = sym (t .too-short .ensures) ∙ u .if3 .left in
+    let front = call .shrink-polygons .kept .1 .1 .1 .1 .1 .0 ∙ length-take-le (3 * a .v) (a .points .now) (room (a .n) (a .v) (sizes s) long .points) in
+    served (a .geometry) (a .n) (a .polygons .now) (a .v) (a .vertices .now) (sizes s) (a .points .now) (t .before .before .if1 .left) (t .before .if2
+    .left) long
+    (sym (w .before .before .before .before .kinds-known .ensures) ∙ not-false _ (w .before .before .before .if4 .left)) (w .before .before .if5 .left) (sym
+    (w .before .infinite-start .ensures) ∙ w .if6 .left) _
+    (call .shrink-polygons .result) _ front (call .shrink-polygons .ensures) (c .shrunk-by .ensures)
 
 pub calculate-verts-shrunk-spec : {M : Type 1} → statement M
 calculate-verts-shrunk-spec =

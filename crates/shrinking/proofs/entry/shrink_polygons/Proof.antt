@@ -22,25 +22,35 @@ slice-aggregate-links-of c = sym (length-unpacked _ _ _ _ (c .before .before .be
 
 links-of-requires : tie.Need-links-of-requires
 links-of-requires c κs =
-    let p = c .before .before .before .before .before .before .before .before .before .before .before .before .before .before .before .before .before .before .before .before .pre in
-    linkable _ _ _ _ (c .before .before .before .before .before .before .before .unpack-corners .ensures) _ _ _ _ (p .few) (p .tri-room) (omega (arith, p .firsts-room)) (p .spare-room) (p .links-room)
+    let u = c .before .before .before .before .before .before .before in
+    let p = u .before .before .before .before .before .before .before .before .before .before .before .before .before .pre in
+    linkable _ _ _ _ (u .unpack-corners .ensures) _ _ _ _ (p .few) (p .tri-room) (omega (arith, p .firsts-room)) (p .spare-room) (p .links-room)
 
 slice-reshare-prefix-shrunk-points : tie.Need-slice-reshare-prefix-shrunk-points
 slice-reshare-prefix-shrunk-points c = search needs
 
 slice-aggregate-shrunk-points : tie.Need-slice-aggregate-shrunk-points
-slice-aggregate-shrunk-points c = sym (length-unpacked _ _ _ _ (c .before .before .before .before .before .before .before .before .before .before .before .before .before .before .before .before .before .unpack-corners .ensures))
+slice-aggregate-shrunk-points c =
+    let l = c .before .before .before .before .before .before .before .before .before in
+    sym (length-unpacked _ _ _ _ (l .before .before .before .before .before .before .before .before .unpack-corners .ensures))
 
 slice-reshare-prefix-shrunk-points-2 : tie.Need-slice-reshare-prefix-shrunk-points-2
 slice-reshare-prefix-shrunk-points-2 c = search needs
 
 slice-aggregate-shrunk-points-2 : tie.Need-slice-aggregate-shrunk-points-2
-slice-aggregate-shrunk-points-2 c = sym (length-take-le (3 * c .before .before .before .before .before .before .before .before .before .before .before .before .before .before .before .before .before .before .before .before .before .before .before .before .before .before .before .before .before .before .before .args .n) (c .before .before .before .before .before .before .before .before .before .before .links-of .last .1 .1 .1 .1 .0) (omega (arith, c .before .before .before .before .before .before .before .before .before .before .links-of .kept .1 .1 .1 .1 .0, c .before .before .before .before .before .before .before .before .before .before .before .before .before .before .before .before .before .before .before .before .before .before .before .before .before .before .before .before .before .before .before .pre .links-room)))
+slice-aggregate-shrunk-points-2 c =
+    let l = c .before .before .before .before .before .before .before .before .before .before in
+    let u = l .before .before .before .before .before .before .before .before in
+    let s = u .before .before .before .before .before .before .before .before .before .before .before .before .before in
+    sym (length-take-le (3 * s .args .n) (l .links-of .last .1 .1 .1 .1 .0) (omega (arith, l .links-of .kept .1 .1 .1 .1 .0, s .pre .links-room)))
 
 shrunk-points-requires : tie.Need-shrunk-points-requires
 shrunk-points-requires c κs =
-    let t = c .before .before .before .before .before .before .before .before .before .before .before .before .before .before .before .before .links-of in
-    meshed _ _ _ _ (c .before .before .before .before .before .before .before .before .before .before .before .before .before .before .before .before .before .before .before .before .before .before .before .before .unpack-corners .ensures) _ (t .ensures) (c .before .before .before .before .before .before .before .before .before .before .before .before .before .before .before .before .before .before .before .before .before .before .before .before .before .before .before .before .before .before .before .before .before .before .before .before .before .pre) _ _ (t .kept .1 .0) (t .kept .1 .1 .0) (t .kept .1 .1 .1 .1 .0)
+    let l = c .before .before .before .before .before .before .before .before .before .before .before .before .before .before .before .before in
+    let u = l .before .before .before .before .before .before .before .before in
+    let t = l .links-of in
+    meshed _ _ _ _ (u .unpack-corners .ensures) _ (t .ensures) (u .before .before .before .before .before .before .before .before .before .before .before
+    .before .before .pre) _ _ (t .kept .1 .0) (t .kept .1 .1 .0) (t .kept .1 .1 .1 .1 .0)
 
 same-length : tie.Need-same-length
 same-length c = search needs
@@ -70,7 +80,11 @@ same-length-9 : tie.Need-same-length-9
 same-length-9 c = search needs
 
 returns : tie.Need-returns
-returns c = of-records _ _ _ _ (c .before .before .before .before .before .before .before .before .before .before .before .before .before .before .before .before .before .before .before .before .before .before .before .before .before .before .before .before .before .before .before .before .before .before .before .before .before .unpack-corners .ensures) _ (c .before .before .before .before .before .before .before .before .before .before .before .before .before .before .before .before .before .before .before .before .before .before .before .before .before .before .before .before .before .links-of .ensures) _ _ _ _ _ (c .before .before .before .before .before .before .before .before .before .before .before .before .shrunk-points .ensures)
+returns c =
+    let call = c .before .before .before .before .before .before .before .before .before .before .before .before in
+    let l = call .before .before .before .before .before .before .before .before .before .before .before .before .before .before .before .before .before in
+    let u = l .before .before .before .before .before .before .before .before in
+    of-records _ _ _ _ (u .unpack-corners .ensures) _ (l .links-of .ensures) _ _ _ _ _ (call .shrunk-points .ensures)
 
 pub shrink-polygons-spec : {M : Type 1} → statement M
 shrink-polygons-spec =

@@ -47,7 +47,8 @@ returns-5 : tie.Need-returns-5
 unfolding short
 returns-5 c =
     rw (
-      sym (c .before .before .before .before .before .before .before .before .before .vertices-short .ensures) ∙ c .before .before .before .before .before .before .before .before .if1 .left,
+      sym (c .before .before .before .before .before .before .before .before .before .vertices-short .ensures) ∙ c .before .before .before .before .before
+          .before .before .before .if1 .left,
       le-ltb _ _ (c .before .before .before .before .before .before .if2 .left),
       le-ltb _ _ (c .before .before .before .before .if3 .left),
       le-ltb _ _ (c .before .before .if4 .left),
@@ -58,7 +59,8 @@ returns-6 : tie.Need-returns-6
 unfolding short
 returns-6 c =
     rw (
-      sym (c .before .before .before .before .before .before .before .before .before .before .before .vertices-short .ensures) ∙ c .before .before .before .before .before .before .before .before .before .before .if1 .left,
+      sym (c .before .before .before .before .before .before .before .before .before .before .before .vertices-short .ensures) ∙ c .before .before .before
+          .before .before .before .before .before .before .before .if1 .left,
       le-ltb _ _ (c .before .before .before .before .before .before .before .before .if2 .left),
       le-ltb _ _ (c .before .before .before .before .before .before .if3 .left),
       le-ltb _ _ (c .before .before .before .before .if4 .left),
@@ -73,7 +75,8 @@ returns-7 : tie.Need-returns-7
 unfolding short
 returns-7 c =
     rw (
-      sym (c .before .before .before .before .before .before .before .before .before .before .before .before .before .vertices-short .ensures) ∙ c .before .before .before .before .before .before .before .before .before .before .before .before .if1 .left,
+      sym (c .before .before .before .before .before .before .before .before .before .before .before .before .before .vertices-short .ensures) ∙ c .before
+          .before .before .before .before .before .before .before .before .before .before .before .if1 .left,
       le-ltb _ _ (c .before .before .before .before .before .before .before .before .before .before .if2 .left),
       le-ltb _ _ (c .before .before .before .before .before .before .before .before .if3 .left),
       le-ltb _ _ (c .before .before .before .before .before .before .if4 .left),
@@ -89,7 +92,8 @@ returns-8 : tie.Need-returns-8
 unfolding short
 returns-8 c =
     rw (
-      sym (c .before .before .before .before .before .before .before .before .before .before .before .before .before .before .vertices-short .ensures) ∙ c .before .before .before .before .before .before .before .before .before .before .before .before .before .if1 .left,
+      sym (c .before .before .before .before .before .before .before .before .before .before .before .before .before .before .vertices-short .ensures) ∙ c
+          .before .before .before .before .before .before .before .before .before .before .before .before .before .if1 .left,
       le-ltb _ _ (c .before .before .before .before .before .before .before .before .before .before .before .if2 .left),
       le-ltb _ _ (c .before .before .before .before .before .before .before .before .before .if3 .left),
       le-ltb _ _ (c .before .before .before .before .before .before .before .if4 .left),

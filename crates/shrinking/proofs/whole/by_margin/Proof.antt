@@ -15,7 +15,11 @@ slice-aggregate-shrink-2 : tie.Need-slice-aggregate-shrink-2
 slice-aggregate-shrink-2 c = search needs
 
 shrink-requires : tie.Need-shrink-requires
-shrink-requires c κs = shrinkable (c .before .before .before .before .before .before .before .before .before .before .before .before .before .before .before .before .before .before .before .before .before .pre) _ _ _ _ (c .before .before .before .before .before .before .before .before .before .before .compact .kept .1 .1 .0) (c .before .before .before .before .before .before .before .before .before .before .compact .ensures .0) (c .before .before .before .before .before .before .before .before .before .before .compact .ensures .1) (omega arith) (omega arith)
+shrink-requires c κs =
+    let t = c .before .before .before .before .before .before .before .before .before .before in
+    let r = t .compact in
+    shrinkable (t .before .before .before .before .before .before .before .before .before .before .before .pre) _ _ _ _ (r .kept .1 .1 .0) (r .ensures .0)
+    (r .ensures .1) (omega arith) (omega arith)
 
 same-length : tie.Need-same-length
 same-length c = search needs

@@ -24,7 +24,10 @@ enum-told : tie.Need-enum-told
 enum-told c = search needs
 
 by-normals-requires : tie.Need-by-normals-requires
-by-normals-requires c κs = placeable (c .before .before .before .before .before .before .before .before .before .before .before .before .before .before .before .before .before .before .before .before .before .before .before .before .before .before .before .before .before .before .before .before .pre) (c .before .before .before .before .before .before .before .before .before .before .before .before .before .before .before .before .before .before .before .before .before .before .before .before .before .before .before .before .before .before .before .before .args .geometry) _ (c .before .before .before .before .before .before .before .before .before .before .before .before .before .before .before .by-margin .kept .1 .1 .1 .1 .1 .1 .1 .1 .1 .1 .1 .0)
+by-normals-requires c κs =
+    let m = c .before .before .before .before .before .before .before .before .before .before .before .before .before .before .before in
+    let s = m .before .before .before .before .before .before .before .before .before .before .before .before .before .before .before .before .before in
+    placeable (s .pre) (s .args .geometry) _ (m .by-margin .kept .1 .1 .1 .1 .1 .1 .1 .1 .1 .1 .1 .0)
 
 same-length : tie.Need-same-length
 same-length c = search needs
@@ -46,10 +49,12 @@ same-length-6 c = search needs
 
 returns : tie.Need-returns
 returns c =
-    let s = c .before .before .before .before .before .before .before .before .before .before .before .before .before .before .before .before .before .before .before .before .before .before .before .before .before .before .before .before .before .before .before .before .before .before .before in
-    none-passed (s .args .geometry) (whole s)
-    (subst (λ (b : Bound). Shrunk b (whole s) (c .before .before .before .before .before .before .before .before .before .before .before .before .before .before .before .before .before .before .by-margin .last .1 .1 .1 .1 .1 .1 .1 .1 .1 .1 .1 .0) (c .before .before .before .before .before .before .before .before .before .before .before .before .before .before .before .before .before .before .by-margin .result)) (c .before .before .before .before .before .before .before .before .before .before .before .before .before .before .before .before .before .before .before .before .before .before .before .before .before .bound-of .ensures)
-    (c .before .before .before .before .before .before .before .before .before .before .before .before .before .before .before .before .before .before .by-margin .ensures)) _ (c .before .before .before .before .enum-told .given .1) (c .before .before .by-normals .ensures)
+    let m = c .before .before .before .before .before .before .before .before .before .before .before .before .before .before .before .before .before .before in
+    let s = m .before .before .before .before .before .before .before .before .before .before .before .before .before .before .before .before .before in
+    let r = m .by-margin in
+    let found = subst (λ (b : Bound). Shrunk b (whole s) (r .last .1 .1 .1 .1 .1 .1 .1 .1 .1 .1 .1 .0) (r .result)) (m .before .before .before .before
+    .before .before .before .bound-of .ensures) (r .ensures) in
+    none-passed (s .args .geometry) (whole s) found _ (c .before .before .before .before .enum-told .given .1) (c .before .before .by-normals .ensures)
 
 same-length-7 : tie.Need-same-length-7
 same-length-7 c = search needs
@@ -71,10 +76,12 @@ same-length-12 c = search needs
 
 returns-2 : tie.Need-returns-2
 returns-2 c =
-    let s = c .before .before .before .before .before .before .before .before .before .before .before .before .before .before .before .before .before .before .before .before .before .before .before .before .before .before .before .before .before .before .before .before in
-    passed (s .args .geometry) (whole s)
-    (subst (λ (b : Bound). Shrunk b (whole s) (c .before .before .before .before .before .before .before .before .before .before .before .before .before .before .before .by-margin .last .1 .1 .1 .1 .1 .1 .1 .1 .1 .1 .1 .0) (c .before .before .before .before .before .before .before .before .before .before .before .before .before .before .before .by-margin .result)) (c .before .before .before .before .before .before .before .before .before .before .before .before .before .before .before .before .before .before .before .before .before .before .bound-of .ensures)
-    (c .before .before .before .before .before .before .before .before .before .before .before .before .before .before .before .by-margin .ensures)) (c .before .found .given .0 .0) (c .before .found .given .1)
+    let m = c .before .before .before .before .before .before .before .before .before .before .before .before .before .before .before in
+    let s = m .before .before .before .before .before .before .before .before .before .before .before .before .before .before .before .before .before in
+    let r = m .by-margin in
+    let found = subst (λ (b : Bound). Shrunk b (whole s) (r .last .1 .1 .1 .1 .1 .1 .1 .1 .1 .1 .1 .0) (r .result)) (m .before .before .before .before
+    .before .before .before .bound-of .ensures) (r .ensures) in
+    passed (s .args .geometry) (whole s) found (c .before .found .given .0 .0) (c .before .found .given .1)
 
 pub shrunk-points-spec : {M : Type 1} → statement M
 shrunk-points-spec =
