@@ -9,7 +9,7 @@ use Rattle.float32.specs.Extremes.{minNumberOf}
 use Rattle.math.specs.declared.vec3.Vec3.{Vec3}
 use Rattle.rings.specs.Meshes.{Mesh}
 use Rattle.shrink.specs.Margins.{startOf, passing}
-use Rattle.shrink.specs.Searching.{passesAt}
+use Rattle.trial.specs.Trials.{passesAt}
 use Rattle.shrink.specs.Shrinking.{shrinkMargin}
 use Rattle.shrink.proofs.AllTried.{all-tried}
 use Rattle.shrinking.specs.declared.whole.Geometry.{Geometry}
