@@ -1,0 +1,2 @@
+pub mod Normals
+pub mod steps
