@@ -20,7 +20,7 @@ use Rattle.corners.specs.Corners.{none, inTurn, kindsKnown, isTriangle, 
 -- ---- what is written from the first place on
 
 -- what is written over as many leaves as many
-length-over : (written before : List ℕ) → length written ≤ length before → length (over written before) ≡ length before
+pub length-over : (written before : List ℕ) → length written ≤ length before → length (over written before) ≡ length before
 length-over written before h = omega (arith, length-append written (drop (length written) before), length-drop (length written) before)
 
 -- and what stands behind it as it was

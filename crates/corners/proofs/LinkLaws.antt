@@ -123,7 +123,7 @@ front-kept links bytes p j h k = by (isTriangle bytes p)
     by false = own
 
 module _ (n : ℕ) (links bytes : List ℕ) (room : 16 * n ≤ length bytes) where
-  byte-kept : (p j : ℕ) → p < n → j < 10 → getD (linksPut n links bytes) (16 * p + j) 0 ≡ getD bytes (16 * p + j) 0
+  pub byte-kept : (p j : ℕ) → p < n → j < 10 → getD (linksPut n links bytes) (16 * p + j) 0 ≡ getD bytes (16 * p + j) 0
   unfolding linksPut
   byte-kept p j h k =
       let records = linkedRecords n links bytes in
@@ -132,7 +132,7 @@ module _ (n : ℕ) (links bytes : List ℕ) (room : 16 * n ≤ length bytes) whe
       ∙ part-in-turn 16 (linkedRecord links bytes) n (λ q b. length-linked-record links bytes q (omega arith)) p j h (omega arith)
       ∙ front-kept links bytes p j (omega arith) k
 
-  two-kept : (p j : ℕ) → p < n → j < 9 → leAt 2 (linksPut n links bytes) (16 * p + j) ≡ leAt 2 bytes (16 * p + j)
+  pub two-kept : (p j : ℕ) → p < n → j < 9 → leAt 2 (linksPut n links bytes) (16 * p + j) ≡ leAt 2 bytes (16 * p + j)
   unfolding leAt
   two-kept p j h k =
       let next : 16 * p + j + 1 ≡ 16 * p + (j + 1) = omega arith in

@@ -179,7 +179,7 @@ bits-back b h = by (ltb b 32768) refl
     by false e = omega arith
 
 -- the word that was read is the word that is written
-word-back : (w : ℕ) → w < 2 ^ 32 → wordOr (ofBits binary32 w) w ≡ w
+pub word-back : (w : ℕ) → w < 2 ^ 32 → wordOr (ofBits binary32 w) w ≡ w
 unfolding wordOr
 word-back w h = by (isNan (ofBits binary32 w)) refl
   where
@@ -268,7 +268,7 @@ module _ (bytes : List ℕ) (each : (i : ℕ) → getD bytes i 0 < 256) where
   unfolding leAt
   two-lt k = omega (arith, each k, each (k + 1))
 
-  bytes-fit : (k : ℕ) → HalvesFit (halvesAt bytes k)
+  pub bytes-fit : (k : ℕ) → HalvesFit (halvesAt bytes k)
   unfolding halvesAt
   bytes-fit k =
       record {
@@ -327,7 +327,7 @@ module _ (bytes : List ℕ) (each : (i : ℕ) → getD bytes i 0 < 256) where
 
 -- ---- the entry point
 
-kind-written : (p : Polygon) (rest : List ℕ) → kindAt (polygonBytes p ++ rest) 0 ≤ 4
+pub kind-written : (p : Polygon) (rest : List ℕ) → kindAt (polygonBytes p ++ rest) 0 ≤ 4
 unfolding polygonBytes halvesBytes fourBytes littleEndian triangleHalves roundHalves boxHalves
 kind-written (Triangle area nan v1 v2 v3 e1 e2 e3) rest = omega arith
 kind-written (Sphere index radius nan) rest = omega arith

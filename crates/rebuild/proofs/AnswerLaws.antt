@@ -1,12 +1,12 @@
 -- What a rebuild answers: the build's answer over the boxes, which can only be a tree or that it has too many nodes, since no buffer is too short.
-use Prim.Native.Nat.{ℕ, _+_, _*_, _≤_, _<_}
+use Prim.Native.Nat.{ℕ, _+_, _*_, _≤_}
 use native.Mathlib.Omega.{arith}
 use mathlib.Core.Bool.{false}
 use mathlib.Core.List.{List}
 use mathlib.Core.Path.{_≡_, refl, sym, ap, subst, _∙_}
 use borrow.Author.Tests.{le-ltb}
 use lib.Ieee.{Float}
-use lib.ListN.{length, take, drop, length-append, length-drop}
+use lib.ListN.{length, take, drop}
 use lib.Seq.{take-at}
 use Rattle.base.specs.Lists.{over}
 use Rattle.bvh.specs.Build.{Entries, answerOf, short, kept, orderWritten}
@@ -15,6 +15,7 @@ use Rattle.bvh.specs.declared.core.Build.{Build}
 use Rattle.bvh.specs.declared.core.Build.the-variants.{Built, Refused}
 use Rattle.bvh.specs.declared.core.BuiltTree.{BuiltTree}
 use Rattle.bvh.specs.declared.core.Lengths.{Lengths}
+use Rattle.corners.proofs.CornerLaws.{length-over}
 use Rattle.polygon_items.specs.Items.{itemsOf}
 use Rattle.reorder.specs.Reordering.{rebuiltOf}
 use Rattle.reorder.specs.steps.Lent.{Rebuildable}
@@ -61,7 +62,7 @@ module _ (p : ℕ) (bytes ws : List ℕ) (few : p ≤ 32767) where
       let items = itemsOf p bytes ws in
       let many = length-items p bytes ws in
       let words : take (7 * p) held ≡ items = ap (take (7 * p)) q ∙ take-at items (drop (length items) entries) (7 * p) many in
-      let same : length held ≡ length entries = omega (arith, ap length q, length-append items (drop (length items) entries), length-drop (length items) entries) in
+      let same : length held ≡ length entries = ap length q ∙ length-over items entries (omega arith) in
       rw (words, same) at a
 
   module _ (l : Lent) (r : Build) (o o′ : Outputs) (b : BuildRoom p o l) (a : Answered e leafLimit (lengthsOf o l) r o o′) where

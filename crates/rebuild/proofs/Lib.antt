@@ -1,2 +1,5 @@
 pub mod AnswerLaws
+pub mod LinkTrace
+pub mod MaterialOrder
 pub mod OrderLaws
+pub mod Unlinked

@@ -3,16 +3,16 @@
 use Prim.Native.Nat.{ℕ, zero, suc, _+_, _*_, _≤_, _<_}
 use native.Mathlib.Nat.{add-zero}
 use native.Mathlib.Omega.{arith}
-use mathlib.Core.List.{List, [], _∷_}
+use mathlib.Core.List.{List, _∷_}
 use mathlib.Core.Path.{_≡_, refl, sym, ap, subst, _∙_}
-use lib.ListN.{length, getD, take, drop, length-append, length-drop}
+use lib.ListN.{length, getD, take, drop}
 use lib.Seq.{take-at}
 use Rattle.base.proofs.NumberLaws.{length-up}
 use Rattle.base.specs.Lists.{occurrences, Permutes, upFrom, Below, over}
 use Rattle.bvh.specs.Build.{Entries, treeOf, orderWritten}
 use Rattle.bvh.specs.Entry.{entriesIn}
 use Rattle.bvh.specs.Items.{marked}
-use Rattle.corners.proofs.CornerLaws.{length-in-turn, part-in-turn}
+use Rattle.corners.proofs.CornerLaws.{length-over, length-in-turn, part-in-turn}
 use Rattle.growth.proofs.GrowLaws.{leaf-order-permutes, leaf-order-length}
 use Rattle.growth.proofs.Lawful.{lawful}
 use Rattle.growth.specs.Grow.{builder}
@@ -101,6 +101,6 @@ module _ (p : ℕ) (bytes ws : List ℕ) where
         let order = orderWritten entries leafLimit in
         record {
           few = few;
-          long = omega (arith, ap length e, length-append order (drop (length order) before), length-drop (length order) before, order-length);
+          long = omega (arith, ap length e, length-over order before (omega (arith, order-length)));
           each-once = subst (λ (l : List ℕ). Permutes l (upFrom 0 p)) (sym order-taken) order-permutes;
         }

@@ -5,7 +5,7 @@ use native.Mathlib.Omega.{arith}
 use mathlib.Core.Bool.{Bool, true, false, cond}
 use mathlib.Core.List.{List, [], _∷_, map}
 use mathlib.Core.Logic.{⊎-elim}
-use mathlib.Core.Path.{_≡_, refl, sym, ap, ap₂, subst, _∙_}
+use mathlib.Core.Path.{_≡_, refl, sym, ap, subst, _∙_}
 use borrow.Author.Tests.{eq-eqb, leb-true, leb-false}
 use lib.Dec.{eqb, leb}
 use lib.ListN.{length, getD, take, set, length-map, length-set}
@@ -88,7 +88,7 @@ below-map n f [] h = tt
 below-map n f (x ∷ xs) h = (h x, below-map n f xs h)
 
 pub lookup-length : (n : ℕ) (order : List ℕ) → length (lookupOf n order) ≡ n
-lookup-length n order = length-map (upFrom 0 n) (placeIn order) ∙ length-up 0 n
+lookup-length n order = length-map (upFrom 0 n) _ ∙ length-up 0 n
 
 pub lookup-at : (n : ℕ) (order : List ℕ) (old : ℕ) → old < n → getD (lookupOf n order) old 0 ≡ placeIn order old
 lookup-at n order old h =

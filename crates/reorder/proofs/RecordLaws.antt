@@ -2,16 +2,16 @@
 use Prim.Native.Nat.{ℕ, _+_, _*_, _≤_, _<_}
 use native.Mathlib.Numerals.{add-one}
 use native.Mathlib.Omega.{arith}
-use mathlib.Core.List.{List, [], _∷_, _++_, map, map-append}
+use mathlib.Core.List.{List, [], _∷_, _++_, map-append}
 use mathlib.Core.Path.{_≡_, sym, ap, subst, _∙_}
 use borrow.Author.Tests.{lt-ltb, le-ltb}
-use lib.ListN.{length, getD, take, set, length-map, length-set}
+use lib.ListN.{length, getD, take, set, length-map}
 use lib.Seq.{sets, getD-take, length-take-le, take-suc}
 use Rattle.base.proofs.EveryLaws.{every-at}
 use Rattle.base.proofs.StoreLaws.{over-next, over-one}
 use Rattle.base.specs.Lists.{over, Below}
 use Rattle.corners.proofs.CornerLaws.{length-in-turn}
-use Rattle.corners.specs.Corners.{none, inTurn}
+use Rattle.corners.specs.Corners.{none}
 use Rattle.polygon.proofs.Sizes.{polygon-bytes}
 use Rattle.polygon.specs.Polygons.{polygonBytes, polygonAt}
 use Rattle.reorder.specs.Reordering.{inOrder, lookupOf, renumbered, relinked, movedTo, rebuiltRecord, rebuiltRecords}

@@ -5,7 +5,10 @@ use Rattle.rebuild.proofs.rebuild_bvh.Tie as tie
 use Rattle.rebuild.proofs.AnswerLaws.{over-boxes, rebuildable, rebuilt}
 use native.Mathlib.Omega.{arith}
 
--- from the call of the build: the call that makes the boxes, and the start
+-- the call of the build, from where its outputs are known; from there the call that makes the boxes, and the start
+abbrev build : tie.After-slice-known21 → tie.After-build-core
+build c = c .before .before .before .before .before .before .before .before .before .before .before .before .before .before .before .before
+
 abbrev boxes : tie.After-build-core → tie.After-put-entries
 boxes c = c .before .before .before .before .before .before .before .before .before .before .before .before .before .before
 
@@ -20,7 +23,7 @@ build-core-requires c κs = search needs
 
 put-records-requires : tie.Need-put-records-requires
 put-records-requires c κs =
-    let at-build = c .before .before .before .before .before .before .before .before .before .before .before .before .before .before .before .before .before .before .before in
+    let at-build = build (c .before .before .before) in
     let at-boxes = boxes at-build in
     let s = start at-boxes in
     let a = s .args in
@@ -67,7 +70,7 @@ same-length-11 c = search needs
 returns : tie.Need-returns
 returns c =
     let at-records = c .before .before .before .before in
-    let at-build = (at-records .before .before .before .before .before .before .before .before .before .before .before .before .before .before .before .before .before .before .before .before) in
+    let at-build = build (at-records .before .before .before .before) in
     let at-boxes = boxes at-build in
     let s = start at-boxes in
     let a = s .args in
