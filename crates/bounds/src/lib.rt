@@ -2,6 +2,7 @@
 pub mod composites;
 pub mod geometry;
 pub mod octant_writing;
+pub mod shrunk;
 
 use answers::trees::BuildAnswer;
 use answers::walks::WalkAnswer;

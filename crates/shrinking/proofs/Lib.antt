@@ -1,0 +1,3 @@
+pub mod LoopLaws
+mod WholeLaws
+pub mod WorkLaws

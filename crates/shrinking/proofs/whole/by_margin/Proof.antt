@@ -1,0 +1,55 @@
+-- `whole::by_margin` meets its contract: what rules S1 to S8 ask, by the laws of WholeLaws.
+use borrow.Author.Needs.{needs}
+use Rattle.shrinking.proofs.whole.by_margin.Statement.{statement}
+use Rattle.shrinking.proofs.whole.by_margin.Tie as tie
+use Rattle.shrinking.proofs.WholeLaws.{shrinkable}
+use native.Mathlib.Omega.{arith}
+
+compact-requires : tie.Need-compact-requires
+compact-requires c κs = search needs
+
+slice-aggregate-shrink : tie.Need-slice-aggregate-shrink
+slice-aggregate-shrink c = search needs
+
+slice-aggregate-shrink-2 : tie.Need-slice-aggregate-shrink-2
+slice-aggregate-shrink-2 c = search needs
+
+shrink-requires : tie.Need-shrink-requires
+shrink-requires c κs = shrinkable (c .before .before .before .before .before .before .before .before .before .before .before .before .before .before .before .before .before .before .before .before .before .pre) _ _ _ _ (c .before .before .before .before .before .before .before .before .before .before .compact .kept .1 .1 .0) (c .before .before .before .before .before .before .before .before .before .before .compact .ensures .0) (c .before .before .before .before .before .before .before .before .before .before .compact .ensures .1) (omega arith) (omega arith)
+
+same-length : tie.Need-same-length
+same-length c = search needs
+
+same-length-2 : tie.Need-same-length-2
+same-length-2 c = search needs
+
+same-length-3 : tie.Need-same-length-3
+same-length-3 c = search needs
+
+same-length-4 : tie.Need-same-length-4
+same-length-4 c = search needs
+
+same-length-5 : tie.Need-same-length-5
+same-length-5 c = search needs
+
+same-length-6 : tie.Need-same-length-6
+same-length-6 c = search needs
+
+returns : tie.Need-returns
+returns c = search needs
+
+pub by-margin-spec : {M : Type 1} → statement M
+by-margin-spec =
+    tie.close
+    (tie.spec
+    compact-requires
+    slice-aggregate-shrink
+    slice-aggregate-shrink-2
+    shrink-requires
+    same-length
+    same-length-2
+    same-length-3
+    same-length-4
+    same-length-5
+    same-length-6
+    returns)
