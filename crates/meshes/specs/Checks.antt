@@ -53,6 +53,15 @@ checkIn b c l polygons ms =
     (cond (many c) (Fails TooMany) (cond (short c l) (Fails BufferTooShort) (checkWithin b c polygons ms)))
     (Fails UnknownKind)
 
+-- Each of the two entry points prepares one kind: the other's is refused with 6.
+unfoldable pub geometryCheck : Bound → Counts → Lengths → List ℕ → List ℕ → Check
+unfolding checkIn
+geometryCheck b c l polygons ms = cond (isBvh (b .kind)) (Fails UnknownKind) (checkIn b c l polygons ms)
+
+unfoldable pub bvhCheck : Bound → Counts → Lengths → List ℕ → List ℕ → Check
+unfolding checkIn
+bvhCheck b c l polygons ms = cond (isGeometry (b .kind)) (Fails UnknownKind) (checkIn b c l polygons ms)
+
 abbrev pub checkOf : Mesh → Lengths → Check
 checkOf g l = checkIn (g .bound) (g .counts) l (g .polygons) (materialsOf g)
 

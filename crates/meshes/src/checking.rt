@@ -14,7 +14,7 @@ use shrinking::whole::Geometry;
 ghost use mathlib.Core.Path.{_≡_};
 ghost use mathlib.Core.Bool.{_||_};
 ghost use Rattle.materials.specs.Materials.{valuesOf};
-ghost use Rattle.meshes.specs.Checks.{isGeometry, isBvh, many, endless, checkWithin, checkIn};
+ghost use Rattle.meshes.specs.Checks.{isGeometry, isBvh, many, endless, checkWithin, checkIn, geometryCheck, bvhCheck};
 ghost use Rattle.meshes.specs.Meshes.{boxOf, geometryOf};
 ghost use Rattle.meshes.specs.Sizes.{inputsShort, listsShort, hullShort, treeShort, wordsShort, floatsShort, short};
 ghost use Rattle.meshes.specs.steps.Few.{Few, Measured, Readable};
@@ -251,4 +251,42 @@ pub fn refusal(
         return Check::Fails(PrepareRefusal::BufferTooShort);
     }
     refusal_within(bound, c, polygons, numbers, mats)
+}
+
+// The first check that fails where kind 4 is prepared: kind 8 is not for it.
+pub fn geometry_refusal(
+    bound: Bound,
+    c: Counts,
+    l: Lengths,
+    polygons: &[u8],
+    numbers: &[u8],
+    mats: &[u32],
+) -> Check
+    requires { ⌜ Measured l (now polygons) (now numbers) (now mats) ⌝ }
+    ensures { λ r. ⌜ r ≡ geometryCheck bound c l (now (polygons .entry))
+        (valuesOf (c .materials) (now (mats .entry)) (c .polygons) (now (numbers .entry))) ⌝ }
+{
+    if bound.kind == 8 {
+        return Check::Fails(PrepareRefusal::UnknownKind);
+    }
+    refusal(bound, c, l, polygons, numbers, mats)
+}
+
+// The same for kind 8: kind 4 is not for it.
+pub fn bvh_refusal(
+    bound: Bound,
+    c: Counts,
+    l: Lengths,
+    polygons: &[u8],
+    numbers: &[u8],
+    mats: &[u32],
+) -> Check
+    requires { ⌜ Measured l (now polygons) (now numbers) (now mats) ⌝ }
+    ensures { λ r. ⌜ r ≡ bvhCheck bound c l (now (polygons .entry))
+        (valuesOf (c .materials) (now (mats .entry)) (c .polygons) (now (numbers .entry))) ⌝ }
+{
+    if bound.kind == 4 {
+        return Check::Fails(PrepareRefusal::UnknownKind);
+    }
+    refusal(bound, c, l, polygons, numbers, mats)
 }
