@@ -15,7 +15,7 @@ use Rattle.meshes.specs.declared.Counts.{Counts}
 use Rattle.meshes.specs.declared.Lengths.{Lengths}
 use Rattle.meshes.specs.declared.PrepareRefusal.{PrepareRefusal}
 use Rattle.meshes.specs.declared.PrepareRefusal.the-variants.{UnknownKind, TooMany, BufferTooShort, UnknownPolygon, TooManyMaterials, InfiniteMargin}
-use Rattle.meshes.specs.Checks.{isGeometry, isBvh, many, full, endless, checkWithin, checkIn}
+use Rattle.meshes.specs.Checks.{isGeometry, isBvh, many, full, endless, checkWithin, checkIn, geometryCheck, bvhCheck}
 use Rattle.meshes.specs.Sizes.{inputsShort, listsShort, hullShort, treeShort, wordsShort, floatsShort, short, workWords}
 use Rattle.meshes.specs.steps.Few.{Few}
 
@@ -287,3 +287,34 @@ module _ (b : Bound) (c : Counts) (l : Lengths) (polygons ms : List ℕ) where
       let w = whole-passed either (many c) (short c l) (checkWithin b c polygons ms) e in
       let i = within-passed (kindsKnown (c .polygons) polygons) (full ms) (endless b (c .vertices)) (w .3) in
       record { kind = w .0; few = few c (w .1); enough = enough c l (w .2); known = i .0; not-full = i .1; ends = i .2 }
+
+-- ---- of one kind
+
+own : (t : Bool) (x : Check) → t ≡ false → x ≡ cond t (Fails UnknownKind) x
+own t x h = rw h
+
+own-passed : (t : Bool) (x : Check) → cond t (Fails UnknownKind) x ≡ Passed → (t ≡ false) × (x ≡ Passed)
+own-passed true x h = absurd (not-passed UnknownKind h)
+own-passed false x h = (refl, h)
+
+module _ (b : Bound) (c : Counts) (l : Lengths) (polygons ms : List ℕ) where
+  pub geometry-own : isBvh (b .kind) ≡ false → checkIn b c l polygons ms ≡ geometryCheck b c l polygons ms
+  unfolding geometryCheck
+  geometry-own = own (isBvh (b .kind)) (checkIn b c l polygons ms)
+
+  pub bvh-own : isGeometry (b .kind) ≡ false → checkIn b c l polygons ms ≡ bvhCheck b c l polygons ms
+  unfolding bvhCheck
+  bvh-own = own (isGeometry (b .kind)) (checkIn b c l polygons ms)
+
+  -- what passes is of the kind, and sound
+  pub geometry-sound : geometryCheck b c l polygons ms ≡ Passed → (isBvh (b .kind) ≡ false) × Sound b c l polygons ms
+  unfolding geometryCheck
+  geometry-sound e =
+      let o = own-passed (isBvh (b .kind)) (checkIn b c l polygons ms) e in
+      (o .0, sound b c l polygons ms (o .1))
+
+  pub bvh-sound : bvhCheck b c l polygons ms ≡ Passed → (isGeometry (b .kind) ≡ false) × Sound b c l polygons ms
+  unfolding bvhCheck
+  bvh-sound e =
+      let o = own-passed (isGeometry (b .kind)) (checkIn b c l polygons ms) e in
+      (o .0, sound b c l polygons ms (o .1))
