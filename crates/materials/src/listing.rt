@@ -4,8 +4,8 @@ ghost use mathlib.Core.Path.{_≡_};
 ghost use Prim.Native.Nat.{_+_, _*_, _≤_, _<_};
 ghost use lib.ListN.{length, take, getD};
 ghost use Rattle.base.specs.Lists.{over};
-ghost use Rattle.materials.specs.Materials.{valueAt, valuesOf, placeIn, materialsBytes};
-ghost use Rattle.materials.specs.steps.Listing.{Placed, Fits, bucketOf, Marked, Entered, Given, Empty, Indexed};
+ghost use Rattle.materials.specs.Materials.{valueAt, valuesOf, placeIn, listOf, materialsBytes};
+ghost use Rattle.materials.specs.steps.Listing.{Placed, Fits, bucketOf, Marked, Entered, Given, Countable, Empty, Indexed};
 
 fn wide(byte: u8) -> usize
     ensures { λ r. ⌜ (r ≡ byte) × (r < 256) ⌝ }
@@ -128,6 +128,38 @@ pub fn dedupe(
 {
     let mut table = [0u32; 1280];
     index_all(numbers, n, mats, m, &mut table, list, indices)
+}
+
+// How many materials n polygons use, each counted once. The table begins with nothing.
+fn count_all(
+    numbers: &[u8],
+    n: usize,
+    mats: &[u32],
+    m: usize,
+    table: &mut [u32],
+    list: &mut [u64],
+) -> usize
+    requires { ⌜ (Countable n m (now numbers) (now mats) (now list)) × (Empty (now table)) ⌝ }
+    ensures { λ r. ⌜ r ≡ length (listOf (valuesOf m (now (mats .entry)) n (now (numbers .entry)))) ⌝ }
+{
+    let mut count = 0;
+    let mut p = 0;
+    while p < n {
+        let b = wide(numbers[p]);
+        count = enter(table, b, value_at(mats, m, b), list, count);
+        p += 1;
+    }
+    count
+}
+
+// The same, with a table and a list of its own: nothing that is lent is written.
+pub fn count_materials(numbers: &[u8], n: usize, mats: &[u32], m: usize) -> usize
+    requires { ⌜ (n ≤ length (now numbers)) × (m ≤ 256) × (2 * m ≤ length (now mats)) ⌝ }
+    ensures { λ r. ⌜ r ≡ length (listOf (valuesOf m (now (mats .entry)) n (now (numbers .entry)))) ⌝ }
+{
+    let mut table = [0u32; 1280];
+    let mut list = [0u64; 256];
+    count_all(numbers, n, mats, m, &mut table, &mut list)
 }
 
 // The first `count` materials of the list as bytes.

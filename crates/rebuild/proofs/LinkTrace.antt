@@ -14,6 +14,8 @@ use Rattle.base.proofs.EveryLaws.{every-at}
 use Rattle.base.proofs.Truth.{both-yes}
 use Rattle.base.specs.LittleEndian.{leAt}
 use Rattle.base.specs.Lists.{Below}
+use Rattle.bvh.specs.Build.{orderWritten}
+use Rattle.bvh.specs.Entry.{entriesIn}
 use Rattle.corners.proofs.CornerLaws.{length-in-turn, part-in-turn, length-linked, length-linked-record}
 use Rattle.corners.proofs.LinkLaws.{links-forget, byte-kept, two-kept, in-turn-same}
 use Rattle.corners.specs.Corners.{inTurn, kindsKnown, isTriangle, cornersOf, linkBytes, linkedRecord, linkedRecords, linksPut}
@@ -27,7 +29,9 @@ use Rattle.polygon.specs.declared.Polygon.{Polygon}
 use Rattle.polygon_boxes.specs.Boxes.{bboxOf}
 use Rattle.polygon_items.specs.Items.{itemWords, itemAt, itemsOf}
 use Rattle.reorder.proofs.ReadAgain.{record-in-turn}
-use Rattle.reorder.specs.Reordering.{relinked, movedTo, reorderedOf, rebuiltRecords}
+use Rattle.reorder.specs.Reordering.{relinked, movedTo, reorderedOf, rebuiltRecords, rebuiltOf, lookupOf}
+use Rattle.rebuild.specs.Rebuilding.{leafLimit}
+use Rattle.rebuild.proofs.OrderLaws.{order-length, places-below}
 use Rattle.rebuild.proofs.Unlinked.{unlinked, relinked-alike, box-alike, recordLinked, record-alike, triangles-alike}
 
 -- ---- records one after the other
@@ -205,3 +209,12 @@ module _ (n : ℕ) (order lookup bytes : List ℕ) where
       polygons-alike n (λ k. relinked lookup (movedTo order first k)) (movedTo order bytes)
       (λ k h. relinked-alike lookup (movedTo order first k)
       ∙ read-alike n links bytes room (getD order k 0) (every-at (λ x. x < n) order k below (omega arith)))
+
+-- The source's steps, links, tree, order, renumbering, links again, are one pass over the given polygons in the order of the leaves.
+pub both-passes-are-one : (n : ℕ) (bytes ws : List ℕ) → 16 * n ≤ length bytes
+    → linked n (rebuiltOf n (orderWritten (entriesIn n (itemsOf n (linked n bytes) ws)) leafLimit) (linked n bytes))
+    ≡ linked n (reorderedOf n (orderWritten (entriesIn n (itemsOf n bytes ws)) leafLimit) bytes)
+both-passes-are-one n bytes ws room =
+    let order = orderWritten (entriesIn n (itemsOf n bytes ws)) leafLimit in
+    ap (λ (items : List ℕ). linked n (rebuiltOf n (orderWritten (entriesIn n items) leafLimit) (linked n bytes))) (boxes-without-links n bytes ws room)
+    ∙ first-pass-leaves-no-trace n order (lookupOf n order) bytes room (omega (arith, order-length n bytes ws)) (places-below n bytes ws)

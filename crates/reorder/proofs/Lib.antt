@@ -1,3 +1,4 @@
+pub mod Examples
 pub mod LookupLaws
 pub mod ReadAgain
 pub mod RecordLaws

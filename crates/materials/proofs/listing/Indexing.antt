@@ -1,12 +1,12 @@
 -- The loop of `index_all`: the polygons before p have their indices, and the table has the place of each material that has come.
-use Prim.Native.Nat.{ℕ, suc, _+_, _≤_, _<_}
+use Prim.Native.Nat.{ℕ, suc, _+_, _-_, _≤_, _<_}
 use native.Mathlib.Omega.{arith}
 use native.Mathlib.Numerals.{add-one}
 use mathlib.Core.Path.{_≡_, refl, sym, ap, subst, _∙_}
 use mathlib.Core.Bool.{Bool, true, false}
 use mathlib.Core.List.{List, [], _∷_, _++_, map, map-append}
 use lib.Dec.{eqb}
-use lib.ListN.{length, getD, set, take, length-set, length-map}
+use lib.ListN.{length, getD, set, take, replicate, length-set, length-map, length-replicate}
 use lib.Seq.{length-take-le, take-suc}
 use borrow.Author.Tests.{eqb-true, eqb-false}
 use Rattle.base.specs.Lists.{over, Below}
@@ -145,3 +145,26 @@ ended value numbers indices₀ table list indices count p n g e =
       listed = g .listed;
       indexed = g .indexed;
     })
+
+-- ---- where only the materials are counted: the indices are thought of, and none is stored
+
+pub record Counting (value : ℕ → ℕ) (numbers table list : List ℕ) (n count p : ℕ) : Type 0 where
+  pub indices : List ℕ
+  pub indexing : Indexing value numbers (replicate n 0) table list indices count p
+
+pub count-start : (value : ℕ → ℕ) (numbers table list : List ℕ) (n : ℕ) → Empty table → length list ≡ 256 → Counting value numbers table list n 0 0
+count-start value numbers table list n e l = record { indices = replicate n 0; indexing = start value numbers (replicate n 0) table list e l }
+
+pub count-more : (value : ℕ → ℕ) (numbers table list : List ℕ) (n count p : ℕ) (g : Counting value numbers table list n count p) (h : p < length numbers)
+    (b : ℕ) (e : b ≡ getD numbers p 0) (small : b < 256) (table′ list′ : List ℕ) (r : ℕ) → length table′ ≡ length table → length list′ ≡ length list
+    → Entered b (value b) table table′ (take count list) list′ r → p < n → Counting value numbers table′ list′ n r (p + 1)
+count-more value numbers table list n count p g h b e small table′ list′ r t l entered room =
+    let i = getD table′ b 0 - 1 in
+    let there : 1 ≤ getD table′ b 0 =
+    set-there value numbers (replicate n 0) table list (g .indices) count p (g .indexing) h b e small table′ list′ r t l entered in
+    record {
+      indices = set (g .indices) p i;
+      indexing =
+          one-more value numbers (replicate n 0) table list (g .indices) count p (g .indexing) h b e small table′ list′ r t l entered i (omega (arith, there))
+          (omega (arith, length-replicate {A = ℕ} n 0));
+    }

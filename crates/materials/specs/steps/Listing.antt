@@ -41,6 +41,13 @@ pub record Given (n m : ℕ) (numbers mats list indices : List ℕ) : Type 0 whe
   pub for-list : length list ≡ 256
   pub for-indices : n ≤ length indices
 
+-- the same, but for the indices
+pub record Countable (n m : ℕ) (numbers mats list : List ℕ) : Type 0 where
+  pub numbered : n ≤ length numbers
+  pub few : m ≤ 256
+  pub given : 2 * m ≤ length mats
+  pub for-list : length list ≡ 256
+
 -- a table without a place
 pub record Empty (table : List ℕ) : Type 0 where
   pub whole : length table ≡ 1280

@@ -1,0 +1,3 @@
+pub mod Filled
+pub mod Stored
+pub mod steps

@@ -1,0 +1,3 @@
+pub mod LinkedLaws
+mod Meshing
+pub mod WrittenLaws

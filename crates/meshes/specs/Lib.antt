@@ -1,0 +1,4 @@
+pub mod Checks
+pub mod Meshes
+pub mod Sizes
+pub mod steps

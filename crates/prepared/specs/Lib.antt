@@ -1,0 +1,5 @@
+pub mod Answers
+pub mod Prepared
+pub mod Rebuilt
+pub mod Shrunk
+pub mod steps
