@@ -82,9 +82,9 @@ Of the library a call of `bounds::shrink::calculate_verts_shrunk_in`, from recor
 and again; of the reference `update_edge_indices` and `calculate_verts_shrunk`. A sphere, of twice as many triangles, passes
 with the first margin: two rays for each vertex and triangle. The thin shell is two sheets 0.01 apart with a margin of 1,
 which is halved until they do not meet. Where the last vertices fail, those of two squares beside a sphere of so many
-vertices, each margin before the 14th is found too large only there. The mesh with one bad triangle, one of whose corners is
-not there, passes with no margin, and nearly all of its vertices have rings of 63 triangles, whose normals are tried three by
-three. Instructions are those of one vertex.
+vertices, each margin before the 14th is found too large only there. Nearly all vertices of the mesh with long rings have
+rings of 63 triangles, whose normals are tried three by three; the mesh with one bad triangle has beside these one with a
+corner that is not there, so that no margin passes. Instructions are those of one vertex.
 ";
 
 const OCTANTS: &str = "\

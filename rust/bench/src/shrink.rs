@@ -17,6 +17,7 @@ pub fn all() -> Vec<Subject> {
         row("shrink, sphere", SPHERES, &SPHERES[..1], |n, _| shrinks(ball(n).geometry(4, 0.04))),
         row("shrink, thin shell", &[200, 2_048], &[200], |n, _| shrinks(shell(n))),
         row("shrink, last vertices fail", &SPHERES[..2], &[], |n, _| shrinks(late(n).geometry(4, 0.04))),
+        row("shrink, long rings", &[200], &[], |n, _| shrinks(rings(n).geometry(4, 0.5))),
         row("shrink, one bad triangle", &[200], &[], |n, _| {
             let mut mesh = rings(n);
             mesh.triangles.push([0, 1, n]);
