@@ -32,7 +32,7 @@ use Rattle.reorder.proofs.LookupLaws.{new-of-old, among-at}
 use Rattle.tree.proofs.AnswerLaws.{Listed, words-listed, built-passed}
 use Rattle.tree.proofs.PointThree.{records-well-formed, walk-delivers}
 use Rattle.tree.specs.Pair.{outcomeOf, boxValues, Delivered}
-use Rattle.tree.specs.WellFormed.{WellFormed, countFor, itemsAt}
+use Rattle.tree.specs.WellFormed.{itemsAt}
 use Rattle.walk.specs.Walks.{Outcome, walkOf, countsOf, Promise}
 use Rattle.walk.specs.declared.core.Counts.{Counts}
 use Rattle.walk.specs.declared.core.Walk.{Walk}

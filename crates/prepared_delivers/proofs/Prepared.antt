@@ -2,11 +2,11 @@
 -- passed and of the tree that was written, and of these Delivers speaks.
 use Prim.Native.Nat.{ℕ, _<_}
 use native.Mathlib.Omega.{arith}
-use mathlib.Core.Bool.{Bool, true, false, cond, not, _&&_, _||_}
+use mathlib.Core.Bool.{Bool, true, false, cond, not, _||_}
 use mathlib.Core.List.{List}
 use mathlib.Core.Path.{_≡_, refl, sym, ap, subst, _∙_}
 use lib.Dec.{eqb}
-use lib.ListN.{length, getD}
+use lib.ListN.{getD}
 use Rattle.base.proofs.Truth.{both-yes}
 use Rattle.base.specs.Lists.{over, oneIf}
 use Rattle.bvh.specs.Build.{nodesWritten, treesWritten, orderWritten}
