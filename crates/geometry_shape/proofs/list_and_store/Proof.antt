@@ -2,10 +2,6 @@
 use borrow.Author.Needs.{needs}
 use Rattle.geometry_shape.proofs.list_and_store.Statement.{statement}
 use Rattle.geometry_shape.proofs.list_and_store.Tie as tie
-use Rattle.geometry_shape.proofs.list_and_store.Reads as reads
-use Rattle.geometry_shape.proofs.list_and_store.Lts as lts
-use Rattle.finishing.proofs.storing.put_stored.Reads as put-stored-reads
-use Rattle.octants.proofs.lists.list_octants.Reads as list-octants-reads
 use Rattle.geometry_shape.proofs.Shaping.{left}
 
 list-octants-requires : tie.Need-list-octants-requires
@@ -39,7 +35,10 @@ same-length-8 : tie.Need-same-length-8
 same-length-8 c = search needs
 
 returns : tie.Need-returns
-returns c = left _ _ _ _ _ _ _ _ _ _ (c .before .before .before .before .before .before .before .before .before .before .before .before .before .before .before .before .before .before .before .list-octants .ensures) (c .before .before .before .before .put-stored .ensures)
+returns c =
+    let stored = c .before .before .before .before in
+    let listed = stored .before .before .before .before .before .before .before .before .before .before .before .before .before .before .before in
+    left _ _ _ _ _ _ _ _ _ _ (listed .list-octants .ensures) (stored .put-stored .ensures)
 
 pub list-and-store-spec : {M : Type 1} → statement M
 list-and-store-spec =

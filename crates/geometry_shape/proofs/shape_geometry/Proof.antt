@@ -2,14 +2,27 @@
 use borrow.Author.Needs.{needs}
 use Rattle.geometry_shape.proofs.shape_geometry.Statement.{statement}
 use Rattle.geometry_shape.proofs.shape_geometry.Tie as tie
-use Rattle.geometry_shape.proofs.shape_geometry.Reads as reads
-use Rattle.geometry_shape.proofs.shape_geometry.Lts as lts
-use Rattle.geometry_shape.proofs.shrink_and_store.Reads as shrink-and-store-reads
-use Rattle.linking.proofs.link_mesh.Reads as link-mesh-reads
 use Prim.Native.Nat.{_*_}
 use mathlib.Core.Path.{sym, _∙_}
 use lib.Seq.{length-take-le}
 use Rattle.geometry_shape.proofs.Shaping.{shapeable, shaped, empty}
+
+-- the last call, from where all is known; the first, from where it is done and from the last; and the start
+abbrev storing : tie.After-slice-known31 → tie.After-shrink-and-store
+storing c =
+    let d : tie.After-slice-known25 = c .before .before .before .before .before .before .before .before .before .before .before .before in
+    d .before .before .before .before .before .before .before .before .before .before .before .before
+
+abbrev linking : tie.After-slice-known19 → tie.After-link-mesh
+linking c = c .before .before .before .before .before .before .before .before .before .before .before .before
+
+abbrev earlier : tie.After-shrink-and-store → tie.After-link-mesh
+earlier c = linking (c .before .before .before .before .before .before .before .before .before .before .before .before .before .before)
+
+abbrev start : tie.After-link-mesh → tie.Start
+start c =
+    let d : tie.After-slice-known8 = c .before .before .before .before .before .before .before .before .before .before .before .before in
+    d .before .before .before .before .before .before .before .before .before .before
 
 link-mesh-requires : tie.Need-link-mesh-requires
 link-mesh-requires c κs = search needs
@@ -34,8 +47,10 @@ same-length-6 c = search needs
 
 returns : tie.Need-returns
 returns c =
-    let a = c .before .before .before .before .before .before .before .before .before .before .before .before .before .before .before .before .before .before .before .before .before .before .before .before .before .before .before .before .before .before .before .before .before .before .before .args in
-    empty (a .counts .polygons) (a .counts .vertices) (a .polygons .now) _ _ _ _ (c .before .before .before .before .before .before .before .before .before .before .before .before .before .link-mesh .ensures) (a .bound) (a .quantum) (a .vertices .now) (c .if1 .taken) _
+    let l = linking (c .before) in
+    let a = start l .args in
+    empty (a .counts .polygons) (a .counts .vertices) (a .polygons .now) _ _ _ _ (l .link-mesh .ensures) (a .bound) (a .quantum) (a .vertices .now)
+    (c .if1 .taken) _
 
 mul-shrink-and-store : tie.Need-mul-shrink-and-store
 mul-shrink-and-store c = search needs
@@ -45,16 +60,20 @@ slice-relend-prefix-shrink-and-store c = search needs
 
 slice-aggregate-shrink-and-store : tie.Need-slice-aggregate-shrink-and-store
 slice-aggregate-shrink-and-store c =
-    let s = c .before .before .before .before .before .before .before .before .before .before .before .before .before .before .before .before .before .before .before .before .before .before .before .before .before .before .before .before .before .before .before .before .before .before .before .before .before .before .before .before .before .before .before .before in
+    let s = start (linking (c .before .before .before .before .before .before .before .before .before .before)) in
     sym (length-take-le (3 * s .args .counts .vertices) (s .args .points .now) (s .pre .for-points))
 
 shrink-and-store-requires : tie.Need-shrink-and-store-requires
 shrink-and-store-requires c κs =
-    let k = c .before .before .before .before .before .before .before .before .before .before .before .before .before .before .before .before .before .before .before .before .before .before .before .before .before .link-mesh .kept in
-    shapeable _ _ _ _ _ _ _ (c .before .before .before .before .before .before .before .before .before .before .before .before .before .before .before .before .before .before .before .before .before .before .before .before .before .link-mesh .ensures) (c .before .before .before .before .before .before .before .before .before .before .before .before .before .before .before .before .before .before .before .before .before .before .before .before .before .before .before .before .before .before .before .before .before .before .before .before .before .before .before .before .before .before .before .before .before .before .before .pre) _ _ _ (k .1 .1 .1 .0) (k .1 .1 .1 .1 .0) (k .1 .1 .1 .1 .1 .0) (k .1 .1 .1 .1 .1 .1 .0) (k .1 .1 .1 .1 .1 .1 .1 .0)
+    let l = linking (c .before .before .before .before .before .before .before .before .before .before .before .before .before) in
+    let k = l .link-mesh .kept in
+    shapeable _ _ _ _ _ _ _ (l .link-mesh .ensures) (start l .pre) _ _ _ (k .1 .1 .1 .0) (k .1 .1 .1 .1 .0) (k .1 .1 .1 .1 .1 .0) (k .1 .1 .1 .1 .1 .1 .0)
+    (k .1 .1 .1 .1 .1 .1 .1 .0)
 
 same-length-7 : tie.Need-same-length-7
-same-length-7 c = c .before .before .before .before .before .before .before .before .before .before .before .before .before .before .before .before .before .before .before .before .before .before .before .before .before .before .before .before .before .before .before .before .before .before .before .before .before .before .before .before .before .before .before .before .before .before .before .before .before .before .link-mesh .kept .1 .1 .0
+same-length-7 c =
+    let s = storing c in
+    earlier s .link-mesh .kept .1 .1 .0
 
 same-length-8 : tie.Need-same-length-8
 same-length-8 c = search needs
@@ -66,19 +85,29 @@ same-length-10 : tie.Need-same-length-10
 same-length-10 c = search needs
 
 same-length-11 : tie.Need-same-length-11
-same-length-11 c = c .before .before .before .before .before .before .before .before .before .before .before .before .before .before .before .before .before .before .before .before .before .before .before .before .shrink-and-store .kept .1 .1 .1 .1 .1 .1 .1 .1 .0 ∙ c .before .before .before .before .before .before .before .before .before .before .before .before .before .before .before .before .before .before .before .before .before .before .before .before .before .before .before .before .before .before .before .before .before .before .before .before .before .before .before .before .before .before .before .before .before .before .before .before .before .before .link-mesh .kept .1 .1 .1 .0
+same-length-11 c =
+    let s = storing c in
+    s .shrink-and-store .kept .1 .1 .1 .1 .1 .1 .1 .1 .0 ∙ earlier s .link-mesh .kept .1 .1 .1 .0
 
 same-length-12 : tie.Need-same-length-12
-same-length-12 c = c .before .before .before .before .before .before .before .before .before .before .before .before .before .before .before .before .before .before .before .before .before .before .before .before .shrink-and-store .kept .1 .1 .1 .1 .1 .1 .1 .1 .1 .0 ∙ c .before .before .before .before .before .before .before .before .before .before .before .before .before .before .before .before .before .before .before .before .before .before .before .before .before .before .before .before .before .before .before .before .before .before .before .before .before .before .before .before .before .before .before .before .before .before .before .before .before .before .link-mesh .kept .1 .1 .1 .1 .0
+same-length-12 c =
+    let s = storing c in
+    s .shrink-and-store .kept .1 .1 .1 .1 .1 .1 .1 .1 .1 .0 ∙ earlier s .link-mesh .kept .1 .1 .1 .1 .0
 
 same-length-13 : tie.Need-same-length-13
-same-length-13 c = c .before .before .before .before .before .before .before .before .before .before .before .before .before .before .before .before .before .before .before .before .before .before .before .before .shrink-and-store .kept .1 .1 .1 .1 .1 .1 .1 .1 .1 .1 .0 ∙ c .before .before .before .before .before .before .before .before .before .before .before .before .before .before .before .before .before .before .before .before .before .before .before .before .before .before .before .before .before .before .before .before .before .before .before .before .before .before .before .before .before .before .before .before .before .before .before .before .before .before .link-mesh .kept .1 .1 .1 .1 .1 .0
+same-length-13 c =
+    let s = storing c in
+    s .shrink-and-store .kept .1 .1 .1 .1 .1 .1 .1 .1 .1 .1 .0 ∙ earlier s .link-mesh .kept .1 .1 .1 .1 .1 .0
 
 same-length-14 : tie.Need-same-length-14
-same-length-14 c = c .before .before .before .before .before .before .before .before .before .before .before .before .before .before .before .before .before .before .before .before .before .before .before .before .shrink-and-store .kept .1 .1 .1 .1 .1 .1 .1 .1 .1 .1 .1 .0 ∙ c .before .before .before .before .before .before .before .before .before .before .before .before .before .before .before .before .before .before .before .before .before .before .before .before .before .before .before .before .before .before .before .before .before .before .before .before .before .before .before .before .before .before .before .before .before .before .before .before .before .before .link-mesh .kept .1 .1 .1 .1 .1 .1 .0
+same-length-14 c =
+    let s = storing c in
+    s .shrink-and-store .kept .1 .1 .1 .1 .1 .1 .1 .1 .1 .1 .1 .0 ∙ earlier s .link-mesh .kept .1 .1 .1 .1 .1 .1 .0
 
 same-length-15 : tie.Need-same-length-15
-same-length-15 c = c .before .before .before .before .before .before .before .before .before .before .before .before .before .before .before .before .before .before .before .before .before .before .before .before .shrink-and-store .kept .1 .1 .1 .1 .1 .1 .1 .1 .1 .1 .1 .1 .0 ∙ c .before .before .before .before .before .before .before .before .before .before .before .before .before .before .before .before .before .before .before .before .before .before .before .before .before .before .before .before .before .before .before .before .before .before .before .before .before .before .before .before .before .before .before .before .before .before .before .before .before .before .link-mesh .kept .1 .1 .1 .1 .1 .1 .1 .0
+same-length-15 c =
+    let s = storing c in
+    s .shrink-and-store .kept .1 .1 .1 .1 .1 .1 .1 .1 .1 .1 .1 .1 .0 ∙ earlier s .link-mesh .kept .1 .1 .1 .1 .1 .1 .1 .0
 
 same-length-16 : tie.Need-same-length-16
 same-length-16 c = search needs
@@ -94,8 +123,12 @@ same-length-19 c = search needs
 
 returns-2 : tie.Need-returns-2
 returns-2 c =
-    let a = c .before .before .before .before .before .before .before .before .before .before .before .before .before .before .before .before .before .before .before .before .before .before .before .before .before .before .before .before .before .before .before .before .before .before .before .before .before .before .before .before .before .before .before .before .before .before .before .before .before .before .before .before .before .before .before .before .before .before .before .before .before .before .before .before .before .before .before .before .before .before .before .before .args in
-    shaped (a .counts .polygons) (a .counts .vertices) (a .polygons .now) _ _ _ _ (c .before .before .before .before .before .before .before .before .before .before .before .before .before .before .before .before .before .before .before .before .before .before .before .before .before .before .before .before .before .before .before .before .before .before .before .before .before .before .before .before .before .before .before .before .before .before .before .before .before .before .link-mesh .ensures) (a .bound) (a .quantum) (a .vertices .now) (c .before .before .before .before .before .before .before .before .before .before .before .before .before .before .before .before .before .before .before .before .before .before .before .before .before .before .before .before .before .before .before .before .before .before .before .before .before .if1 .left) _ _ _ (c .before .before .before .before .before .before .before .before .before .before .before .before .before .before .before .before .before .before .before .before .before .before .before .before .shrink-and-store .ensures)
+    let s = storing c in
+    let tested = s .before .before .before .before .before .before .before .before .before .before .before .before .before in
+    let l = linking (tested .before) in
+    let a = start l .args in
+    shaped (a .counts .polygons) (a .counts .vertices) (a .polygons .now) _ _ _ _ (l .link-mesh .ensures) (a .bound) (a .quantum) (a .vertices .now)
+    (tested .if1 .left) _ _ _ (s .shrink-and-store .ensures)
 
 pub shape-geometry-spec : {M : Type 1} → statement M
 shape-geometry-spec =

@@ -2,20 +2,32 @@
 use borrow.Author.Needs.{needs}
 use Rattle.geometry_shape.proofs.shrink_and_store.Statement.{statement}
 use Rattle.geometry_shape.proofs.shrink_and_store.Tie as tie
-use Rattle.geometry_shape.proofs.shrink_and_store.Reads as reads
-use Rattle.geometry_shape.proofs.shrink_and_store.Lts as lts
-use Rattle.geometry_shape.proofs.list_and_store.Reads as list-and-store-reads
-use Rattle.geometry_shape.proofs.shrink_linked.Reads as shrink-linked-reads
 use mathlib.Core.Path.{_∙_}
 use Rattle.geometry_shape.proofs.Shaping.{after-shrinking, of-points}
+
+-- the last call, from where all is known; the first, from where it is done and from the last; and the start
+abbrev storing : tie.After-slice-known26 → tie.After-list-and-store
+storing c = c .before .before .before .before .before .before .before .before .before .before .before .before .before .before .before .before
+
+abbrev shrinking : tie.After-slice-known18 → tie.After-shrink-linked
+shrinking c = c .before .before .before .before .before .before .before .before .before .before .before .before
+
+abbrev earlier : tie.After-list-and-store → tie.After-shrink-linked
+earlier c = shrinking (c .before .before .before .before .before .before .before .before .before .before)
+
+abbrev start : tie.After-shrink-linked → tie.Start
+start c =
+    let d : tie.After-slice-known11 = c .before .before .before .before .before .before .before .before .before .before in
+    d .before .before .before .before .before .before .before .before .before .before .before .before
 
 shrink-linked-requires : tie.Need-shrink-linked-requires
 shrink-linked-requires c κs = search needs
 
 list-and-store-requires : tie.Need-list-and-store-requires
 list-and-store-requires c κs =
-    let k = c .before .before .before .before .before .before .before .before .before .before .before .before .before .before .before .before .before .before .before .before .before .shrink-linked .kept in
-    after-shrinking (c .before .before .before .before .before .before .before .before .before .before .before .before .before .before .before .before .before .before .before .before .before .before .before .before .before .before .before .before .before .before .before .before .before .before .before .before .before .before .before .before .before .before .before .pre .1) _ _ _ (k .1 .1 .1 .1 .1 .0) (k .1 .1 .1 .1 .1 .1 .0) (k .1 .1 .1 .1 .1 .1 .1 .1 .0)
+    let s = shrinking (c .before .before .before .before .before .before .before .before .before) in
+    let k = s .shrink-linked .kept in
+    after-shrinking (start s .pre .1) _ _ _ (k .1 .1 .1 .1 .1 .0) (k .1 .1 .1 .1 .1 .1 .0) (k .1 .1 .1 .1 .1 .1 .1 .1 .0)
 
 same-length : tie.Need-same-length
 same-length c = search needs
@@ -30,10 +42,14 @@ same-length-4 : tie.Need-same-length-4
 same-length-4 c = search needs
 
 same-length-5 : tie.Need-same-length-5
-same-length-5 c = c .before .before .before .before .before .before .before .before .before .before .before .before .before .before .before .before .list-and-store .kept .1 .1 .1 .1 .1 .1 .0 ∙ c .before .before .before .before .before .before .before .before .before .before .before .before .before .before .before .before .before .before .before .before .before .before .before .before .before .before .before .before .before .before .before .before .before .before .before .before .before .before .shrink-linked .kept .1 .1 .1 .1 .1 .0
+same-length-5 c =
+    let s = storing c in
+    s .list-and-store .kept .1 .1 .1 .1 .1 .1 .0 ∙ earlier s .shrink-linked .kept .1 .1 .1 .1 .1 .0
 
 same-length-6 : tie.Need-same-length-6
-same-length-6 c = c .before .before .before .before .before .before .before .before .before .before .before .before .before .before .before .before .list-and-store .kept .1 .1 .1 .1 .1 .1 .1 .0 ∙ c .before .before .before .before .before .before .before .before .before .before .before .before .before .before .before .before .before .before .before .before .before .before .before .before .before .before .before .before .before .before .before .before .before .before .before .before .before .before .shrink-linked .kept .1 .1 .1 .1 .1 .1 .0
+same-length-6 c =
+    let s = storing c in
+    s .list-and-store .kept .1 .1 .1 .1 .1 .1 .1 .0 ∙ earlier s .shrink-linked .kept .1 .1 .1 .1 .1 .1 .0
 
 same-length-7 : tie.Need-same-length-7
 same-length-7 c = search needs
@@ -54,7 +70,9 @@ same-length-12 : tie.Need-same-length-12
 same-length-12 c = search needs
 
 returns : tie.Need-returns
-returns c = of-points _ _ (c .before .before .before .before .before .before .before .before .before .before .before .before .before .before .before .before .list-and-store .ensures) (c .before .before .before .before .before .before .before .before .before .before .before .before .before .before .before .before .before .before .before .before .before .before .before .before .before .before .before .before .before .before .before .before .before .before .before .before .before .before .shrink-linked .ensures)
+returns c =
+    let s = storing c in
+    of-points _ _ (s .list-and-store .ensures) (earlier s .shrink-linked .ensures)
 
 pub shrink-and-store-spec : {M : Type 1} → statement M
 shrink-and-store-spec =

@@ -2,10 +2,6 @@
 use borrow.Author.Needs.{needs}
 use Rattle.geometry_shape.proofs.shrink_linked.Statement.{statement}
 use Rattle.geometry_shape.proofs.shrink_linked.Tie as tie
-use Rattle.geometry_shape.proofs.shrink_linked.Reads as reads
-use Rattle.geometry_shape.proofs.shrink_linked.Lts as lts
-use Rattle.meshes.proofs.checking.geometry_of.Reads as geometry-of-reads
-use Rattle.shrinking.proofs.whole.shrunk_points.Reads as shrunk-points-reads
 use Prim.Native.Nat.{_*_}
 use mathlib.Core.Path.{sym}
 use lib.Seq.{length-take-le}
@@ -18,13 +14,19 @@ geometry-of-requires : tie.Need-geometry-of-requires
 geometry-of-requires c κs = search needs
 
 slice-aggregate-shrunk-points : tie.Need-slice-aggregate-shrunk-points
-slice-aggregate-shrunk-points c = sym (length-take-le (3 * c .before .before .before .before .before .before .before .before .before .before .before .args .p) (c .before .before .before .before .before .before .before .before .before .before .before .args .entries .now) (c .before .before .before .before .before .before .before .before .before .before .before .pre .corners-in))
+slice-aggregate-shrunk-points c =
+    let s = c .before .before .before .before .before .before .before .before .before .before .before in
+    sym (length-take-le (3 * s .args .p) (s .args .entries .now) (s .pre .corners-in))
 
 slice-aggregate-shrunk-points-2 : tie.Need-slice-aggregate-shrunk-points-2
-slice-aggregate-shrunk-points-2 c = sym (length-take-le (3 * c .before .before .before .before .before .before .before .before .before .before .before .before .args .p) (c .before .before .before .before .before .before .before .before .before .before .before .before .args .rows .now) (c .before .before .before .before .before .before .before .before .before .before .before .before .pre .links-in))
+slice-aggregate-shrunk-points-2 c =
+    let s = c .before .before .before .before .before .before .before .before .before .before .before .before in
+    sym (length-take-le (3 * s .args .p) (s .args .rows .now) (s .pre .links-in))
 
 shrunk-points-requires : tie.Need-shrunk-points-requires
-shrunk-points-requires c κs = shrinkable (c .before .before .before .before .before .before .before .before .before .before .before .before .before .before .before .before .before .before .pre)
+shrunk-points-requires c κs =
+    let s = c .before .before .before .before .before .before .before .before .before in
+    shrinkable (s .before .before .before .before .before .before .before .before .before .pre)
 
 same-length : tie.Need-same-length
 same-length c = search needs
@@ -45,7 +47,10 @@ same-length-6 : tie.Need-same-length-6
 same-length-6 c = search needs
 
 returns : tie.Need-returns
-returns c = by-geometry _ _ _ _ _ (c .before .before .before .before .before .before .before .before .before .before .before .before .shrunk-points .ensures) (c .before .before .before .before .before .before .before .before .before .before .before .before .before .before .before .before .before .before .before .before .before .geometry-of .ensures)
+returns c =
+    let shrunk = c .before .before .before .before .before .before .before .before .before .before .before .before in
+    let geometry = shrunk .before .before .before .before .before .before .before .before .before in
+    by-geometry _ _ _ _ _ (shrunk .shrunk-points .ensures) (geometry .geometry-of .ensures)
 
 pub shrink-linked-spec : {M : Type 1} → statement M
 shrink-linked-spec =
