@@ -87,6 +87,21 @@ of-points {quantum} {v} {h} {h′} {r} ws ws′ l e = subst (λ (x : List ℕ). 
 
 -- ---- the whole
 
+pub linkable : {p v : ℕ} {polygons vertices out entries places temp stack rows points : List ℕ} {h : Hull} {centres olds news : List Float}
+    → GeometryRoom p v polygons vertices out h (geometryWork entries places temp stack rows points centres olds news)
+    → Linking.LinkRoom p polygons out entries places temp stack rows
+linkable g =
+    record {
+      few = g .few;
+      records = g .records;
+      for-out = g .for-out;
+      for-corners = omega (arith, g .for-entries);
+      for-keys = omega (arith, g .for-places);
+      for-sides = omega (arith, g .for-temp);
+      for-spare = omega (arith, g .for-stack);
+      for-links = omega (arith, g .for-rows);
+    }
+
 module _ (p v : ℕ) (polygons out₀ out entries rows : List ℕ) (m : Linking.Meshed p polygons out₀ out entries rows) where
   size : length (take (3 * p) entries) ≡ 3 * p
   size = ap length (m .corners-are) ∙ length-corners p polygons

@@ -5,7 +5,7 @@ use Rattle.geometry_shape.proofs.shape_geometry.Tie as tie
 use Prim.Native.Nat.{_*_}
 use mathlib.Core.Path.{sym, _∙_}
 use lib.Seq.{length-take-le}
-use Rattle.geometry_shape.proofs.Shaping.{shapeable, shaped, empty}
+use Rattle.geometry_shape.proofs.Shaping.{linkable, shapeable, shaped, empty}
 
 -- the last call, from where all is known; the first, from where it is done and from the last; and the start
 abbrev storing : tie.After-slice-known31 → tie.After-shrink-and-store
@@ -25,25 +25,27 @@ start c =
     d .before .before .before .before .before .before .before .before .before .before
 
 link-mesh-requires : tie.Need-link-mesh-requires
-link-mesh-requires c κs = search needs
+link-mesh-requires c κs =
+    let d : tie.After-slice-known8 = c .before .before .before .before .before .before .before .before .before .before .before in
+    linkable (d .before .before .before .before .before .before .before .before .before .before .pre)
 
 same-length : tie.Need-same-length
-same-length c = search needs
+same-length c = linking (c .before) .link-mesh .kept .1 .1 .0
 
 same-length-2 : tie.Need-same-length-2
-same-length-2 c = search needs
+same-length-2 c = linking (c .before) .link-mesh .kept .1 .1 .1 .0
 
 same-length-3 : tie.Need-same-length-3
-same-length-3 c = search needs
+same-length-3 c = linking (c .before) .link-mesh .kept .1 .1 .1 .1 .0
 
 same-length-4 : tie.Need-same-length-4
-same-length-4 c = search needs
+same-length-4 c = linking (c .before) .link-mesh .kept .1 .1 .1 .1 .1 .0
 
 same-length-5 : tie.Need-same-length-5
-same-length-5 c = search needs
+same-length-5 c = linking (c .before) .link-mesh .kept .1 .1 .1 .1 .1 .1 .0
 
 same-length-6 : tie.Need-same-length-6
-same-length-6 c = search needs
+same-length-6 c = linking (c .before) .link-mesh .kept .1 .1 .1 .1 .1 .1 .1 .0
 
 returns : tie.Need-returns
 returns c =
@@ -76,13 +78,13 @@ same-length-7 c =
     earlier s .link-mesh .kept .1 .1 .0
 
 same-length-8 : tie.Need-same-length-8
-same-length-8 c = search needs
+same-length-8 c = storing c .shrink-and-store .kept .1 .1 .1 .1 .1 .0
 
 same-length-9 : tie.Need-same-length-9
-same-length-9 c = search needs
+same-length-9 c = storing c .shrink-and-store .kept .1 .1 .1 .1 .1 .1 .0
 
 same-length-10 : tie.Need-same-length-10
-same-length-10 c = search needs
+same-length-10 c = storing c .shrink-and-store .kept .1 .1 .1 .1 .1 .1 .1 .0
 
 same-length-11 : tie.Need-same-length-11
 same-length-11 c =
@@ -113,13 +115,13 @@ same-length-16 : tie.Need-same-length-16
 same-length-16 c = search needs
 
 same-length-17 : tie.Need-same-length-17
-same-length-17 c = search needs
+same-length-17 c = storing c .shrink-and-store .kept .1 .1 .1 .1 .1 .1 .1 .1 .1 .1 .1 .1 .1 .1 .0
 
 same-length-18 : tie.Need-same-length-18
-same-length-18 c = search needs
+same-length-18 c = storing c .shrink-and-store .kept .1 .1 .1 .1 .1 .1 .1 .1 .1 .1 .1 .1 .1 .1 .1 .0
 
 same-length-19 : tie.Need-same-length-19
-same-length-19 c = search needs
+same-length-19 c = storing c .shrink-and-store .kept .1 .1 .1 .1 .1 .1 .1 .1 .1 .1 .1 .1 .1 .1 .1 .1 .0
 
 returns-2 : tie.Need-returns-2
 returns-2 c =

@@ -21,7 +21,9 @@ start c =
     d .before .before .before .before .before .before .before .before .before .before .before .before
 
 shrink-linked-requires : tie.Need-shrink-linked-requires
-shrink-linked-requires c κs = search needs
+shrink-linked-requires c κs =
+    let d : tie.After-slice-known11 = c .before .before .before .before .before .before .before .before .before in
+    d .before .before .before .before .before .before .before .before .before .before .before .before .pre .0
 
 list-and-store-requires : tie.Need-list-and-store-requires
 list-and-store-requires c κs =
@@ -30,16 +32,16 @@ list-and-store-requires c κs =
     after-shrinking (start s .pre .1) _ _ _ (k .1 .1 .1 .1 .1 .0) (k .1 .1 .1 .1 .1 .1 .0) (k .1 .1 .1 .1 .1 .1 .1 .1 .0)
 
 same-length : tie.Need-same-length
-same-length c = search needs
+same-length c = storing c .list-and-store .kept .1 .1 .0
 
 same-length-2 : tie.Need-same-length-2
-same-length-2 c = search needs
+same-length-2 c = storing c .list-and-store .kept .1 .1 .1 .0
 
 same-length-3 : tie.Need-same-length-3
-same-length-3 c = search needs
+same-length-3 c = storing c .list-and-store .kept .1 .1 .1 .1 .0
 
 same-length-4 : tie.Need-same-length-4
-same-length-4 c = search needs
+same-length-4 c = storing c .list-and-store .kept .1 .1 .1 .1 .1 .0
 
 same-length-5 : tie.Need-same-length-5
 same-length-5 c =
@@ -52,22 +54,22 @@ same-length-6 c =
     s .list-and-store .kept .1 .1 .1 .1 .1 .1 .1 .0 ∙ earlier s .shrink-linked .kept .1 .1 .1 .1 .1 .1 .0
 
 same-length-7 : tie.Need-same-length-7
-same-length-7 c = search needs
+same-length-7 c = storing c .list-and-store .kept .1 .1 .1 .1 .1 .1 .1 .1 .0
 
 same-length-8 : tie.Need-same-length-8
-same-length-8 c = search needs
+same-length-8 c = storing c .list-and-store .kept .1 .1 .1 .1 .1 .1 .1 .1 .1 .0
 
 same-length-9 : tie.Need-same-length-9
-same-length-9 c = search needs
+same-length-9 c = earlier (storing c) .shrink-linked .kept .1 .1 .1 .1 .1 .1 .1 .1 .0
 
 same-length-10 : tie.Need-same-length-10
-same-length-10 c = search needs
+same-length-10 c = earlier (storing c) .shrink-linked .kept .1 .1 .1 .1 .1 .1 .1 .1 .1 .0
 
 same-length-11 : tie.Need-same-length-11
-same-length-11 c = search needs
+same-length-11 c = earlier (storing c) .shrink-linked .kept .1 .1 .1 .1 .1 .1 .1 .1 .1 .1 .0
 
 same-length-12 : tie.Need-same-length-12
-same-length-12 c = search needs
+same-length-12 c = earlier (storing c) .shrink-linked .kept .1 .1 .1 .1 .1 .1 .1 .1 .1 .1 .1 .0
 
 returns : tie.Need-returns
 returns c =
