@@ -4,7 +4,7 @@ use Prim.Native.Nat.{ℕ, _*_, _≤_}
 use native.Mathlib.Omega.{arith}
 use mathlib.Core.Bool.{Bool, true, false, cond}
 use mathlib.Core.List.{List, [], map}
-use mathlib.Core.Path.{_≡_, refl, sym, ap, ap₂, _∙_}
+use mathlib.Core.Path.{_≡_, refl, sym, ap, ap₂, subst, _∙_}
 use borrow.Author.Tests.{eq-eqb, ne-eqb}
 use lib.Dec.{eqb, ltb}
 use lib.ListN.{length, take}
@@ -134,3 +134,18 @@ module _ (g : Mesh) (l : Lengths) (four : g .bound .kind ≡ 4)
               octants-are = shaped .octants-are ∙ ap (λ (x : PreparedMesh). octantsLeft (x .octants) (g .counts .vertices) (h .octants)) same;
             };
       }
+
+  -- the same, where the quantum is known by its value
+  pub geometry-by : (q : Vec3) → q ≡ quantumOfBox (boxOf (g .bound .frame)) → (b b′ : Lists) (h h′ : Hull) (counts : OctantCounts) (m : ℕ)
+      → GeometryShaped (g .bound) (g .counts .polygons) (g .counts .vertices) q (g .polygons) (g .vertices) (b .polygons) (b′ .polygons) h h′ counts
+      → Listed (materialsOf g) (b .list) (b′ .list) (b .indices) (b′ .indices) m
+      → Stored q (g .vertices) (g .counts .vertices) (b .stored) (b′ .stored) (b .floats) (b′ .floats)
+      → GeometryAnswered g l (Geometry (record { frame = g .bound .frame; quantum = q; materials = m }) counts) b b′ h h′
+  geometry-by q e b b′ h h′ counts m =
+      subst
+      (λ (x : Vec3). GeometryShaped (g .bound) (g .counts .polygons) (g .counts .vertices) x (g .polygons) (g .vertices) (b .polygons) (b′ .polygons) h h′
+      counts
+      → Listed (materialsOf g) (b .list) (b′ .list) (b .indices) (b′ .indices) m
+      → Stored x (g .vertices) (g .counts .vertices) (b .stored) (b′ .stored) (b .floats) (b′ .floats)
+      → GeometryAnswered g l (Geometry (record { frame = g .bound .frame; quantum = x; materials = m }) counts) b b′ h h′)
+      (sym e) (geometry-done b b′ h h′ counts m)

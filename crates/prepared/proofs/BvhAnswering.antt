@@ -4,7 +4,7 @@ use Prim.Native.Nat.{ℕ, _*_, _≤_}
 use native.Mathlib.Omega.{arith}
 use mathlib.Core.Bool.{Bool, true, false, cond}
 use mathlib.Core.List.{List, [], map}
-use mathlib.Core.Path.{_≡_, refl, sym, ap, ap₂, _∙_}
+use mathlib.Core.Path.{_≡_, refl, sym, ap, ap₂, subst, _∙_}
 use borrow.Author.Tests.{eq-eqb, ne-eqb}
 use lib.Dec.{eqb, ltb}
 use lib.ListN.{length, take, length-map}
@@ -178,6 +178,20 @@ module _ (g : Mesh) (l : Lengths) (eight : g .bound .kind ≡ 8)
               };
         }
 
+    -- the same, where frame and quantum are known by their values
+    pub bvh-by : (x : BuiltTree) (f : Frame) → f ≡ frameOf x → (q : Vec3) → q ≡ quantumOfBox (boxOf f) → (b b′ : Lists) (t t′ : Outputs) (sorted : List ℕ) (m : ℕ)
+        → g .counts .polygons ≤ length (g .numbers)
+        → BvhShaped (g .bound) (g .counts .polygons) (g .counts .vertices) (g .polygons) (g .numbers) (g .vertices) (b .polygons) (b′ .polygons) t t′ sorted
+        (Build.Built x)
+        → Listed (valuesOf (g .counts .materials) (g .mats) (g .counts .polygons) sorted) (b .list) (b′ .list) (b .indices) (b′ .indices) m
+        → Stored q (g .vertices) (g .counts .vertices) (b .stored) (b′ .stored) (b .floats) (b′ .floats)
+        → BvhAnswered g l (Bvh (record { frame = f; quantum = q; materials = m }) x) b b′ t t′
+    bvh-by x f ef q eq b b′ t t′ sorted m room s listed stored =
+        let qs : q ≡ quantumOfBox (boxOf (frameOf x)) = eq ∙ ap (λ (y : Frame). quantumOfBox (boxOf y)) ef in
+        let done = bvh-done b b′ t t′ sorted x m room s listed
+            (subst (λ (y : Vec3). Stored y (g .vertices) (g .counts .vertices) (b .stored) (b′ .stored) (b .floats) (b′ .floats)) qs stored) in
+        subst (λ (v : Values). BvhAnswered g l (Bvh v x) b b′ t t′) (sym (λ i. record { frame = ef i; quantum = qs i; materials = m })) done
+
   -- ---- no polygons
 
   module _ (none : g .counts .polygons ≡ 0) where
@@ -214,3 +228,12 @@ module _ (g : Mesh) (l : Lengths) (eight : g .bound .kind ≡ 8)
                 order-is = ap (λ (x : PreparedMesh). over (x .order) (t .order)) same0;
               };
         }
+
+    pub empty-by : (q : Vec3) → q ≡ quantumOfBox (boxOf (g .bound .frame)) → (b b′ : Lists) (t : Outputs) (m : ℕ) → b′ .polygons ≡ b .polygons
+        → Listed (materialsOf g) (b .list) (b′ .list) (b .indices) (b′ .indices) m
+        → Stored q (g .vertices) (g .counts .vertices) (b .stored) (b′ .stored) (b .floats) (b′ .floats)
+        → BvhAnswered g l (Empty (record { frame = g .bound .frame; quantum = q; materials = m })) b b′ t t
+    empty-by q e b b′ t m ep listed stored =
+        subst (λ (x : Vec3). BvhAnswered g l (Empty (record { frame = g .bound .frame; quantum = x; materials = m })) b b′ t t) (sym e)
+        (bvh-empty b b′ t m ep listed
+        (subst (λ (x : Vec3). Stored x (g .vertices) (g .counts .vertices) (b .stored) (b′ .stored) (b .floats) (b′ .floats)) e stored))

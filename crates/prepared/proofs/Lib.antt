@@ -1,4 +1,5 @@
 pub mod Answering
 pub mod BvhAnswering
+pub mod KindLaws
 pub mod Meshes
 pub mod Rooms
