@@ -189,7 +189,7 @@ module _ (g : Mesh) (l : Lengths) (eight : g .bound .kind ≡ 8)
     bvh-by x f ef q eq b b′ t t′ sorted m room s listed stored =
         let qs : q ≡ quantumOfBox (boxOf (frameOf x)) = eq ∙ ap (λ (y : Frame). quantumOfBox (boxOf y)) ef in
         let done = bvh-done b b′ t t′ sorted x m room s listed
-            (subst (λ (y : Vec3). Stored y (g .vertices) (g .counts .vertices) (b .stored) (b′ .stored) (b .floats) (b′ .floats)) qs stored) in
+        (subst (λ (y : Vec3). Stored y (g .vertices) (g .counts .vertices) (b .stored) (b′ .stored) (b .floats) (b′ .floats)) qs stored) in
         subst (λ (v : Values). BvhAnswered g l (Bvh v x) b b′ t t′) (sym (λ i. record { frame = ef i; quantum = qs i; materials = m })) done
 
   -- ---- no polygons
