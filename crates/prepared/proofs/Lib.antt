@@ -1,0 +1,4 @@
+pub mod Answering
+pub mod BvhAnswering
+pub mod Meshes
+pub mod Rooms

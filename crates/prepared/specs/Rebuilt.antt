@@ -8,6 +8,8 @@ use Rattle.bvh.specs.Build.{Entries, treeOf, builtOf, orderWritten}
 use Rattle.bvh.specs.declared.core.BuiltTree.{BuiltTree}
 use Rattle.edges.specs.Edges.{linked}
 use Rattle.materials.specs.Materials.{listOf, indicesOf}
+use Rattle.math.specs.declared.vec3.Vec3.{Vec3}
+use Rattle.math.specs.declared.words3.Words3.{Words3}
 use Rattle.math.specs.Stored.{valuesOf, bitsOf}
 use Rattle.math.specs.Vec3s.{subOf, lengthOf}
 use Rattle.meshes.specs.declared.Bound.{Bound}
@@ -43,13 +45,18 @@ unfoldable pub treeOf8 : Bound → ℕ → ℕ → List ℕ → List ℕ → Bui
 unfolding entriesOf8 treeOf
 treeOf8 b p v polygons vertices = let e = entriesOf8 b p v polygons vertices in builtOf e leafLimit (treeOf e leafLimit)
 
+-- Rule K7 (rebuild_bvh: `(c.box_max - c.box_center).length()`)
+unfoldable pub radiusOf : Words3 → Vec3 → ℕ
+radiusOf corner cen = toBits binary32 (lengthOf (subOf (valuesOf corner) cen))
+
 -- Rule K7 (rebuild_bvh: box_min to sphere_radius): the tree's box, its centre twice, and the distance from there to the box's greatest corner.
 unfoldable pub frameOf : BuiltTree → Frame
+unfolding radiusOf
 frameOf t =
     record {
       «box_min» = t .min;
       «box_max» = t .max;
       «box_center» = bitsOf (t .scale .cen);
       «sphere_center» = bitsOf (t .scale .cen);
-      «sphere_radius» = toBits binary32 (lengthOf (subOf (valuesOf (t .max)) (t .scale .cen)));
+      «sphere_radius» = radiusOf (t .max) (t .scale .cen);
     }

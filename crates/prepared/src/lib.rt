@@ -1,4 +1,6 @@
-// What preparing a mesh answers.
+// What preparing a mesh answers, and its frame.
+pub mod frames;
+
 use bvh::core::BuiltTree;
 use math::vec3::Vec3;
 use meshes::Frame;
