@@ -1,0 +1,4 @@
+mod Boxes
+pub mod Delivers
+mod Orders
+pub mod Prepared
