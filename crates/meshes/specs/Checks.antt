@@ -13,7 +13,8 @@ use Rattle.meshes.specs.declared.Check.the-variants.{Passed, Fails}
 use Rattle.meshes.specs.declared.Counts.{Counts}
 use Rattle.meshes.specs.declared.Lengths.{Lengths}
 use Rattle.meshes.specs.declared.PrepareRefusal.{PrepareRefusal}
-use Rattle.meshes.specs.declared.PrepareRefusal.the-variants.{UnknownKind, TooMany, BufferTooShort, UnknownPolygon, TooManyMaterials, InfiniteMargin, TooManyNodes}
+use Rattle.meshes.specs.declared.PrepareRefusal.the-variants.{UnknownKind, TooMany, BufferTooShort, UnknownPolygon}
+use Rattle.meshes.specs.declared.PrepareRefusal.the-variants.{TooManyMaterials, InfiniteMargin, TooManyNodes}
 use Rattle.meshes.specs.Meshes.{Mesh, materialsOf, geometryOf}
 use Rattle.meshes.specs.Sizes.{short}
 

@@ -162,12 +162,16 @@ module _ (g : Mesh) (l : Lengths) (eight : g .bound .kind ≡ 8)
               ∙ sym (bvh-answered some);
           lists-are =
               record {
-                list-is = listed .list-is ∙ ap (λ (xs : List ℕ). over (listBytes xs) (b .list)) used ∙ ap (λ (y : PreparedMesh). over (y .list) (b .list)) same8;
+                list-is =
+                    listed .list-is ∙ ap (λ (xs : List ℕ). over (listBytes xs) (b .list)) used
+                    ∙ ap (λ (y : PreparedMesh). over (y .list) (b .list)) same8;
                 indices-are =
                     listed .indices-are ∙ ap (λ (xs : List ℕ). over (indicesOf xs) (b .indices)) used
                     ∙ ap (λ (y : PreparedMesh). over (y .indices) (b .indices)) same8;
                 polygons-are = s .records-are ∙ ap (λ (y : PreparedMesh). over (y .polygons) (b .polygons)) same8;
-                stored-are = stored .stored-are ∙ by-quantum storedBytes (b .stored) x (s .answer) ∙ ap (λ (y : PreparedMesh). over (y .stored) (b .stored)) same8;
+                stored-are =
+                    stored .stored-are ∙ by-quantum storedBytes (b .stored) x (s .answer)
+                    ∙ ap (λ (y : PreparedMesh). over (y .stored) (b .stored)) same8;
                 floats-are = stored .floats-are ∙ by-quantum floatsOf (b .floats) x (s .answer) ∙ ap (λ (y : PreparedMesh). over (y .floats) (b .floats)) same8;
               };
           tree-is =
@@ -179,8 +183,8 @@ module _ (g : Mesh) (l : Lengths) (eight : g .bound .kind ≡ 8)
         }
 
     -- the same, where frame and quantum are known by their values
-    pub bvh-by : (x : BuiltTree) (f : Frame) → f ≡ frameOf x → (q : Vec3) → q ≡ quantumOfBox (boxOf f) → (b b′ : Lists) (t t′ : Outputs) (sorted : List ℕ) (m : ℕ)
-        → g .counts .polygons ≤ length (g .numbers)
+    pub bvh-by : (x : BuiltTree) (f : Frame) → f ≡ frameOf x → (q : Vec3) → q ≡ quantumOfBox (boxOf f)
+        → (b b′ : Lists) (t t′ : Outputs) (sorted : List ℕ) (m : ℕ) → g .counts .polygons ≤ length (g .numbers)
         → BvhShaped (g .bound) (g .counts .polygons) (g .counts .vertices) (g .polygons) (g .numbers) (g .vertices) (b .polygons) (b′ .polygons) t t′ sorted
         (Build.Built x)
         → Listed (valuesOf (g .counts .materials) (g .mats) (g .counts .polygons) sorted) (b .list) (b′ .list) (b .indices) (b′ .indices) m

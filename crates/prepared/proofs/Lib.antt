@@ -3,3 +3,4 @@ pub mod BvhAnswering
 pub mod KindLaws
 pub mod Meshes
 pub mod Rooms
+pub mod Whole

@@ -113,3 +113,36 @@ bvh-is g eight some =
 pub empty-is : (g : Mesh) → g .bound .kind ≡ 8 → g .counts .polygons ≡ 0 → preparedOf g ≡ emptyMesh g
 empty-is g eight none =
     by-kind g ∙ ap₂ (by-choice g) (not-four (g .bound .kind) eight) (without-tree (g .bound .kind) (g .counts .polygons) eight none)
+
+-- ---- what a kind has not
+
+-- no tree but of kind 8
+module _ (g : Mesh) (other : g .bound .kind ≡ 8 → ⊥) where
+  none-rebuilt : rebuilds g ≡ false
+  none-rebuilt = rw (ne-eqb (g .bound .kind) 8 other)
+
+  bare : preparedOf g ≡ by-choice g (isGeometry (g .bound .kind)) false
+  bare = by-kind g ∙ ap (by-choice g (isGeometry (g .bound .kind))) none-rebuilt
+
+  pub no-nodes : preparedOf g .nodes ≡ []
+  no-nodes = ap (λ (x : PreparedMesh). x .nodes) bare
+
+  pub no-trees : preparedOf g .trees ≡ []
+  no-trees = ap (λ (x : PreparedMesh). x .trees) bare
+
+  pub no-order : preparedOf g .order ≡ []
+  no-order = ap (λ (x : PreparedMesh). x .order) bare
+
+-- no shrunk vertices and no octants of kind 8
+module _ (g : Mesh) (eight : g .bound .kind ≡ 8) where
+  unshrunk : preparedOf g ≡ by-choice g false (rebuilds g)
+  unshrunk = by-kind g ∙ ap (λ (t : Bool). by-choice g t (rebuilds g)) (not-four (g .bound .kind) eight)
+
+  pub no-shrunk : preparedOf g .shrunk ≡ []
+  no-shrunk = ap (λ (x : PreparedMesh). x .shrunk) unshrunk
+
+  pub no-floats : preparedOf g .shrunk-floats ≡ []
+  no-floats = ap (λ (x : PreparedMesh). x .shrunk-floats) unshrunk
+
+  pub no-octants : preparedOf g .octants ≡ (λ o. [])
+  no-octants = ap (λ (x : PreparedMesh). x .octants) unshrunk

@@ -14,10 +14,27 @@ use Rattle.prepared.proofs.Answering.{geometry-refused, geometry-by}
 use Rattle.prepared.proofs.KindLaws.{kind-four}
 use Rattle.prepared.proofs.Rooms.{geometry-room, geometry-list-room, geometry-store-room}
 
--- ---- what is given
+-- ---- the places of the calls: from each to the one before it
 
 abbrev start : tie.After-geometry-refusal → tie.Start
-start c = c .before .before .before .before .before .before .before .before .before .before .before .before .before .before .before .before .before .before .before .before .before .before
+start c =
+    let c1 = c .before .before .before .before .before .before .before .before .before .before .before .before .before .before .before .before in
+    c1 .before .before .before .before .before .before
+
+abbrev checked : tie.After-shape-geometry → tie.After-geometry-refusal
+checked c =
+    let c1 = c .before .before .before .before .before .before .before .before .before .before .before .before .before .before .before .before in
+    c1 .before .before
+
+abbrev shaped : tie.After-finish → tie.After-shape-geometry
+shaped c =
+    let c1 = c .before .before .before .before .before .before .before .before .before .before .before .before .before .before .before .before in
+    c1 .before .before .before .before .before .before .before .before .before .before .before .before .before .before .before
+
+abbrev finished : tie.After-slice-known34 → tie.After-finish
+finished c = c .before .before .before .before .before .before .before .before
+
+-- ---- what is given
 
 abbrev mesh : tie.After-geometry-refusal → Mesh
 mesh c =
@@ -72,77 +89,82 @@ quantum-of-requires c κs = search needs
 
 shape-geometry-requires : tie.Need-shape-geometry-requires
 shape-geometry-requires c κs =
-    let check = c .before .before .before .before .before .before .before .before .before .before .before .before .before .before .before .before .before in
-    geometry-room (mesh check) (before check) (hulls check) (work check) (start check .args .others) (well check (c .before .before .before .before .before .before .before .before .before .before .before .before .before .before .before .enum-told .given .1) .1)
+    let told = c .before .before .before .before .before .before .before .before .before .before .before .before .before .before .before in
+    let check = told .before .before in
+    geometry-room (mesh check) (before check) (hulls check) (work check) (start check .args .others) (well check (told .enum-told .given .1) .1)
 
 finish-requires : tie.Need-finish-requires
 finish-requires c κs =
-    let check = c .before .before .before .before .before .before .before .before .before .before .before .before .before .before .before .before .before .before .before .before .before .before .before .before .before .before .before .before .before .before .before .before .before .before .before .before .before .before .before .before .before .before .before .before .before .before .before .before in
-    let s = well check (c .before .before .before .before .before .before .before .before .before .before .before .before .before .before .before .before .before .before .before .before .before .before .before .before .before .before .before .before .before .before .before .before .before .before .before .before .before .before .before .before .before .before .before .before .before .before .enum-told .given .1) .1 in (
+    let at = c .before .before .before .before .before .before .before .before .before .before .before .before .before .before .before in
+    let shape = at .before .before .before .before .before .before .before .before .before .before .before .before .before .before .before in
+    let check = checked shape in
+    let near = shape .before .before .before .before .before .before .before .before in
+    let s = well check (near .before .before .before .before .before .before .before .before .enum-told .given .1) .1 in (
       geometry-list-room (mesh check) (before check) (hulls check) (work check) (start check .args .others) s,
       geometry-store-room (mesh check) (before check) (hulls check) (work check) (start check .args .others) s,
     )
 
 same-length : tie.Need-same-length
-same-length c = c .before .before .before .before .before .before .before .before .finish .kept .1 .1 .1 .1 .1 .1 .1 .0
+same-length c = finished c .finish .kept .1 .1 .1 .1 .1 .1 .1 .0
 
 same-length-2 : tie.Need-same-length-2
-same-length-2 c = c .before .before .before .before .before .before .before .before .finish .kept .1 .1 .1 .1 .1 .1 .1 .1 .0
+same-length-2 c = finished c .finish .kept .1 .1 .1 .1 .1 .1 .1 .1 .0
 
 same-length-3 : tie.Need-same-length-3
-same-length-3 c = c .before .before .before .before .before .before .before .before .before .before .before .before .before .before .before .before .before .before .before .before .before .before .before .before .before .before .before .before .before .before .before .before .before .before .before .before .before .before .before .shape-geometry .kept .1 .1 .1 .1 .1 .0
+same-length-3 c = shaped (finished c) .shape-geometry .kept .1 .1 .1 .1 .1 .0
 
 same-length-4 : tie.Need-same-length-4
-same-length-4 c = c .before .before .before .before .before .before .before .before .finish .kept .1 .1 .1 .1 .1 .1 .1 .1 .1 .0
+same-length-4 c = finished c .finish .kept .1 .1 .1 .1 .1 .1 .1 .1 .1 .0
 
 same-length-5 : tie.Need-same-length-5
-same-length-5 c = c .before .before .before .before .before .before .before .before .finish .kept .1 .1 .1 .1 .1 .1 .1 .1 .1 .1 .0
+same-length-5 c = finished c .finish .kept .1 .1 .1 .1 .1 .1 .1 .1 .1 .1 .0
 
 same-length-6 : tie.Need-same-length-6
-same-length-6 c = c .before .before .before .before .before .before .before .before .before .before .before .before .before .before .before .before .before .before .before .before .before .before .before .before .before .before .before .before .before .before .before .before .before .before .before .before .before .before .before .shape-geometry .kept .1 .1 .1 .1 .1 .1 .0
+same-length-6 c = shaped (finished c) .shape-geometry .kept .1 .1 .1 .1 .1 .1 .0
 
 same-length-7 : tie.Need-same-length-7
-same-length-7 c = c .before .before .before .before .before .before .before .before .before .before .before .before .before .before .before .before .before .before .before .before .before .before .before .before .before .before .before .before .before .before .before .before .before .before .before .before .before .before .before .shape-geometry .kept .1 .1 .1 .1 .1 .1 .1 .0
+same-length-7 c = shaped (finished c) .shape-geometry .kept .1 .1 .1 .1 .1 .1 .1 .0
 
 same-length-8 : tie.Need-same-length-8
-same-length-8 c = c .before .before .before .before .before .before .before .before .before .before .before .before .before .before .before .before .before .before .before .before .before .before .before .before .before .before .before .before .before .before .before .before .before .before .before .before .before .before .before .shape-geometry .kept .1 .1 .1 .1 .1 .1 .1 .1 .0
+same-length-8 c = shaped (finished c) .shape-geometry .kept .1 .1 .1 .1 .1 .1 .1 .1 .0
 
 same-length-9 : tie.Need-same-length-9
-same-length-9 c = c .before .before .before .before .before .before .before .before .before .before .before .before .before .before .before .before .before .before .before .before .before .before .before .before .before .before .before .before .before .before .before .before .before .before .before .before .before .before .before .shape-geometry .kept .1 .1 .1 .1 .1 .1 .1 .1 .1 .0
+same-length-9 c = shaped (finished c) .shape-geometry .kept .1 .1 .1 .1 .1 .1 .1 .1 .1 .0
 
 same-length-10 : tie.Need-same-length-10
-same-length-10 c = c .before .before .before .before .before .before .before .before .before .before .before .before .before .before .before .before .before .before .before .before .before .before .before .before .before .before .before .before .before .before .before .before .before .before .before .before .before .before .before .shape-geometry .kept .1 .1 .1 .1 .1 .1 .1 .1 .1 .1 .0
+same-length-10 c = shaped (finished c) .shape-geometry .kept .1 .1 .1 .1 .1 .1 .1 .1 .1 .1 .0
 
 same-length-11 : tie.Need-same-length-11
-same-length-11 c = c .before .before .before .before .before .before .before .before .before .before .before .before .before .before .before .before .before .before .before .before .before .before .before .before .before .before .before .before .before .before .before .before .before .before .before .before .before .before .before .shape-geometry .kept .1 .1 .1 .1 .1 .1 .1 .1 .1 .1 .1 .0
+same-length-11 c = shaped (finished c) .shape-geometry .kept .1 .1 .1 .1 .1 .1 .1 .1 .1 .1 .1 .0
 
 same-length-12 : tie.Need-same-length-12
-same-length-12 c = c .before .before .before .before .before .before .before .before .before .before .before .before .before .before .before .before .before .before .before .before .before .before .before .before .before .before .before .before .before .before .before .before .before .before .before .before .before .before .before .shape-geometry .kept .1 .1 .1 .1 .1 .1 .1 .1 .1 .1 .1 .1 .0
+same-length-12 c = shaped (finished c) .shape-geometry .kept .1 .1 .1 .1 .1 .1 .1 .1 .1 .1 .1 .1 .0
 
 same-length-13 : tie.Need-same-length-13
-same-length-13 c = c .before .before .before .before .before .before .before .before .before .before .before .before .before .before .before .before .before .before .before .before .before .before .before .before .before .before .before .before .before .before .before .before .before .before .before .before .before .before .before .shape-geometry .kept .1 .1 .1 .1 .1 .1 .1 .1 .1 .1 .1 .1 .1 .0
+same-length-13 c = shaped (finished c) .shape-geometry .kept .1 .1 .1 .1 .1 .1 .1 .1 .1 .1 .1 .1 .1 .0
 
 same-length-14 : tie.Need-same-length-14
-same-length-14 c = c .before .before .before .before .before .before .before .before .before .before .before .before .before .before .before .before .before .before .before .before .before .before .before .before .before .before .before .before .before .before .before .before .before .before .before .before .before .before .before .shape-geometry .kept .1 .1 .1 .1 .1 .1 .1 .1 .1 .1 .1 .1 .1 .1 .0
+same-length-14 c = shaped (finished c) .shape-geometry .kept .1 .1 .1 .1 .1 .1 .1 .1 .1 .1 .1 .1 .1 .1 .0
 
 same-length-15 : tie.Need-same-length-15
-same-length-15 c = c .before .before .before .before .before .before .before .before .before .before .before .before .before .before .before .before .before .before .before .before .before .before .before .before .before .before .before .before .before .before .before .before .before .before .before .before .before .before .before .shape-geometry .kept .1 .1 .1 .1 .1 .1 .1 .1 .1 .1 .1 .1 .1 .1 .1 .0
+same-length-15 c = shaped (finished c) .shape-geometry .kept .1 .1 .1 .1 .1 .1 .1 .1 .1 .1 .1 .1 .1 .1 .1 .0
 
 same-length-16 : tie.Need-same-length-16
-same-length-16 c = c .before .before .before .before .before .before .before .before .before .before .before .before .before .before .before .before .before .before .before .before .before .before .before .before .before .before .before .before .before .before .before .before .before .before .before .before .before .before .before .shape-geometry .kept .1 .1 .1 .1 .1 .1 .1 .1 .1 .1 .1 .1 .1 .1 .1 .1 .0
+same-length-16 c = shaped (finished c) .shape-geometry .kept .1 .1 .1 .1 .1 .1 .1 .1 .1 .1 .1 .1 .1 .1 .1 .1 .0
 
 same-length-17 : tie.Need-same-length-17
-same-length-17 c = c .before .before .before .before .before .before .before .before .before .before .before .before .before .before .before .before .before .before .before .before .before .before .before .before .before .before .before .before .before .before .before .before .before .before .before .before .before .before .before .shape-geometry .kept .1 .1 .1 .1 .1 .1 .1 .1 .1 .1 .1 .1 .1 .1 .1 .1 .1 .0
+same-length-17 c = shaped (finished c) .shape-geometry .kept .1 .1 .1 .1 .1 .1 .1 .1 .1 .1 .1 .1 .1 .1 .1 .1 .1 .0
 
 returns-2 : tie.Need-returns-2
 returns-2 c =
-    let shape = c .before .before .before .before .before .before .before .before .before .before .before .before .before .before .before .before .before .before .before .before .before .before .before .before .before .before .before .before .before .before .before .before .before .before .before .before .before .before .before in
-    let check = shape .before .before .before .before .before .before .before .before .before .before .before .before .before .before .before .before .before .before in
-    let told = shape .before .before .before .before .before .before .before .before .before .before .before .before .before .before .before .before .enum-told .given .1 in
-    let q = shape .before .before .before .before .before .before .before .before .before .before .before .before .before .before .quantum-of .ensures in
-    let end = c .before .before .before .before .before .before .before .before .finish .ensures in
-    geometry-by (mesh check) (lengths check) (four check told) (sym (passed check told)) _ q (before check) _ (hulls check) _ _ _ (shape .shape-geometry .ensures) (end .0)
-    (end .1)
+    let end = finished c in
+    let shape = shaped end in
+    let check = checked shape in
+    let near = shape .before .before .before .before .before .before .before .before .before .before .before .before .before .before in
+    let told = near .before .before .enum-told .given .1 in
+    let q = near .quantum-of .ensures in
+    geometry-by (mesh check) (lengths check) (four check told) (sym (passed check told)) _ q (before check) _ (hulls check) _ _ _
+    (shape .shape-geometry .ensures) (end .finish .ensures .0) (end .finish .ensures .1)
 
 pub prepare-geometry-spec : {M : Type 1} → statement M
 prepare-geometry-spec =

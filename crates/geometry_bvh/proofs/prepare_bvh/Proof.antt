@@ -4,7 +4,9 @@ use borrow.Author.Needs.{needs}
 use Rattle.geometry_bvh.proofs.prepare_bvh.Statement.{statement}
 use Rattle.geometry_bvh.proofs.prepare_bvh.Tie as tie
 use mathlib.Core.Bool.{false}
+use mathlib.Core.List.{List}
 use mathlib.Core.Path.{_≡_, refl, sym, subst, _∙_}
+use Prim.Native.Nat.{ℕ}
 use Rattle.bvh.specs.Entry.{Outputs, outputs}
 use Rattle.bvh.specs.declared.core.Build.{Build}
 use Rattle.meshes.specs.declared.Check.the-variants.{Passed}
@@ -19,10 +21,39 @@ use Rattle.prepared.proofs.BvhAnswering.{bvh-too-many, bvh-by, empty-by}
 use Rattle.prepared.proofs.KindLaws.{kind-eight}
 use Rattle.prepared.proofs.Rooms.{bvh-room, bvh-list-room, bvh-given-room, bvh-store-room}
 
--- ---- what is given
+-- ---- the places of the calls: from each to the one before it
 
 abbrev start : tie.After-bvh-refusal → tie.Start
-start c = c .before .before .before .before .before .before .before .before .before .before .before .before .before .before .before .before .before .before .before .before .before
+start c =
+    let c1 = c .before .before .before .before .before .before .before .before .before .before .before .before .before .before .before .before in
+    c1 .before .before .before .before .before
+
+abbrev checked : tie.After-shape-bvh → tie.After-bvh-refusal
+checked c = c .before .before .before .before .before .before .before .before .before .before .before .before .before .before .before .before
+
+abbrev refused : tie.After-enum-told2 → tie.After-shape-bvh
+refused c =
+    let c1 = c .before .before .before .before .before .before .before .before .before .before .before .before .before .before .before .before in
+    c1 .before .before .before .before .before .before .before .before .before .before
+
+abbrev grown : tie.After-frame-of → tie.After-shape-bvh
+grown c =
+    let c1 = c .before .before .before .before .before .before .before .before .before .before .before .before .before .before .before .before in
+    c1 .before .before .before .before .before .before .before .before .before .before .before .before
+
+abbrev framed : tie.After-finish2 → tie.After-frame-of
+framed c = c .before .before .before .before .before .before .before
+
+abbrev finished : tie.After-slice-known36 → tie.After-finish2
+finished c = c .before .before .before .before .before .before .before .before
+
+abbrev emptied : tie.After-slice-known20 → tie.After-finish
+emptied c = c .before .before .before .before .before .before .before .before
+
+abbrev checked-empty : tie.After-finish → tie.After-bvh-refusal
+checked-empty c = c .before .before .before .before .before .before .before .before .before .before
+
+-- ---- what is given
 
 abbrev mesh : tie.After-bvh-refusal → Mesh
 mesh c =
@@ -74,44 +105,62 @@ enum-told c = search needs
 quantum-of-requires : tie.Need-quantum-of-requires
 quantum-of-requires c κs = search needs
 
+-- what was shaped, of an answer that is known
+told-shape : (c : tie.After-shape-bvh) (r : Build) → c .shape-bvh .result ≡ r
+    → (let g = mesh (checked c) in
+    BvhShaped (g .bound) (g .counts .polygons) (g .counts .vertices) (g .polygons) (g .numbers) (g .vertices) (before (checked c) .polygons)
+    (c .shape-bvh .last .1 .1 .1 .1 .1 .0) (trees (checked c))
+    (outputs (c .shape-bvh .last .1 .1 .1 .1 .1 .1 .0) (c .shape-bvh .last .1 .1 .1 .1 .1 .1 .1 .0) (c .shape-bvh .last .1 .1 .1 .1 .1 .1 .1 .1 .0))
+    (c .shape-bvh .last .1 .1 .1 .1 .1 .1 .1 .1 .1 .1 .1 .1 .1 .1 .1 .0) r)
+told-shape c r e =
+    let g = mesh (checked c) in
+    subst
+    (λ (x : Build). BvhShaped (g .bound) (g .counts .polygons) (g .counts .vertices) (g .polygons) (g .numbers) (g .vertices)
+    (before (checked c) .polygons) (c .shape-bvh .last .1 .1 .1 .1 .1 .0) (trees (checked c))
+    (outputs (c .shape-bvh .last .1 .1 .1 .1 .1 .1 .0) (c .shape-bvh .last .1 .1 .1 .1 .1 .1 .1 .0) (c .shape-bvh .last .1 .1 .1 .1 .1 .1 .1 .1 .0))
+    (c .shape-bvh .last .1 .1 .1 .1 .1 .1 .1 .1 .1 .1 .1 .1 .1 .1 .1 .0) x)
+    e (c .shape-bvh .ensures)
+
 -- ---- no polygons
 
 finish-requires : tie.Need-finish-requires
 finish-requires c κs =
-    let check = c .before .before .before .before .before .before .before .before .before in
-    let s = well check (c .before .before .before .before .before .before .before .enum-told .given .1) .1 in (
+    let told = c .before .before .before .before .before .before .before in
+    let check = told .before .before in
+    let s = well check (told .enum-told .given .1) .1 in (
       bvh-given-room (mesh check) (before check) (trees check) (work check) (start check .args .others) s,
       bvh-store-room (mesh check) (before check) (trees check) (work check) (start check .args .others) s,
     )
 
 same-length : tie.Need-same-length
-same-length c = c .before .before .before .before .before .before .before .before .finish .kept .1 .1 .1 .1 .1 .1 .1 .0
+same-length c = emptied c .finish .kept .1 .1 .1 .1 .1 .1 .1 .0
 
 same-length-2 : tie.Need-same-length-2
-same-length-2 c = c .before .before .before .before .before .before .before .before .finish .kept .1 .1 .1 .1 .1 .1 .1 .1 .0
+same-length-2 c = emptied c .finish .kept .1 .1 .1 .1 .1 .1 .1 .1 .0
 
 same-length-3 : tie.Need-same-length-3
-same-length-3 c = c .before .before .before .before .before .before .before .before .finish .kept .1 .1 .1 .1 .1 .1 .1 .1 .1 .0
+same-length-3 c = emptied c .finish .kept .1 .1 .1 .1 .1 .1 .1 .1 .1 .0
 
 same-length-4 : tie.Need-same-length-4
-same-length-4 c = c .before .before .before .before .before .before .before .before .finish .kept .1 .1 .1 .1 .1 .1 .1 .1 .1 .1 .0
+same-length-4 c = emptied c .finish .kept .1 .1 .1 .1 .1 .1 .1 .1 .1 .1 .0
 
 returns-2 : tie.Need-returns-2
 returns-2 c =
-    let end = c .before .before .before .before .before .before .before .before in
-    let check = end .before .before .before .before .before .before .before .before .before .before in
+    let end = emptied c in
+    let check = checked-empty end in
     let told = end .before .before .before .before .before .before .before .before .enum-told .given .1 in
     let none = end .before .before .before .before .before .before .before .if1 .taken in
     let q = end .before .before .before .before .before .quantum-of .ensures in
-    empty-by (mesh check) (lengths check) (eight check told) (sym (passed check told)) none _ q (before check) _ (trees check) _ refl (end .finish .ensures .0)
-    (end .finish .ensures .1)
+    empty-by (mesh check) (lengths check) (eight check told) (sym (passed check told)) none _ q (before check) _ (trees check) _ refl
+    (end .finish .ensures .0) (end .finish .ensures .1)
 
 -- ---- a tree
 
 shape-bvh-requires : tie.Need-shape-bvh-requires
 shape-bvh-requires c κs =
-    let check = c .before .before .before .before .before .before .before .before .before .before .before .before .before .before .before in
-    bvh-room (mesh check) (before check) (trees check) (work check) (start check .args .others) (well check (c .before .before .before .before .before .before .before .before .before .before .before .before .before .enum-told .given .1) .1)
+    let told = c .before .before .before .before .before .before .before .before .before .before .before .before .before in
+    let check = told .before .before in
+    bvh-room (mesh check) (before check) (trees check) (work check) (start check .args .others) (well check (told .enum-told .given .1) .1)
 
 enum-known-built : tie.Need-enum-known-built
 enum-known-built c = search needs
@@ -120,56 +169,49 @@ enum-told-2 : tie.Need-enum-told-2
 enum-told-2 c = search needs
 
 same-length-5 : tie.Need-same-length-5
-same-length-5 c = c .before .before .before .before .before .before .before .before .before .before .before .before .before .before .before .before .before .before .before .before .before .before .before .before .before .before .shape-bvh .kept .1 .1 .1 .1 .1 .0
+same-length-5 c = refused c .shape-bvh .kept .1 .1 .1 .1 .1 .0
 
 same-length-6 : tie.Need-same-length-6
-same-length-6 c = c .before .before .before .before .before .before .before .before .before .before .before .before .before .before .before .before .before .before .before .before .before .before .before .before .before .before .shape-bvh .kept .1 .1 .1 .1 .1 .1 .0
+same-length-6 c = refused c .shape-bvh .kept .1 .1 .1 .1 .1 .1 .0
 
 same-length-7 : tie.Need-same-length-7
-same-length-7 c = c .before .before .before .before .before .before .before .before .before .before .before .before .before .before .before .before .before .before .before .before .before .before .before .before .before .before .shape-bvh .kept .1 .1 .1 .1 .1 .1 .1 .0
+same-length-7 c = refused c .shape-bvh .kept .1 .1 .1 .1 .1 .1 .1 .0
 
 same-length-8 : tie.Need-same-length-8
-same-length-8 c = c .before .before .before .before .before .before .before .before .before .before .before .before .before .before .before .before .before .before .before .before .before .before .before .before .before .before .shape-bvh .kept .1 .1 .1 .1 .1 .1 .1 .1 .0
+same-length-8 c = refused c .shape-bvh .kept .1 .1 .1 .1 .1 .1 .1 .1 .0
 
 same-length-9 : tie.Need-same-length-9
-same-length-9 c = c .before .before .before .before .before .before .before .before .before .before .before .before .before .before .before .before .before .before .before .before .before .before .before .before .before .before .shape-bvh .kept .1 .1 .1 .1 .1 .1 .1 .1 .1 .0
+same-length-9 c = refused c .shape-bvh .kept .1 .1 .1 .1 .1 .1 .1 .1 .1 .0
 
 same-length-10 : tie.Need-same-length-10
-same-length-10 c = c .before .before .before .before .before .before .before .before .before .before .before .before .before .before .before .before .before .before .before .before .before .before .before .before .before .before .shape-bvh .kept .1 .1 .1 .1 .1 .1 .1 .1 .1 .1 .0
+same-length-10 c = refused c .shape-bvh .kept .1 .1 .1 .1 .1 .1 .1 .1 .1 .1 .0
 
 same-length-11 : tie.Need-same-length-11
-same-length-11 c = c .before .before .before .before .before .before .before .before .before .before .before .before .before .before .before .before .before .before .before .before .before .before .before .before .before .before .shape-bvh .kept .1 .1 .1 .1 .1 .1 .1 .1 .1 .1 .1 .0
+same-length-11 c = refused c .shape-bvh .kept .1 .1 .1 .1 .1 .1 .1 .1 .1 .1 .1 .0
 
 same-length-12 : tie.Need-same-length-12
-same-length-12 c = c .before .before .before .before .before .before .before .before .before .before .before .before .before .before .before .before .before .before .before .before .before .before .before .before .before .before .shape-bvh .kept .1 .1 .1 .1 .1 .1 .1 .1 .1 .1 .1 .1 .0
+same-length-12 c = refused c .shape-bvh .kept .1 .1 .1 .1 .1 .1 .1 .1 .1 .1 .1 .1 .0
 
 same-length-13 : tie.Need-same-length-13
-same-length-13 c = c .before .before .before .before .before .before .before .before .before .before .before .before .before .before .before .before .before .before .before .before .before .before .before .before .before .before .shape-bvh .kept .1 .1 .1 .1 .1 .1 .1 .1 .1 .1 .1 .1 .1 .0
+same-length-13 c = refused c .shape-bvh .kept .1 .1 .1 .1 .1 .1 .1 .1 .1 .1 .1 .1 .1 .0
 
 same-length-14 : tie.Need-same-length-14
-same-length-14 c = c .before .before .before .before .before .before .before .before .before .before .before .before .before .before .before .before .before .before .before .before .before .before .before .before .before .before .shape-bvh .kept .1 .1 .1 .1 .1 .1 .1 .1 .1 .1 .1 .1 .1 .1 .0
+same-length-14 c = refused c .shape-bvh .kept .1 .1 .1 .1 .1 .1 .1 .1 .1 .1 .1 .1 .1 .1 .0
 
 same-length-15 : tie.Need-same-length-15
-same-length-15 c = c .before .before .before .before .before .before .before .before .before .before .before .before .before .before .before .before .before .before .before .before .before .before .before .before .before .before .shape-bvh .kept .1 .1 .1 .1 .1 .1 .1 .1 .1 .1 .1 .1 .1 .1 .1 .0
+same-length-15 c = refused c .shape-bvh .kept .1 .1 .1 .1 .1 .1 .1 .1 .1 .1 .1 .1 .1 .1 .1 .0
 
 same-length-16 : tie.Need-same-length-16
-same-length-16 c = c .before .before .before .before .before .before .before .before .before .before .before .before .before .before .before .before .before .before .before .before .before .before .before .before .before .before .shape-bvh .kept .1 .1 .1 .1 .1 .1 .1 .1 .1 .1 .1 .1 .1 .1 .1 .1 .0
+same-length-16 c = refused c .shape-bvh .kept .1 .1 .1 .1 .1 .1 .1 .1 .1 .1 .1 .1 .1 .1 .1 .1 .0
 
 returns-3 : tie.Need-returns-3
 returns-3 c =
-    let shape = c .before .before .before .before .before .before .before .before .before .before .before .before .before .before .before .before .before .before .before .before .before .before .before .before .before .before in
-    let check = shape .before .before .before .before .before .before .before .before .before .before .before .before .before .before .before .before in
+    let shape = refused c in
+    let check = checked shape in
     let told = shape .before .before .before .before .before .before .before .before .before .before .before .before .before .before .enum-told .given .1 in
     let some = shape .before .before .before .before .before .before .before .before .before .before .before .before .before .if1 .left in
-    let g = mesh check in
-    let shaped =
-    subst
-    (λ (r : Build). BvhShaped (g .bound) (g .counts .polygons) (g .counts .vertices) (g .polygons) (g .numbers) (g .vertices) (before check .polygons)
-    (shape .shape-bvh .last .1 .1 .1 .1 .1 .0) (trees check)
-    (outputs (shape .shape-bvh .last .1 .1 .1 .1 .1 .1 .0) (shape .shape-bvh .last .1 .1 .1 .1 .1 .1 .1 .0) (shape .shape-bvh .last .1 .1 .1 .1 .1 .1 .1 .1 .0))
-    (shape .shape-bvh .last .1 .1 .1 .1 .1 .1 .1 .1 .1 .1 .1 .1 .1 .1 .1 .0) r)
-    (c .enum-told2 .given .1) (shape .shape-bvh .ensures) in
-    bvh-too-many g (lengths check) (eight check told) (sym (passed check told)) some (before check) _ (trees check) _ _ _ shaped refl refl refl refl
+    bvh-too-many (mesh check) (lengths check) (eight check told) (sym (passed check told)) some (before check) _ (trees check) _ _ _
+    (told-shape shape _ (c .enum-told2 .given .1)) refl refl refl refl
 
 frame-of-requires : tie.Need-frame-of-requires
 frame-of-requires c κs = search needs
@@ -179,79 +221,75 @@ quantum-of-requires-2 c κs = search needs
 
 finish-requires-2 : tie.Need-finish-requires-2
 finish-requires-2 c κs =
-    let shape = c .before .before .before .before .before .before .before .before .before .before .before .before .before .before .before .before .before .before .before .before .before .before .before .before .before .before .before .before .before .before .before .before .before .before in
-    let check = c .before .before .before .before .before .before .before .before .before .before .before .before .before .before .before .before .before .before .before .before .before .before .before .before .before .before .before .before .before .before .before .before .before .before .before .before .before .before .before .before .before .before .before .before .before .before .before .before .before .before in
-    let s = well check (c .before .before .before .before .before .before .before .before .before .before .before .before .before .before .before .before .before .before .before .before .before .before .before .before .before .before .before .before .before .before .before .before .before .before .before .before .before .before .before .before .before .before .before .before .before .before .before .before .enum-told .given .1) .1 in (
-      bvh-list-room (mesh check) (before check) (trees check) (work check) (start check .args .others) s _ (shape .shape-bvh .kept .1 .1 .1 .1 .1 .1 .1 .1 .1 .1 .1 .1 .1 .1 .1 .0),
+    let shape = grown (c .before .before .before .before .before .before) in
+    let check = checked shape in
+    let kept = shape .shape-bvh .kept .1 .1 .1 .1 .1 .1 .1 .1 .1 .1 .1 .1 .1 .1 .1 .0 in
+    let told = shape .before .before .before .before .before .before .before .before .before .before .before .before .before .before .enum-told .given .1 in
+    let s = well check told .1 in (
+      bvh-list-room (mesh check) (before check) (trees check) (work check) (start check .args .others) s _ kept,
       bvh-store-room (mesh check) (before check) (trees check) (work check) (start check .args .others) s,
     )
 
 same-length-17 : tie.Need-same-length-17
-same-length-17 c = c .before .before .before .before .before .before .before .before .finish2 .kept .1 .1 .1 .1 .1 .1 .1 .0
+same-length-17 c = finished c .finish2 .kept .1 .1 .1 .1 .1 .1 .1 .0
 
 same-length-18 : tie.Need-same-length-18
-same-length-18 c = c .before .before .before .before .before .before .before .before .finish2 .kept .1 .1 .1 .1 .1 .1 .1 .1 .0
+same-length-18 c = finished c .finish2 .kept .1 .1 .1 .1 .1 .1 .1 .1 .0
 
 same-length-19 : tie.Need-same-length-19
-same-length-19 c = c .before .before .before .before .before .before .before .before .before .before .before .before .before .before .before .before .before .before .before .before .before .before .before .before .before .before .before .before .before .before .before .before .before .before .before .before .before .before .before .before .before .before .before .shape-bvh .kept .1 .1 .1 .1 .1 .0
+same-length-19 c = grown (framed (finished c)) .shape-bvh .kept .1 .1 .1 .1 .1 .0
 
 same-length-20 : tie.Need-same-length-20
-same-length-20 c = c .before .before .before .before .before .before .before .before .finish2 .kept .1 .1 .1 .1 .1 .1 .1 .1 .1 .0
+same-length-20 c = finished c .finish2 .kept .1 .1 .1 .1 .1 .1 .1 .1 .1 .0
 
 same-length-21 : tie.Need-same-length-21
-same-length-21 c = c .before .before .before .before .before .before .before .before .finish2 .kept .1 .1 .1 .1 .1 .1 .1 .1 .1 .1 .0
+same-length-21 c = finished c .finish2 .kept .1 .1 .1 .1 .1 .1 .1 .1 .1 .1 .0
 
 same-length-22 : tie.Need-same-length-22
-same-length-22 c = c .before .before .before .before .before .before .before .before .before .before .before .before .before .before .before .before .before .before .before .before .before .before .before .before .before .before .before .before .before .before .before .before .before .before .before .before .before .before .before .before .before .before .before .shape-bvh .kept .1 .1 .1 .1 .1 .1 .0
+same-length-22 c = grown (framed (finished c)) .shape-bvh .kept .1 .1 .1 .1 .1 .1 .0
 
 same-length-23 : tie.Need-same-length-23
-same-length-23 c = c .before .before .before .before .before .before .before .before .before .before .before .before .before .before .before .before .before .before .before .before .before .before .before .before .before .before .before .before .before .before .before .before .before .before .before .before .before .before .before .before .before .before .before .shape-bvh .kept .1 .1 .1 .1 .1 .1 .1 .0
+same-length-23 c = grown (framed (finished c)) .shape-bvh .kept .1 .1 .1 .1 .1 .1 .1 .0
 
 same-length-24 : tie.Need-same-length-24
-same-length-24 c = c .before .before .before .before .before .before .before .before .before .before .before .before .before .before .before .before .before .before .before .before .before .before .before .before .before .before .before .before .before .before .before .before .before .before .before .before .before .before .before .before .before .before .before .shape-bvh .kept .1 .1 .1 .1 .1 .1 .1 .1 .0
+same-length-24 c = grown (framed (finished c)) .shape-bvh .kept .1 .1 .1 .1 .1 .1 .1 .1 .0
 
 same-length-25 : tie.Need-same-length-25
-same-length-25 c = c .before .before .before .before .before .before .before .before .before .before .before .before .before .before .before .before .before .before .before .before .before .before .before .before .before .before .before .before .before .before .before .before .before .before .before .before .before .before .before .before .before .before .before .shape-bvh .kept .1 .1 .1 .1 .1 .1 .1 .1 .1 .0
+same-length-25 c = grown (framed (finished c)) .shape-bvh .kept .1 .1 .1 .1 .1 .1 .1 .1 .1 .0
 
 same-length-26 : tie.Need-same-length-26
-same-length-26 c = c .before .before .before .before .before .before .before .before .before .before .before .before .before .before .before .before .before .before .before .before .before .before .before .before .before .before .before .before .before .before .before .before .before .before .before .before .before .before .before .before .before .before .before .shape-bvh .kept .1 .1 .1 .1 .1 .1 .1 .1 .1 .1 .0
+same-length-26 c = grown (framed (finished c)) .shape-bvh .kept .1 .1 .1 .1 .1 .1 .1 .1 .1 .1 .0
 
 same-length-27 : tie.Need-same-length-27
-same-length-27 c = c .before .before .before .before .before .before .before .before .before .before .before .before .before .before .before .before .before .before .before .before .before .before .before .before .before .before .before .before .before .before .before .before .before .before .before .before .before .before .before .before .before .before .before .shape-bvh .kept .1 .1 .1 .1 .1 .1 .1 .1 .1 .1 .1 .0
+same-length-27 c = grown (framed (finished c)) .shape-bvh .kept .1 .1 .1 .1 .1 .1 .1 .1 .1 .1 .1 .0
 
 same-length-28 : tie.Need-same-length-28
-same-length-28 c = c .before .before .before .before .before .before .before .before .before .before .before .before .before .before .before .before .before .before .before .before .before .before .before .before .before .before .before .before .before .before .before .before .before .before .before .before .before .before .before .before .before .before .before .shape-bvh .kept .1 .1 .1 .1 .1 .1 .1 .1 .1 .1 .1 .1 .0
+same-length-28 c = grown (framed (finished c)) .shape-bvh .kept .1 .1 .1 .1 .1 .1 .1 .1 .1 .1 .1 .1 .0
 
 same-length-29 : tie.Need-same-length-29
-same-length-29 c = c .before .before .before .before .before .before .before .before .before .before .before .before .before .before .before .before .before .before .before .before .before .before .before .before .before .before .before .before .before .before .before .before .before .before .before .before .before .before .before .before .before .before .before .shape-bvh .kept .1 .1 .1 .1 .1 .1 .1 .1 .1 .1 .1 .1 .1 .0
+same-length-29 c = grown (framed (finished c)) .shape-bvh .kept .1 .1 .1 .1 .1 .1 .1 .1 .1 .1 .1 .1 .1 .0
 
 same-length-30 : tie.Need-same-length-30
-same-length-30 c = c .before .before .before .before .before .before .before .before .before .before .before .before .before .before .before .before .before .before .before .before .before .before .before .before .before .before .before .before .before .before .before .before .before .before .before .before .before .before .before .before .before .before .before .shape-bvh .kept .1 .1 .1 .1 .1 .1 .1 .1 .1 .1 .1 .1 .1 .1 .0
+same-length-30 c = grown (framed (finished c)) .shape-bvh .kept .1 .1 .1 .1 .1 .1 .1 .1 .1 .1 .1 .1 .1 .1 .0
 
 same-length-31 : tie.Need-same-length-31
-same-length-31 c = c .before .before .before .before .before .before .before .before .before .before .before .before .before .before .before .before .before .before .before .before .before .before .before .before .before .before .before .before .before .before .before .before .before .before .before .before .before .before .before .before .before .before .before .shape-bvh .kept .1 .1 .1 .1 .1 .1 .1 .1 .1 .1 .1 .1 .1 .1 .1 .0
+same-length-31 c = grown (framed (finished c)) .shape-bvh .kept .1 .1 .1 .1 .1 .1 .1 .1 .1 .1 .1 .1 .1 .1 .1 .0
 
 same-length-32 : tie.Need-same-length-32
-same-length-32 c = c .before .before .before .before .before .before .before .before .before .before .before .before .before .before .before .before .before .before .before .before .before .before .before .before .before .before .before .before .before .before .before .before .before .before .before .before .before .before .before .before .before .before .before .shape-bvh .kept .1 .1 .1 .1 .1 .1 .1 .1 .1 .1 .1 .1 .1 .1 .1 .1 .0
+same-length-32 c = grown (framed (finished c)) .shape-bvh .kept .1 .1 .1 .1 .1 .1 .1 .1 .1 .1 .1 .1 .1 .1 .1 .1 .0
 
 returns-4 : tie.Need-returns-4
 returns-4 c =
-    let end = c .before .before .before .before .before .before .before .before in
-    let frame = c .before .before .before .before .before .before .before .before .before .before .before .before .before .before .before in
-    let shape = c .before .before .before .before .before .before .before .before .before .before .before .before .before .before .before .before .before .before .before .before .before .before .before .before .before .before .before .before .before .before .before .before .before .before .before .before .before .before .before .before .before .before .before in
-    let check = shape .before .before .before .before .before .before .before .before .before .before .before .before .before .before .before .before in
+    let end = finished c in
+    let frame = framed end in
+    let shape = grown frame in
+    let check = checked shape in
     let told = shape .before .before .before .before .before .before .before .before .before .before .before .before .before .before .enum-told .given .1 in
     let some = shape .before .before .before .before .before .before .before .before .before .before .before .before .before .if1 .left in
-    let g = mesh check in
-    let shaped =
-    subst
-    (λ (r : Build). BvhShaped (g .bound) (g .counts .polygons) (g .counts .vertices) (g .polygons) (g .numbers) (g .vertices) (before check .polygons)
-    (shape .shape-bvh .last .1 .1 .1 .1 .1 .0) (trees check)
-    (outputs (shape .shape-bvh .last .1 .1 .1 .1 .1 .1 .0) (shape .shape-bvh .last .1 .1 .1 .1 .1 .1 .1 .0) (shape .shape-bvh .last .1 .1 .1 .1 .1 .1 .1 .1 .0))
-    (shape .shape-bvh .last .1 .1 .1 .1 .1 .1 .1 .1 .1 .1 .1 .1 .1 .1 .1 .0) r)
-    (c .before .before .before .before .before .before .before .before .before .before .before .before .before .before .before .before .before .built .given .1) (shape .shape-bvh .ensures) in
-    bvh-by g (lengths check) (eight check told) (sym (passed check told)) some _ _ (frame .frame-of .ensures) _ (c .before .before .before .before .before .before .before .before .before .before .before .before .before .before .quantum-of2 .ensures) (before check) _
-    (trees check) _ _ _ (well check told .1 .enough .for-numbers) shaped (end .finish2 .ensures .0) (end .finish2 .ensures .1)
+    let tree = frame .before .before .built .given in
+    let q = end .before .before .before .before .before .before .quantum-of2 .ensures in
+    bvh-by (mesh check) (lengths check) (eight check told) (sym (passed check told)) some _ _ (frame .frame-of .ensures) _ q (before check) _
+    (trees check) _ _ _ (well check told .1 .enough .for-numbers) (told-shape shape _ (tree .1)) (end .finish2 .ensures .0) (end .finish2 .ensures .1)
 
 pub prepare-bvh-spec : {M : Type 1} → statement M
 prepare-bvh-spec =

@@ -46,17 +46,19 @@ slice-reshare-prefix-put-links c = search needs
 slice-aggregate-put-links : tie.Need-slice-aggregate-put-links
 slice-aggregate-put-links c =
     let link = c .before .before .before .before .before .before .before .before .before .before in
-    let start = link .before .before .before .before .before .before .before .before .before .before .before .before .before .before .before .before .before .before .before .before .before in
+    let unpack = link .before .before .before .before .before .before .before .before in
+    let start = unpack .before .before .before .before .before .before .before .before .before .before .before .before .before in
     sym (length-take-le _ (link .links-of .last .1 .1 .1 .1 .0) (omega (arith, link .links-of .kept .1 .1 .1 .1 .0, start .pre .for-links)))
 
 put-links-requires : tie.Need-put-links-requires
 put-links-requires c κs =
     let link = c .before .before .before .before .before .before .before .before .before .before in
-    let start = link .before .before .before .before .before .before .before .before .before .before .before .before .before .before .before .before .before .before .before .before .before in
+    let unpack = link .before .before .before .before .before .before .before .before in
+    let start = unpack .before .before .before .before .before .before .before .before .before .before .before .before .before in
     let l =
     length-take-le (3 * start .args .n) (link .links-of .last .1 .1 .1 .1 .0)
     (omega (arith, link .links-of .kept .1 .1 .1 .1 .0, start .pre .for-links)) in
-    let w = link .before .before .before .before .before .before .before .before .before .before .before .before .put-written .kept .1 .1 .0 in
+    let w = unpack .before .before .before .before .put-written .kept .1 .1 .0 in
     (omega (arith, w, start .pre .for-out), omega (arith, l))
 
 same-length : tie.Need-same-length
@@ -81,7 +83,8 @@ returns : tie.Need-returns
 returns c =
     let link = c .before .before .before .before .before .before .before .before .before .before .before .before .before in
     let unpack = link .before .before .before .before .before .before .before .before in
-    meshed _ _ _ _ (unpack .unpack-corners .ensures) _ (link .links-of .ensures) _ _ _ (unpack .before .before .before .before .put-written .ensures) (c .before .before .put-links .ensures)
+    meshed _ _ _ _ (unpack .unpack-corners .ensures) _ (link .links-of .ensures) _ _ _ (unpack .before .before .before .before .put-written .ensures)
+    (c .before .before .put-links .ensures)
 
 pub link-mesh-spec : {M : Type 1} → statement M
 link-mesh-spec =

@@ -14,7 +14,8 @@ infinite-start-requires c κs = search needs
 
 returns : tie.Need-returns
 returns c =
-    rw (eq-eqb _ 4 (c .before .before .before .if1 .taken), lt-ltb 0 _ (c .before .before .if2 .taken)) (c .infinite-start .ensures ∙ ap infiniteStart (c .before .geometry-of .ensures))
+    let same = c .infinite-start .ensures ∙ ap infiniteStart (c .before .geometry-of .ensures) in
+    rw (eq-eqb _ 4 (c .before .before .before .if1 .taken), lt-ltb 0 _ (c .before .before .if2 .taken)) same
 
 returns-2 : tie.Need-returns-2
 returns-2 c = rw (eq-eqb _ 4 (c .before .if1 .taken), le-ltb 0 _ (c .if2 .left))

@@ -17,7 +17,9 @@ too-many-requires : tie.Need-too-many-requires
 too-many-requires c κs = search needs
 
 returns-2 : tie.Need-returns-2
-returns-2 c = laws.too-many _ _ _ _ _ (sym (c .before .before .before .kind-known .ensures) ∙ not-false _ (c .before .before .if1 .left)) (sym (c .before .too-many .ensures) ∙ c .if2 .taken)
+returns-2 c =
+    laws.too-many _ _ _ _ _ (sym (c .before .before .before .kind-known .ensures) ∙ not-false _ (c .before .before .if1 .left))
+    (sym (c .before .too-many .ensures) ∙ c .if2 .taken)
 
 too-short-requires : tie.Need-too-short-requires
 too-short-requires c κs = laws.few _ (sym (c .before .too-many .ensures) ∙ c .if2 .left)
@@ -40,9 +42,12 @@ refusal-within-requires c κs =
 
 returns-4 : tie.Need-returns-4
 returns-4 c =
+    let at3 = c .before in
+    let at2 = at3 .before .before in
+    let at1 = at2 .before .before in
     c .refusal-within .ensures
-    ∙ laws.rest _ _ _ _ _ (sym (c .before .before .before .before .before .before .kind-known .ensures) ∙ not-false _ (c .before .before .before .before .before .if1 .left))
-    (sym (c .before .before .before .before .too-many .ensures) ∙ c .before .before .before .if2 .left) (sym (c .before .before .too-short .ensures) ∙ c .before .if3 .left)
+    ∙ laws.rest _ _ _ _ _ (sym (at1 .before .kind-known .ensures) ∙ not-false _ (at1 .if1 .left)) (sym (at2 .before .too-many .ensures) ∙ at2 .if2 .left)
+    (sym (at3 .before .too-short .ensures) ∙ at3 .if3 .left)
 
 pub refusal-spec : {M : Type 1} → statement M
 refusal-spec =

@@ -26,13 +26,17 @@ margin-endless-requires c κs = search needs
 
 returns-3 : tie.Need-returns-3
 returns-3 c =
-    no-end _ _ _ _ (sym (c .before .before .before .before .before .kinds-known .ensures) ∙ not-false _ (c .before .before .before .before .if1 .left))
-    (ap (ltb 255) (sym (c .before .before .before .count-materials .ensures)) ∙ le-ltb _ _ (c .before .before .if2 .left)) (sym (c .before .margin-endless .ensures) ∙ c .if3 .taken)
+    let at2 = c .before .before in
+    let at1 = at2 .before .before in
+    let few = ap (ltb 255) (sym (at2 .before .count-materials .ensures)) ∙ le-ltb _ _ (at2 .if2 .left) in
+    no-end _ _ _ _ (sym (at1 .before .kinds-known .ensures) ∙ not-false _ (at1 .if1 .left)) few (sym (c .before .margin-endless .ensures) ∙ c .if3 .taken)
 
 returns-4 : tie.Need-returns-4
 returns-4 c =
-    all-well _ _ _ _ (sym (c .before .before .before .before .before .kinds-known .ensures) ∙ not-false _ (c .before .before .before .before .if1 .left))
-    (ap (ltb 255) (sym (c .before .before .before .count-materials .ensures)) ∙ le-ltb _ _ (c .before .before .if2 .left)) (sym (c .before .margin-endless .ensures) ∙ c .if3 .left)
+    let at2 = c .before .before in
+    let at1 = at2 .before .before in
+    let few = ap (ltb 255) (sym (at2 .before .count-materials .ensures)) ∙ le-ltb _ _ (at2 .if2 .left) in
+    all-well _ _ _ _ (sym (at1 .before .kinds-known .ensures) ∙ not-false _ (at1 .if1 .left)) few (sym (c .before .margin-endless .ensures) ∙ c .if3 .left)
 
 pub refusal-within-spec : {M : Type 1} → statement M
 refusal-within-spec =

@@ -46,11 +46,15 @@ words-short-requires c κs = search needs
 
 returns-5 : tie.Need-returns-5
 returns-5 c =
+    let at4 = c .before .before in
+    let at3 = at4 .before .before in
+    let at2 = at3 .before .before in
+    let at1 = at2 .before .before in
     at-words _ _
-    (sym (c .before .before .before .before .before .before .before .before .before .inputs-short .ensures) ∙ c .before .before .before .before .before .before .before .before .if1 .left)
-    (sym (c .before .before .before .before .before .before .before .lists-short .ensures) ∙ c .before .before .before .before .before .before .if2 .left)
-    (sym (c .before .before .before .before .before .hull-short .ensures) ∙ c .before .before .before .before .if3 .left)
-    (sym (c .before .before .before .tree-short .ensures) ∙ c .before .before .if4 .left)
+    (sym (at1 .before .inputs-short .ensures) ∙ at1 .if1 .left)
+    (sym (at2 .before .lists-short .ensures) ∙ at2 .if2 .left)
+    (sym (at3 .before .hull-short .ensures) ∙ at3 .if3 .left)
+    (sym (at4 .before .tree-short .ensures) ∙ at4 .if4 .left)
     (sym (c .before .words-short .ensures) ∙ c .if5 .taken)
 
 floats-short-requires : tie.Need-floats-short-requires
@@ -58,13 +62,18 @@ floats-short-requires c κs = search needs
 
 returns-6 : tie.Need-returns-6
 returns-6 c =
+    let at5 = c .before in
+    let at4 = at5 .before .before in
+    let at3 = at4 .before .before in
+    let at2 = at3 .before .before in
+    let at1 = at2 .before .before in
     c .floats-short .ensures
     ∙ at-floats _ _
-    (sym (c .before .before .before .before .before .before .before .before .before .before .inputs-short .ensures) ∙ c .before .before .before .before .before .before .before .before .before .if1 .left)
-    (sym (c .before .before .before .before .before .before .before .before .lists-short .ensures) ∙ c .before .before .before .before .before .before .before .if2 .left)
-    (sym (c .before .before .before .before .before .before .hull-short .ensures) ∙ c .before .before .before .before .before .if3 .left)
-    (sym (c .before .before .before .before .tree-short .ensures) ∙ c .before .before .before .if4 .left)
-    (sym (c .before .before .words-short .ensures) ∙ c .before .if5 .left)
+    (sym (at1 .before .inputs-short .ensures) ∙ at1 .if1 .left)
+    (sym (at2 .before .lists-short .ensures) ∙ at2 .if2 .left)
+    (sym (at3 .before .hull-short .ensures) ∙ at3 .if3 .left)
+    (sym (at4 .before .tree-short .ensures) ∙ at4 .if4 .left)
+    (sym (at5 .before .words-short .ensures) ∙ at5 .if5 .left)
 
 pub too-short-spec : {M : Type 1} → statement M
 too-short-spec =

@@ -71,4 +71,24 @@ returns-5 c =
     )
 
 pub words-short-spec : {M : Type 1} → statement M
-words-short-spec = tie.close (tie.spec mul-if1 mul-if1-2 add-if1 returns mul-if2 mul-if2-2 add-if2 returns-2 mul-if3 add-if3 returns-3 mul-if4 add-if4 returns-4 mul-result add-result add-result-2 returns-5)
+words-short-spec =
+    tie.close
+    (tie.spec
+    mul-if1
+    mul-if1-2
+    add-if1
+    returns
+    mul-if2
+    mul-if2-2
+    add-if2
+    returns-2
+    mul-if3
+    add-if3
+    returns-3
+    mul-if4
+    add-if4
+    returns-4
+    mul-result
+    add-result
+    add-result-2
+    returns-5)
