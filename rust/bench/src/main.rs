@@ -13,6 +13,7 @@ mod octants;
 mod page;
 mod plot;
 mod polygons;
+mod prepare;
 mod shrink;
 mod subjects;
 mod tuned;

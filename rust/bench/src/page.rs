@@ -38,6 +38,7 @@ pub fn tables(series: &[Series]) -> String {
         ("Shrinking", SHRINKING, lists(series, Kind::Shrink, "vertices", "vertex")),
         ("Octants", OCTANTS, lists(series, Kind::Octants, "vertices", "vertex")),
         ("Composites", COMPOSITES, lists(series, Kind::Composite, "children", "child")),
+        ("Prepare", PREPARE, lists(series, Kind::Prepare, "size", "triangle or vertex")),
         ("Steps", STEPS, calls(series, Kind::Step, "step", "calls")),
     ];
     let whole = |(title, text, table): &(&str, &str, String)| match table.is_empty() {
@@ -98,6 +99,14 @@ const COMPOSITES: &str = "\
 Of the library `bounds::composite::child_boxes` and `composite_tree`, from children to bytes; of the reference its
 `Composite::prepare`, which makes lists of flags and transforms too, and its records not yet bytes. The children are
 boxes of 1 to 10, turned, and placed over 400. Instructions are those of one child.
+";
+
+const PREPARE: &str = "\
+All that is derived of a geometry: of the library a call of `bounds::prepare::prepare`, from records to bytes, in buffers that
+are lent again and again; of the reference its `Geometry::prepare` of a copy, into lists that are not yet bytes. The grid has
+so many triangles and eight materials: a tree, links and materials in its order, vertices stored. The sphere has so many
+vertices and twice as many triangles: it is shrunk with the first margin, and its octants are listed. Instructions are those
+of one triangle or vertex.
 ";
 
 const STEPS: &str = "\

@@ -1,7 +1,7 @@
 //! What is timed: the sides of an operation over the same inputs.
 
 use crate::lists::{self, inputs, spread, Tame};
-use crate::{composites, octants, polygons, shrink, walks};
+use crate::{composites, octants, polygons, prepare, shrink, walks};
 use bounds::bvh::{build_bvh, records_len, work_len, BvhItem};
 use bounds::{float, math, Mat4, Vec3};
 use oracle::{float as source, math as reference, tree, Aabb};
@@ -45,6 +45,7 @@ pub enum Kind {
     Shrink,
     Octants,
     Composite,
+    Prepare,
     Step,
 }
 
@@ -137,7 +138,13 @@ fn calls<T: Copy + Send + 'static, A, B>(
 
 pub fn all() -> Vec<Subject> {
     let lists = builds_of_lists().into_iter().chain(walks::all()).chain(polygons::all());
-    lists.chain(shrink::all()).chain(octants::all()).chain(composites::all()).chain(steps()).collect()
+    lists
+        .chain(shrink::all())
+        .chain(octants::all())
+        .chain(composites::all())
+        .chain(prepare::all())
+        .chain(steps())
+        .collect()
 }
 
 fn builds_of_lists() -> Vec<Subject> {

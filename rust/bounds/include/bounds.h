@@ -457,6 +457,154 @@ static inline bounds_build_answer bounds_composite_tree_in(size_t child_count,
                                  work + at[4], at[5] - at[4], (float *)(work + at[5]), at[6] - at[5]);
 }
 
+/* ---- prepare ----
+ *
+ * All that is derived of a geometry before it is written: kind 4 shrinks its vertices and lists octants; kind 8 builds a tree
+ * over its polygons and takes them in the order of its leaves. Both list the materials that polygons use, link their
+ * triangles, and store the vertices.
+ */
+
+typedef struct {
+    bounds_words3 box_min, box_max, box_center, sphere_center;
+    uint32_t sphere_radius;
+} bounds_frame;  /* words */
+
+typedef struct {
+    uint32_t kind;  /* 4 or 8 */
+    bounds_frame frame;
+    float margin;
+    bounds_vec3 center;     /* added to the vertices where they meet the box and the transform */
+    bounds_mat4 transform;
+} bounds_bound;
+
+typedef struct { size_t polygons, vertices, materials; } bounds_counts;
+
+/* How long the buffers are that only the other kind writes to. */
+typedef struct { size_t node_bytes, tree_bytes, order, sorted; } bounds_bvh_lengths;
+typedef struct { size_t shrunk, shrunk_floats, octants, olds, news; } bounds_geometry_lengths;
+
+typedef struct {
+    uint32_t refusal;
+    bounds_frame frame;             /* kind 8 with polygons: the tree's box, centre and radius; else as it was given */
+    bounds_vec3 quantum;            /* of the box in `frame` */
+    size_t materials;               /* before they are filled up to four */
+    bounds_octants_answer octants;  /* kind 4: indices in each list */
+    bounds_build_answer tree;       /* kind 8 with polygons; else `nodes` and all values are 0 */
+} bounds_prepare_answer;
+
+/* Words of all the parts that are worked in together: 55 a polygon, 13 a vertex, and 8. */
+uint64_t bounds_prepare_work_len(uint32_t polygons, uint32_t vertices);
+
+/* bounds_prepare below, of kind 4 and of kind 8; of any other kind each refuses with 6. In what they work they are lent in
+ * parts, of p polygons and v vertices:
+ *   entries  7p + 4v are needed
+ *   places   3p + 3v
+ *   temp     3p + v
+ *   stack    3p + v
+ *   rows     16p + 8 + v
+ *   points   3v
+ *   sorted   p
+ *   centres  4p
+ *   olds     9p
+ *   news     9p
+ * The sizes that are needed are the same for both kinds: of what a kind does not write to, the length is given. */
+bounds_prepare_answer bounds_prepare_geometry(
+    bounds_bound bound, bounds_counts counts, bounds_bvh_lengths other, const uint8_t *polygons, size_t polygons_len,
+    const uint8_t *numbers, size_t numbers_len, const uint32_t *mats, size_t mats_len,
+    const uint32_t *vertices, size_t vertices_len, uint8_t *list, size_t list_len, uint8_t *indices, size_t indices_len,
+    uint8_t *polygons_out, size_t polygons_out_len, uint8_t *stored, size_t stored_len, uint32_t *floats, size_t floats_len,
+    uint8_t *shrunk, size_t shrunk_len, uint32_t *shrunk_floats, size_t shrunk_floats_len,
+    uint32_t *octants, size_t octants_len, uint32_t *entries, size_t entries_len, uint32_t *places, size_t places_len,
+    uint32_t *temp, size_t temp_len, uint32_t *stack, size_t stack_len, uint32_t *rows, size_t rows_len,
+    uint32_t *points, size_t points_len, float *centres, size_t centres_len, float *olds, size_t olds_len,
+    float *news, size_t news_len);
+bounds_prepare_answer bounds_prepare_bvh(
+    bounds_bound bound, bounds_counts counts, bounds_geometry_lengths other, const uint8_t *polygons, size_t polygons_len,
+    const uint8_t *numbers, size_t numbers_len, const uint32_t *mats, size_t mats_len,
+    const uint32_t *vertices, size_t vertices_len, uint8_t *list, size_t list_len, uint8_t *indices, size_t indices_len,
+    uint8_t *polygons_out, size_t polygons_out_len, uint8_t *stored, size_t stored_len, uint32_t *floats, size_t floats_len,
+    uint8_t *node_bytes, size_t node_bytes_len, uint8_t *tree_bytes, size_t tree_bytes_len, uint16_t *order, size_t order_len,
+    uint32_t *entries, size_t entries_len, uint32_t *places, size_t places_len, uint32_t *temp, size_t temp_len,
+    uint32_t *stack, size_t stack_len, uint32_t *rows, size_t rows_len, uint32_t *points, size_t points_len,
+    uint8_t *sorted, size_t sorted_len, float *centres, size_t centres_len);
+
+/* What is prepared: p polygons, v vertices and m materials. */
+typedef struct {
+    bounds_bound bound;
+    bounds_counts counts;
+    const uint8_t *polygons;    /* 16 bytes a polygon; links in them do not matter */
+    const uint8_t *numbers;     /* a polygon's material by its number; one that is not given is (0, 0) */
+    const uint32_t *materials;  /* two words each */
+    const uint32_t *vertices;   /* three words each */
+    size_t polygons_len, numbers_len, materials_len, vertices_len;
+} bounds_mesh;
+
+/* Where it is written to, and a buffer to work in. The sizes are needed whatever the kind is. */
+typedef struct {
+    uint8_t *materials;       /* 2,048 bytes: 8 each, filled up to four with (0, 0) */
+    uint8_t *indices;         /* 1 a polygon: its place among the materials */
+    uint8_t *polygons;        /* 16 a polygon: kind 8 in the order of the leaves; triangles linked */
+    uint8_t *vertices;        /* 6 a vertex: three i16, in units of the quantum */
+    uint32_t *floats;         /* 3 words a vertex: the point that these stand for */
+    uint8_t *shrunk;          /* as `vertices`, of the shrunk ones; kind 4 */
+    uint32_t *shrunk_floats;  /* as `floats`; kind 4 */
+    uint32_t *octants;        /* 8 words a vertex: list k begins at word k * v; kind 4 */
+    uint8_t *node_bytes;      /* 16 * (2p + 1); kind 8, as bounds_build_bvh's at threshold 4 */
+    uint8_t *tree_bytes;      /* 16 * (2p + 1); kind 8 */
+    uint16_t *order;          /* 1 a polygon: which of the given ones it was; kind 8 */
+    uint32_t *work;           /* bounds_prepare_work_len(p, v) words */
+    size_t materials_len, indices_len, polygons_len, vertices_len, floats_len, shrunk_len, shrunk_floats_len, octants_len,
+        node_bytes_len, tree_bytes_len, order_len, work_len;
+} bounds_buffers;
+
+/* The least lengths of all buffers for so many polygons and vertices, without pointers; of more than are taken, for the
+ * most that are. */
+static inline bounds_buffers bounds_prepare_lengths(size_t polygon_count, size_t vertex_count) {
+    size_t p = polygon_count < 32767 ? polygon_count : 32767, v = vertex_count < 32768 ? vertex_count : 32768;
+    const size_t records = 16 * (2 * p + 1), work = (size_t)bounds_prepare_work_len((uint32_t)p, (uint32_t)v);
+    const bounds_buffers b = {NULL, NULL, NULL, NULL, NULL, NULL, NULL, NULL, NULL, NULL, NULL, NULL,
+                              2048, p, 16 * p, 6 * v, 3 * v, 6 * v, 3 * v, 8 * v, records, records, p, work};
+    return b;
+}
+
+/* Prepares a mesh. Refusals 6 (a kind that is not 4 or 8), 1 (over 32,767 polygons, 32,768 vertices or 256 materials), 2 (a
+ * buffer too short, inputs too), 6 (a polygon's kind is above 4), 8 (the polygons use 256 materials or more), 7 (kind 4 with
+ * vertices, and the starting margin is infinite), 4 (kind 8, and the tree has over 32,767 nodes), in this order. A refusal
+ * changes nothing but the work buffer, and its other values are 0. What a kind does not write to stays as it was, and so
+ * does what lies behind the written bytes. */
+static inline bounds_prepare_answer bounds_prepare(const bounds_mesh *mesh, const bounds_buffers *to) {
+    size_t p = mesh->counts.polygons < 32767 ? mesh->counts.polygons : 32767;
+    size_t v = mesh->counts.vertices < 32768 ? mesh->counts.vertices : 32768;
+    const size_t least[9] = {7 * p + 4 * v, 3 * p + 3 * v, 3 * p + v, 3 * p + v, 16 * p + 8 + v, 3 * v, p, 4 * p, 9 * p};
+    size_t len[10], left = to->work_len;
+    uint32_t *at[10] = {to->work};
+    for (int i = 0; i < 9; i++) {
+        len[i] = bounds_part(least[i], &left);
+        at[i + 1] = at[i] + len[i];
+    }
+    len[9] = left;
+    if (mesh->bound.kind == 8) {
+        const bounds_geometry_lengths other = {to->shrunk_len, to->shrunk_floats_len, to->octants_len, len[8], len[9]};
+        return bounds_prepare_bvh(mesh->bound, mesh->counts, other, mesh->polygons, mesh->polygons_len,
+                                  mesh->numbers, mesh->numbers_len, mesh->materials, mesh->materials_len,
+                                  mesh->vertices, mesh->vertices_len, to->materials, to->materials_len,
+                                  to->indices, to->indices_len, to->polygons, to->polygons_len,
+                                  to->vertices, to->vertices_len, to->floats, to->floats_len,
+                                  to->node_bytes, to->node_bytes_len, to->tree_bytes, to->tree_bytes_len,
+                                  to->order, to->order_len, at[0], len[0], at[1], len[1], at[2], len[2], at[3], len[3],
+                                  at[4], len[4], at[5], len[5], (uint8_t *)at[6], 4 * len[6], (float *)at[7], len[7]);
+    }
+    const bounds_bvh_lengths other = {to->node_bytes_len, to->tree_bytes_len, to->order_len, 4 * len[6]};
+    return bounds_prepare_geometry(mesh->bound, mesh->counts, other, mesh->polygons, mesh->polygons_len,
+                                   mesh->numbers, mesh->numbers_len, mesh->materials, mesh->materials_len,
+                                   mesh->vertices, mesh->vertices_len, to->materials, to->materials_len,
+                                   to->indices, to->indices_len, to->polygons, to->polygons_len,
+                                   to->vertices, to->vertices_len, to->floats, to->floats_len, to->shrunk, to->shrunk_len,
+                                   to->shrunk_floats, to->shrunk_floats_len, to->octants, to->octants_len,
+                                   at[0], len[0], at[1], len[1], at[2], len[2], at[3], len[3], at[4], len[4], at[5], len[5],
+                                   (float *)at[7], len[7], (float *)at[8], len[8], (float *)at[9], len[9]);
+}
+
 #ifdef __cplusplus
 }
 #endif

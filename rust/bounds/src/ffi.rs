@@ -6,6 +6,7 @@
 //! every argument that its C signature admits.
 #![allow(unsafe_code)]
 
+use crate::prepare::{Bound, Frame};
 use crate::types::{BoundMaterial, BoundVertex, BvhItem, Child, Mat4, Records, ShrinkBound, Vec3, Vec4};
 
 /// `bounds_aabb`.
@@ -793,6 +794,309 @@ const _: () = {
     assert!(size_of::<ShrinkAnswer>() == 12 && align_of::<ShrinkAnswer>() == 4);
 };
 
+// ---- prepare
+
+/// `bounds_counts`.
+#[derive(Clone, Copy)]
+#[repr(C)]
+pub struct Counts {
+    pub polygons: usize,
+    pub vertices: usize,
+    pub materials: usize,
+}
+
+/// `bounds_bvh_lengths`.
+#[derive(Clone, Copy)]
+#[repr(C)]
+struct BvhLengths {
+    node_bytes: usize,
+    tree_bytes: usize,
+    order: usize,
+    sorted: usize,
+}
+
+/// `bounds_geometry_lengths`.
+#[derive(Clone, Copy)]
+#[repr(C)]
+struct GeometryLengths {
+    shrunk: usize,
+    shrunk_floats: usize,
+    octants: usize,
+    olds: usize,
+    news: usize,
+}
+
+/// `bounds_prepare_answer`.
+#[derive(Clone, Copy)]
+#[repr(C)]
+pub struct PrepareAnswer {
+    pub refusal: u32,
+    pub frame: Frame,
+    pub quantum: Vec3,
+    pub materials: usize,
+    pub octants: OctantsAnswer,
+    pub tree: BuildAnswer,
+}
+
+/// The pointers of a `bounds_mesh`.
+#[derive(Clone, Copy)]
+pub struct Inputs<'a> {
+    pub polygons: &'a [u8],
+    pub numbers: &'a [u8],
+    pub materials: &'a [u32],
+    pub vertices: &'a [u32],
+}
+
+/// The pointers of a `bounds_buffers`, without the one to work in.
+pub struct Outputs<'a> {
+    pub materials: &'a mut [u8],
+    pub indices: &'a mut [u8],
+    pub polygons: &'a mut [u8],
+    pub vertices: &'a mut [u8],
+    pub floats: &'a mut [u32],
+    pub shrunk: &'a mut [u8],
+    pub shrunk_floats: &'a mut [u32],
+    pub octants: &'a mut [u32],
+    pub node_bytes: &'a mut [u8],
+    pub tree_bytes: &'a mut [u8],
+    pub order: &'a mut [u16],
+}
+
+unsafe extern "C" {
+    pub safe fn bounds_prepare_work_len(polygons: u32, vertices: u32) -> u64; // any numbers; 55 and 13 stay below 2^64
+
+    // Memory is reached, and only through each pointer and the length behind it: called below, with slices.
+    fn bounds_prepare_geometry(
+        bound: Bound,
+        counts: Counts,
+        other: BvhLengths,
+        polygons: *const u8,
+        polygons_len: usize,
+        numbers: *const u8,
+        numbers_len: usize,
+        mats: *const u32,
+        mats_len: usize,
+        vertices: *const u32,
+        vertices_len: usize,
+        list: *mut u8,
+        list_len: usize,
+        indices: *mut u8,
+        indices_len: usize,
+        polygons_out: *mut u8,
+        polygons_out_len: usize,
+        stored: *mut u8,
+        stored_len: usize,
+        floats: *mut u32,
+        floats_len: usize,
+        shrunk: *mut u8,
+        shrunk_len: usize,
+        shrunk_floats: *mut u32,
+        shrunk_floats_len: usize,
+        octants: *mut u32,
+        octants_len: usize,
+        entries: *mut u32,
+        entries_len: usize,
+        places: *mut u32,
+        places_len: usize,
+        temp: *mut u32,
+        temp_len: usize,
+        stack: *mut u32,
+        stack_len: usize,
+        rows: *mut u32,
+        rows_len: usize,
+        points: *mut u32,
+        points_len: usize,
+        centres: *mut f32,
+        centres_len: usize,
+        olds: *mut f32,
+        olds_len: usize,
+        news: *mut f32,
+        news_len: usize,
+    ) -> PrepareAnswer;
+    fn bounds_prepare_bvh(
+        bound: Bound,
+        counts: Counts,
+        other: GeometryLengths,
+        polygons: *const u8,
+        polygons_len: usize,
+        numbers: *const u8,
+        numbers_len: usize,
+        mats: *const u32,
+        mats_len: usize,
+        vertices: *const u32,
+        vertices_len: usize,
+        list: *mut u8,
+        list_len: usize,
+        indices: *mut u8,
+        indices_len: usize,
+        polygons_out: *mut u8,
+        polygons_out_len: usize,
+        stored: *mut u8,
+        stored_len: usize,
+        floats: *mut u32,
+        floats_len: usize,
+        node_bytes: *mut u8,
+        node_bytes_len: usize,
+        tree_bytes: *mut u8,
+        tree_bytes_len: usize,
+        order: *mut u16,
+        order_len: usize,
+        entries: *mut u32,
+        entries_len: usize,
+        places: *mut u32,
+        places_len: usize,
+        temp: *mut u32,
+        temp_len: usize,
+        stack: *mut u32,
+        stack_len: usize,
+        rows: *mut u32,
+        rows_len: usize,
+        points: *mut u32,
+        points_len: usize,
+        sorted: *mut u8,
+        sorted_len: usize,
+        centres: *mut f32,
+        centres_len: usize,
+    ) -> PrepareAnswer;
+}
+
+/// `bounds_prepare`; what it works in is lent in ten parts: entries, places, temp, stack, rows, points, sorted, centres, olds
+/// and news.
+pub fn prepare(bound: Bound, counts: Counts, from: Inputs, to: Outputs, work: [&mut [u32]; 10]) -> PrepareAnswer {
+    let [entries, places, temp, stack, rows, points, sorted, centres, olds, news] = work;
+    if bound.kind == 8 {
+        let other = GeometryLengths {
+            shrunk: to.shrunk.len(),
+            shrunk_floats: to.shrunk_floats.len(),
+            octants: to.octants.len(),
+            olds: olds.len(),
+            news: news.len(),
+        };
+        // SAFETY: each pointer comes from a slice and goes with that slice's length, and all its cells are initialised. The
+        // inputs are only read; the others, being exclusive borrows, overlap neither them nor one another. The part
+        // `sorted` is lent as bytes, four a word, and `centres` as floats: any bits are a word's, a byte's and a float's.
+        // The structs have the header's fields in the header's order (their sizes are checked below). The counts may be any
+        // numbers: the library reaches what they count only where it found the slices long enough for it.
+        return unsafe {
+            bounds_prepare_bvh(
+                bound,
+                counts,
+                other,
+                from.polygons.as_ptr(),
+                from.polygons.len(),
+                from.numbers.as_ptr(),
+                from.numbers.len(),
+                from.materials.as_ptr(),
+                from.materials.len(),
+                from.vertices.as_ptr(),
+                from.vertices.len(),
+                to.materials.as_mut_ptr(),
+                to.materials.len(),
+                to.indices.as_mut_ptr(),
+                to.indices.len(),
+                to.polygons.as_mut_ptr(),
+                to.polygons.len(),
+                to.vertices.as_mut_ptr(),
+                to.vertices.len(),
+                to.floats.as_mut_ptr(),
+                to.floats.len(),
+                to.node_bytes.as_mut_ptr(),
+                to.node_bytes.len(),
+                to.tree_bytes.as_mut_ptr(),
+                to.tree_bytes.len(),
+                to.order.as_mut_ptr(),
+                to.order.len(),
+                entries.as_mut_ptr(),
+                entries.len(),
+                places.as_mut_ptr(),
+                places.len(),
+                temp.as_mut_ptr(),
+                temp.len(),
+                stack.as_mut_ptr(),
+                stack.len(),
+                rows.as_mut_ptr(),
+                rows.len(),
+                points.as_mut_ptr(),
+                points.len(),
+                sorted.as_mut_ptr().cast::<u8>(),
+                4 * sorted.len(),
+                centres.as_mut_ptr().cast::<f32>(),
+                centres.len(),
+            )
+        };
+    }
+    let other = BvhLengths {
+        node_bytes: to.node_bytes.len(),
+        tree_bytes: to.tree_bytes.len(),
+        order: to.order.len(),
+        sorted: 4 * sorted.len(),
+    };
+    // SAFETY: as above; `olds` and `news` are lent as floats too.
+    unsafe {
+        bounds_prepare_geometry(
+            bound,
+            counts,
+            other,
+            from.polygons.as_ptr(),
+            from.polygons.len(),
+            from.numbers.as_ptr(),
+            from.numbers.len(),
+            from.materials.as_ptr(),
+            from.materials.len(),
+            from.vertices.as_ptr(),
+            from.vertices.len(),
+            to.materials.as_mut_ptr(),
+            to.materials.len(),
+            to.indices.as_mut_ptr(),
+            to.indices.len(),
+            to.polygons.as_mut_ptr(),
+            to.polygons.len(),
+            to.vertices.as_mut_ptr(),
+            to.vertices.len(),
+            to.floats.as_mut_ptr(),
+            to.floats.len(),
+            to.shrunk.as_mut_ptr(),
+            to.shrunk.len(),
+            to.shrunk_floats.as_mut_ptr(),
+            to.shrunk_floats.len(),
+            to.octants.as_mut_ptr(),
+            to.octants.len(),
+            entries.as_mut_ptr(),
+            entries.len(),
+            places.as_mut_ptr(),
+            places.len(),
+            temp.as_mut_ptr(),
+            temp.len(),
+            stack.as_mut_ptr(),
+            stack.len(),
+            rows.as_mut_ptr(),
+            rows.len(),
+            points.as_mut_ptr(),
+            points.len(),
+            centres.as_mut_ptr().cast::<f32>(),
+            centres.len(),
+            olds.as_mut_ptr().cast::<f32>(),
+            olds.len(),
+            news.as_mut_ptr().cast::<f32>(),
+            news.len(),
+        )
+    }
+}
+
+/// The words of materials, two each, as they lie in memory.
+pub fn material_words(materials: &[BoundMaterial]) -> &[u32] {
+    // SAFETY: a material is `repr(C)`, two u32 without padding (checked above). The words are borrowed for as long as the
+    // materials.
+    unsafe { std::slice::from_raw_parts(materials.as_ptr().cast(), 2 * materials.len()) }
+}
+
+const _: () = {
+    assert!(size_of::<Frame>() == 52 && align_of::<Frame>() == 4);
+    assert!(size_of::<Bound>() == 136 && align_of::<Bound>() == 4);
+    assert!(size_of::<Counts>() == 24 && size_of::<BvhLengths>() == 32 && size_of::<GeometryLengths>() == 40);
+    assert!(size_of::<PrepareAnswer>() == 224 && align_of::<PrepareAnswer>() == 8);
+};
+
 #[cfg(test)]
 mod tests {
     use super::*;
@@ -1009,5 +1313,93 @@ mod tests {
         assert_eq!((refusal(32_767, 0, 0, [0; 11]), refusal(0, 0, 0, [0; 11])), (2, 0));
         let lengths = shrink_lengths(1, 1);
         assert_eq!([4, 5, 6, 7, 8].map(|kind| refusal(1, 1, kind, lengths)), [0, 6, 6, 6, 0]);
+    }
+
+    /// Inputs (polygons, numbers, materials, vertices), outputs as `Outputs` has them, and the ten parts of the work buffer;
+    /// bytes, halves or words. In the work buffer the part `sorted` is words, of which a quarter is enough.
+    fn prepare_lengths(p: usize, v: usize, m: usize) -> [usize; 25] {
+        let records = 16 * (2 * p + 1);
+        let outputs = [2048, p, 16 * p, 6 * v, 3 * v, 6 * v, 3 * v, 8 * v, records, records, p];
+        let work =
+            [7 * p + 4 * v, 3 * p + 3 * v, 3 * p + v, 3 * p + v, 16 * p + 8 + v, 3 * v, p / 4, 4 * p, 9 * p, 9 * p];
+        let mut all = [0; 25];
+        all[..4].copy_from_slice(&[16 * p, p, 2 * m, 3 * v]);
+        all[4..15].copy_from_slice(&outputs);
+        all[15..].copy_from_slice(&work);
+        all
+    }
+
+    /// Triangles of the first three of vertices that are all the same; every cell of an output is 7.
+    fn prepared(kind: u32, p: usize, v: usize, m: usize, lengths: [usize; 25]) -> (PrepareAnswer, bool) {
+        let record = [0, 0, 0, 0, 0, 0, 1, 0, 2, 0, 0, 0, 0, 0, 0, 0];
+        let polygons: Vec<u8> = record.into_iter().cycle().take(lengths[0]).collect();
+        let (numbers, materials, vertices) = (vec![0; lengths[1]], vec![5; lengths[2]], vec![7; lengths[3]]);
+        let from = Inputs { polygons: &polygons, numbers: &numbers, materials: &materials, vertices: &vertices };
+        let bytes = |at: usize| vec![7u8; lengths[at]];
+        let words = |at: usize| vec![7u32; lengths[at]];
+        let (mut list, mut indices, mut records) = (bytes(4), bytes(5), bytes(6));
+        let (mut stored, mut floats, mut shrunk, mut shrunk_floats) = (bytes(7), words(8), bytes(9), words(10));
+        let (mut octants, mut nodes, mut trees, mut order) = (words(11), bytes(12), bytes(13), vec![7u16; lengths[14]]);
+        let to = Outputs {
+            materials: &mut list,
+            indices: &mut indices,
+            polygons: &mut records,
+            vertices: &mut stored,
+            floats: &mut floats,
+            shrunk: &mut shrunk,
+            shrunk_floats: &mut shrunk_floats,
+            octants: &mut octants,
+            node_bytes: &mut nodes,
+            tree_bytes: &mut trees,
+            order: &mut order,
+        };
+        let mut work: [Vec<u32>; 10] = std::array::from_fn(|part| vec![7; lengths[15 + part]]);
+        let work = work.each_mut().map(|part| &mut part[..]);
+        let two = Vec3::new(2.0, 2.0, 2.0);
+        let bound = Bound { kind, box_min: -two, box_max: two, margin: 1.0, ..Bound::default() };
+        let answer = prepare(bound, Counts { polygons: p, vertices: v, materials: m }, from, to, work);
+        let bytes = [list, indices, records, stored, shrunk, nodes, trees].concat();
+        let words = [floats, shrunk_floats, octants].concat();
+        let untouched = bytes.iter().all(|&b| b == 7) && words.iter().all(|&w| w == 7) && order.iter().all(|&o| o == 7);
+        (answer, untouched)
+    }
+
+    #[test]
+    fn each_buffer_of_prepare_is_checked_for_both_kinds() {
+        const COUNTS: (usize, usize, usize) = (8, 3, 2);
+        let (p, v, m) = COUNTS;
+        let lengths = prepare_lengths(p, v, m);
+        for kind in [4, 8] {
+            let (answer, untouched) = prepared(kind, p, v, m, lengths);
+            assert_eq!((answer.refusal, answer.materials, untouched), (0, 1, false), "kind {kind}");
+            assert_eq!((answer.octants.counts[0], answer.tree.nodes), if kind == 4 { (1, 0) } else { (0, 3) });
+            for at in 0..lengths.len() {
+                let (mut longer, mut shorter) = (lengths, lengths);
+                longer[at] += 1;
+                assert_eq!(prepared(kind, p, v, m, longer).0.refusal, 0, "kind {kind}, buffer {at} longer");
+                shorter[at] -= 1;
+                let (refused, untouched) = prepared(kind, p, v, m, shorter);
+                assert_eq!((refused.refusal, untouched), (2, true), "kind {kind}, buffer {at} shorter");
+                assert_eq!((refused.materials, refused.tree.nodes, refused.frame), (0, 0, Frame::default()));
+            }
+        }
+        let words: usize = lengths[15..].iter().sum::<usize>() + p - p / 4;
+        assert_eq!(words as u64, bounds_prepare_work_len(p as u32, v as u32));
+    }
+
+    #[test]
+    fn prepare_is_refused_by_its_kind_then_by_its_numbers() {
+        let refusal = |kind, p, v, m| prepared(kind, p, v, m, [0; 25]).0.refusal;
+        for kind in [0, 3, 5, 7, 9, 12, 260, u32::MAX] {
+            assert_eq!((refusal(kind, 0, 0, 0), refusal(kind, usize::MAX, 0, 0)), (6, 6), "{kind}");
+        }
+        for kind in [4, 8] {
+            for n in [32_769, usize::MAX / 16, usize::MAX] {
+                assert_eq!([refusal(kind, n, 0, 0), refusal(kind, 0, n, 0), refusal(kind, 0, 0, n)], [1; 3], "{n}");
+            }
+            assert_eq!([refusal(kind, 32_768, 0, 0), refusal(kind, 0, 32_768, 0), refusal(kind, 0, 0, 257)], [1, 2, 1]);
+            assert_eq!([refusal(kind, 32_767, 0, 0), refusal(kind, 0, 0, 256), refusal(kind, 0, 0, 0)], [2; 3]);
+            assert_eq!(prepared(kind, 0, 0, 0, prepare_lengths(0, 0, 0)).0.refusal, 0);
+        }
     }
 }

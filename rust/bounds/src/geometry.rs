@@ -85,6 +85,22 @@ impl Polygon {
         Refusal::check(ffi::polygon_write(out, self.as_struct()))
     }
 
+    /// The number of its material.
+    ///
+    /// ```
+    /// # use bounds::geometry::Polygon;
+    /// assert_eq!(Polygon::Sphere { material: 3, index: 0, radius: 0.5 }.material(), 3);
+    /// ```
+    pub fn material(&self) -> u8 {
+        match *self {
+            Polygon::Triangle { material, .. }
+            | Polygon::Sphere { material, .. }
+            | Polygon::Capsule { material, .. }
+            | Polygon::Box { material, .. }
+            | Polygon::Cylinder { material, .. } => material,
+        }
+    }
+
     /// The least and the greatest of its box. A vertex that is not there is zero; of a triangle's vertices bit 15 is
     /// left out.
     ///

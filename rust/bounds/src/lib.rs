@@ -12,6 +12,7 @@
 //! - [`geometry`]: polygons, their links and materials, stored vertices.
 //! - [`octants`]: the vertices of a geometry that no other one shadows, in eight directions.
 //! - [`shrink`]: the vertices of a geometry moved inwards by its margin.
+//! - [`prepare`](mod@prepare): from a mesh to all that a file holds of it.
 //! - [`premises`]: whether a list meets what the walk's promise asks.
 //! - [`walk`](mod@walk): the walk over a tree's records.
 //! - [`refusal`]: what an operation turns down, by its number and in words.
@@ -26,6 +27,7 @@ pub mod geometry;
 pub mod math;
 pub mod octants;
 pub mod premises;
+pub mod prepare;
 pub mod refusal;
 pub mod shrink;
 pub mod tree;
@@ -38,6 +40,7 @@ pub use geometry::{build_materials, polygon_items, update_edge_indices, BoundMat
 pub use math::{Mat4, Vec3, Vec4};
 pub use octants::{calculate_octants, Octants};
 pub use premises::ordinary;
+pub use prepare::{Geometry, Prepared};
 pub use refusal::Refusal;
 pub use shrink::{calculate_verts_shrunk, ShrinkBound, Shrunk, ShrunkBy};
 pub use tree::{BvhNode, BvhTree, Tree};

@@ -9,7 +9,7 @@
 //!   queries of [`queries`].
 //! - [`polygons`], [`meshes`], [`vertices`]: polygon records and boxes, materials and links, stored vertices. The tests
 //!   hold [`plain`], the same steps in plain Rust, against the reference too.
-//! - [`shrink`], over what [`shapes`] makes.
+//! - [`shrink`] and [`prepare`], over what [`shapes`] makes.
 //! - [`octants`], over what [`points`] makes, and [`composites`].
 //! - [`exhaustive`]: operations of one word over all 2^32.
 //! - [`vectors`]: a sample of the reference's answers as a text file.
@@ -33,6 +33,7 @@ pub mod pairs;
 pub mod plain;
 pub mod points;
 pub mod polygons;
+pub mod prepare;
 pub mod promises;
 pub mod proved;
 pub mod queries;

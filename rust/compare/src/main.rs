@@ -1,18 +1,18 @@
 //! `compare [OP..] [--seed S] [--cases N] [--stride N] [--threads N] [--write-vectors FILE]`
 //!
 //! OP is `float`, `math`, `tree`, `walk`, `pair`, `exhaustive`, `all` (these six, and what is meant without an OP) or an
-//! operation's name; those of `tree` are `build` and `header`. Those of `geometry`, `shrink`, `octants` (the lists and
-//! `octant_bytes`) and `composite` are asked for by name.
+//! operation's name; those of `tree` are `build` and `header`. Those of `geometry`, `shrink`, `prepare`, `octants` (the lists
+//! and `octant_bytes`) and `composite` are asked for by name.
 //! Exit status: 0 all the same, 1 a mismatch, 2 it could not be run.
 
 use compare::exhaustive::{self, Extent};
 use compare::{build, check, composites, header, meshes, octants, operation, pairs};
-use compare::{polygons, proved, report, shrink, vectors, vertices, walks};
+use compare::{polygons, prepare, proved, report, shrink, vectors, vertices, walks};
 use std::process::ExitCode;
 
 const USAGE: &str = "usage: compare [OP..] [--seed S] [--cases N] [--stride N] [--threads N] [--write-vectors FILE]
-  OP                    float, math, tree, walk, pair, exhaustive, all, geometry, shrink, octants,
-                        composite, or an operation's name
+  OP                    float, math, tree, walk, pair, exhaustive, all, geometry, shrink, prepare,
+                        octants, composite, or an operation's name
   --seed S              of the random inputs (default 1)
   --cases N             of each operation (default 1000000); of octants a 25,000th are lists of 32,768 of each kind
   --stride N            exhaustive: only every N-th word (default 1: all of them), from one that the seed gives
@@ -23,7 +23,7 @@ const USAGE: &str = "usage: compare [OP..] [--seed S] [--cases N] [--stride N] [
 const GEOMETRY: [&str; 8] = ["geometry", "polygon", "items", "materials", "links", "quantum", "stored", "read_back"];
 
 /// Asked for by name too.
-const MORE: [&str; 4] = ["shrink", "octants", "octant_bytes", "composite"];
+const MORE: [&str; 5] = ["shrink", "prepare", "octants", "octant_bytes", "composite"];
 
 struct Arguments {
     ops: Vec<String>,
@@ -128,6 +128,9 @@ fn more(a: &Arguments) -> Vec<report::Line> {
     let named = |names: &[&str]| a.ops.iter().any(|op| names.contains(&op.as_str()));
     if named(&["shrink"]) {
         lines.push(shrink::run(a.seed, a.cases, &proved::shrink));
+    }
+    if named(&["prepare"]) {
+        lines.push(prepare::run(a.seed, a.cases, &proved::prepare, Some(&proved::prepare_whole)));
     }
     if named(&["octants"]) {
         lines.push(octants::lists(a.seed, a.cases, proved::octants));

@@ -4,13 +4,14 @@ use crate::composites;
 use crate::lent::Lent;
 use crate::operation::made;
 use crate::polygons::Sides;
-use crate::shrink::Case;
+use crate::{prepare, shrink};
 use bounds::composite::{child_boxes, composite_tree, Child};
 use bounds::geometry::{self as library, BoundMaterial, BoundVertex};
 use bounds::octants::{calculate_octants, calculate_octants_in, Octants};
+use bounds::prepare::{Bound, Buffers, Mesh, Values};
 use bounds::shrink::{calculate_verts_shrunk, calculate_verts_shrunk_in, ShrinkBound, ShrunkBy};
 use bounds::{Mat4, Refusal};
-use oracle::geometry::By;
+use oracle::geometry::{By, Geometry};
 use oracle::polygon::{Material, Polygon, LIMIT};
 use oracle::{Aabb, Vec3};
 
@@ -78,8 +79,7 @@ pub fn items(records: &[u8], n: usize, vertices: &[Vec3], words: &mut [u32]) -> 
 }
 
 pub fn materials(numbers: &[u8], given: &[Material], list: &mut [u8], indices: &mut [u8]) -> Result<usize, u32> {
-    let given: Vec<BoundMaterial> = given.iter().map(|&(data1, data2)| BoundMaterial { data1, data2 }).collect();
-    library::build_materials(numbers, &given, list, indices).map_err(Refusal::number)
+    library::build_materials(numbers, &self::given(given), list, indices).map_err(Refusal::number)
 }
 
 /// In a work buffer of just the length that is asked for, of any contents.
@@ -124,7 +124,7 @@ pub fn octant_bytes(lists: &[Vec<u32>; 8], address: u64, out: &mut [u8]) -> Resu
 }
 
 /// Of a few polygons the vertices in buffers of their own have to be the same.
-pub fn shrink(case: &Case, points: &mut [bounds::Vec3], work: &mut [u32]) -> Result<By, u32> {
+pub fn shrink(case: &shrink::Case, points: &mut [bounds::Vec3], work: &mut [u32]) -> Result<By, u32> {
     let g = &case.geometry;
     let bound = ShrinkBound {
         box_min: point(g.box_min),
@@ -146,6 +146,53 @@ pub fn shrink(case: &Case, points: &mut [bounds::Vec3], work: &mut [u32]) -> Res
         ShrunkBy::Normals => By::Normals,
         ShrunkBy::NoVertices => By::NoVertices,
     })
+}
+
+fn given(materials: &[Material]) -> Vec<BoundMaterial> {
+    materials.iter().map(|&(data1, data2)| BoundMaterial { data1, data2 }).collect()
+}
+
+pub fn prepare(case: &prepare::Case, to: Buffers) -> Result<Values, u32> {
+    let g = &case.geometry;
+    let bound = Bound {
+        kind: g.kind as u32,
+        box_min: point(g.box_min),
+        box_max: point(g.box_max),
+        box_center: point(g.box_center),
+        sphere_center: point(g.sphere_center),
+        sphere_radius: g.sphere_radius,
+        margin: g.margin,
+        center_geom: point(g.center_geom),
+        transform: Mat4(g.transform),
+    };
+    let vertices: Vec<bounds::Vec3> = g.vertices.iter().copied().map(point).collect();
+    let mesh = Mesh {
+        bound,
+        polygon_count: g.polygons.len(),
+        polygons: &case.records,
+        numbers: &case.numbers,
+        materials: &given(&g.materials),
+        vertices: &vertices,
+    };
+    bounds::prepare::prepare(&mesh, to).map_err(Refusal::number)
+}
+
+pub fn prepare_whole(g: &Geometry) -> Result<bounds::Prepared, u32> {
+    let geometry = bounds::Geometry {
+        kind: g.kind,
+        box_min: point(g.box_min),
+        box_max: point(g.box_max),
+        box_center: point(g.box_center),
+        sphere_center: point(g.sphere_center),
+        sphere_radius: g.sphere_radius,
+        margin: g.margin,
+        center_geom: point(g.center_geom),
+        transform: Mat4(g.transform),
+        vertices: g.vertices.iter().copied().map(point).collect(),
+        polygons: g.polygons.iter().copied().map(ours).collect(),
+        materials: given(&g.materials),
+    };
+    geometry.prepare().map_err(Refusal::number)
 }
 
 pub const COMPOSITE: composites::Sides = composites::Sides {

@@ -1,9 +1,10 @@
-//! What the proved programs must print: worked out with Rust's own operators and casts, `boxes` and `pairs` by the
-//! reference.
+//! What the proved programs must print: worked out with Rust's own operators and casts, `boxes`, `prepare` and `pairs` by
+//! the reference.
 //!
 //!     table --lines            hard cases, wrong lines and lines that are no case       (crates/replay/stdin, its end)
 //!     table < LINES            such lines judged and counted                            (crates/replay/stdout)
 //!     table --boxes FOLDER     inputs of `boxes`, as files there                        (crates/boxes_cases/data, stdout)
+//!     table --meshes FOLDER    inputs of `prepare`, as files there                      (crates/prepare_cases/data, stdout)
 //!     table --pairs            lists built and walked                                   (crates/pairs/stdout)
 //!
 //! crates/replay/stdin is what `compare --write-vectors` writes, then the lines of `table --lines`.
@@ -11,6 +12,7 @@ mod boxes;
 mod cases;
 mod count;
 mod lines;
+mod meshes;
 mod operation;
 mod pairs;
 mod source;
@@ -32,11 +34,16 @@ fn main() -> io::Result<()> {
             (None, _) => fail("--boxes needs a folder for the inputs"),
             (_, Some(missing)) => fail(missing),
         },
+        Some("--meshes") => match (std::env::args().nth(2), oracle::missing()) {
+            (Some(folder), None) => meshes::print(&mut out, folder.as_ref())?,
+            (None, _) => fail("--meshes needs a folder for the inputs"),
+            (_, Some(missing)) => fail(missing),
+        },
         Some("--pairs") => match oracle::missing() {
             None => pairs::print(&mut out)?,
             Some(missing) => fail(missing),
         },
-        Some(other) => fail(&format!("unknown word {other}; give none, --lines, --boxes or --pairs")),
+        Some(other) => fail(&format!("unknown word {other}; give none, --lines, --boxes, --meshes or --pairs")),
     }
     out.flush()
 }

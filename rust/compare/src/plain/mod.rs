@@ -5,5 +5,6 @@ pub mod links;
 pub mod materials;
 pub mod octants;
 pub mod polygon;
+pub mod prepare;
 pub mod shrink;
 pub mod vertex;
