@@ -28,16 +28,20 @@ use Rattle.meshes.specs.declared.PrepareRefusal.the-variants.{TooManyMaterials,
 use Rattle.meshes.specs.Checks.{refusalNumber}
 use Rattle.prepared.specs.Answers.{Lists, BvhWork, bvhLengths, answerAfter, answerOf, bvhAnswer, withTree, numberOf, TreeKept, ListsKept, BvhAnswered}
 use Rattle.prepared.specs.Prepared.{preparedOf}
+use Rattle.prepared.specs.Rebuilt.{entriesOf8}
 use Rattle.prepared.specs.declared.Prepare.{Prepare}
 use Rattle.prepared.specs.declared.Prepare.the-variants.{Geometry, Bvh, Empty, Refused}
 use Rattle.prepared.specs.declared.Values.{Values}
 use Rattle.prepared_delivers.proofs.Prepared.{prepared-delivers}
 use Rattle.prepared_delivers.specs.Delivers as Mesh
-use Rattle.walk.specs.Walks.{Outcome, walkOf, unread, tooMany, tooShort, statusNumber, Promise}
+use Rattle.rebuild.specs.Rebuilding.{treeAnswer}
+use Rattle.walk.specs.Walks.{Outcome, walkOf, unread, ended, tooMany, tooShort, statusNumber, walkFrom}
 use Rattle.walk.specs.Walks as W
 use Rattle.walk.specs.declared.core.Counts.{Counts}
 use Rattle.walk.specs.declared.core.Walk.{Walk}
 use Rattle.walk.specs.declared.core.Walk.the-variants as Walk
+use Rattle.walk_steps.specs.Boxes.{queryOf}
+use Rattle.walk_steps.specs.Step.{Turn, lentOf, started}
 use Rattle.walk_steps.specs.declared.refusals.WalkRefusal.{WalkRefusal}
 use Rattle.walk_steps.specs.declared.refusals.WalkRefusal.the-variants as R
 use Rattle.walk_steps.specs.declared.state.Sizes.{Sizes}
@@ -65,11 +69,15 @@ of-status : (s : Status) (c : Counts) (given : List ℕ) → SomeWalk (record { 
 of-status Going c given = record { walk = Walk.Walked c; number-is = refl; counts-are = refl }
 of-status (Stopped r) c given = record { walk = Walk.Refused r c; number-is = refl; counts-are = refl }
 
+of-turn : (t : Turn) → SomeWalk (ended t)
+of-turn t = of-status (t .state .status) _ (t .given)
+
 some-walk : (box : Aabb) (cen inverse : Vec3) (z : Sizes) (nodes trees : List ℕ) (room : ℕ) → SomeWalk (walkOf box cen inverse z nodes trees room)
 unfolding walkOf
 some-walk box cen inverse z nodes trees room =
     cond-both SomeWalk (tooMany z) _ _ (of-unread R.TooMany)
-    (cond-both SomeWalk (tooShort z (length nodes) (length trees) room) _ _ (of-unread R.BufferTooShort) (of-status _ _ _))
+    (cond-both SomeWalk (tooShort z (length nodes) (length trees) room) _ _ (of-unread R.BufferTooShort)
+    (of-turn (walkFrom (lentOf (queryOf box cen inverse) z nodes trees) started)))
 
 -- ---- an answer that is not refused has a tree
 
@@ -102,7 +110,10 @@ after-check : (g : Mesh) (c : Check) → isGeometry (g .bound .kind) ≡ false �
     → Treed (answerAfter g c)
 after-check g (Fails why) other some zero = absurd (some-number why zero)
 after-check g Passed other some zero =
-    last-of (isGeometry (g .bound .kind)) (eqb (g .counts .polygons) 0) _ _ _ other some (with-tree (preparedOf g .values) _) zero
+    last-of (isGeometry (g .bound .kind)) (eqb (g .counts .polygons) 0) _ _ _ other some
+    (with-tree (preparedOf g .values)
+    (treeAnswer (entriesOf8 (g .bound) (g .counts .polygons) (g .counts .vertices) (g .polygons) (g .vertices))))
+    zero
 
 treed : (g : Mesh) (l : Lengths) → eqb (g .counts .polygons) 0 ≡ false → numberOf (bvhAnswer g l) ≡ 0 → Treed (bvhAnswer g l)
 unfolding answerOf

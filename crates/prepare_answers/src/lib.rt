@@ -61,10 +61,12 @@ fn no_frame() -> Frame
 fn with_values(values: Values, octants: OctantsAnswer, tree: BuildAnswer) -> PrepareAnswer
     ensures { λ r. ⌜ r ≡ withValues values octants tree ⌝ }
 {
+    let frame = values.frame;
+    let quantum = values.quantum;
     PrepareAnswer {
         refusal: 0,
-        frame: values.frame,
-        quantum: values.quantum,
+        frame: frame,
+        quantum: quantum,
         materials: values.materials,
         octants: octants,
         tree: tree,
