@@ -105,8 +105,9 @@ const PREPARE: &str = "\
 All that is derived of a geometry: of the library a call of `bounds::prepare::prepare`, from records to bytes, in buffers that
 are lent again and again; of the reference its `Geometry::prepare` of a copy, into lists that are not yet bytes. The grid has
 so many triangles and eight materials: a tree, links and materials in its order, vertices stored. The sphere has so many
-vertices and twice as many triangles: it is shrunk with the first margin, and its octants are listed. Instructions are those
-of one triangle or vertex.
+vertices and twice as many triangles: it is shrunk with the first margin, and its octants are listed. The others are made to
+be slow: triangles around one edge, equal ones, a vertex that is no number, spheres each three times as far out as the last,
+and meshes that pass with a small margin or with none. Instructions are those of one triangle or vertex.
 ";
 
 const STEPS: &str = "\

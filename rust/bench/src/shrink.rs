@@ -40,7 +40,7 @@ fn late(vertices: usize) -> Mesh {
 }
 
 /// Two sheets 0.01 apart, of so many vertices, in a box that is not as thin.
-fn shell(vertices: usize) -> Geometry {
+pub fn shell(vertices: usize) -> Geometry {
     let cells = (1..).find(|c| 2 * (c + 1) * (c + 1) >= vertices).expect("a sheet is large enough");
     let mut geometry = sheets(cells, 0.01).geometry(4, 1.0);
     (geometry.box_min[2], geometry.box_max[2]) = (-2.0, 2.0);
