@@ -23,6 +23,7 @@ pub fn all() -> Vec<Subject> {
     let row = |name, sizes, counted, work| Subject { kind: Kind::Polygon, name, sizes, counted, work };
     vec![
         row("links, grid", GRIDS, &[40, 10_000], |n, _| links(&grid(n))),
+        row("links, grid, far numbers", &GRIDS[..5], &[40, 10_000], |n, _| links(&far(&grid(n)))),
         row("links, one edge", LISTS, &[10_000], |n, _| links(&fan(n))),
         row("links, equal", LISTS, &[10_000], |n, _| links(&vec![[0, 1, 2]; n])),
         row("materials, 8", LISTS, &[10_000], |n, seed| materials(n, 8, seed)),
@@ -49,6 +50,13 @@ fn grid(triangles: usize) -> Vec<[u16; 3]> {
         corners.map(|v| v as u16)
     };
     (0..triangles).map(triangle).collect()
+}
+
+/// The same with numbers up to the highest that there are: over three times as high as there are triangles.
+fn far(triangles: &[[u16; 3]]) -> Vec<[u16; 3]> {
+    let highest = triangles.iter().flatten().max().expect("there is a triangle");
+    let apart = 0x7FFF / highest;
+    triangles.iter().map(|v| v.map(|v| v * apart)).collect()
 }
 
 /// All around one edge.
