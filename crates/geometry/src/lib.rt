@@ -1,6 +1,5 @@
-// Preparing a mesh of kind 4: polygons linked, vertices shrunk, octants listed; then what both kinds end with.
-use finishing::finish;
-use geometry_shape::shape_geometry;
+// Preparing a mesh of kind 4: the checks, and what follows where they pass.
+use checked_geometry::prepare_checked;
 use meshes::Bound;
 use meshes::BvhLengths;
 use meshes::Check;
@@ -8,8 +7,6 @@ use meshes::Counts;
 use meshes::Lengths;
 use meshes::checking::geometry_refusal;
 use prepared::Prepare;
-use prepared::Values;
-use prepared::frames::quantum_of;
 ghost use Rattle.meshes.specs.Meshes.{meshOf};
 ghost use Rattle.prepared.specs.Answers.{lists, hull, geometryWork, geometryLengths, GeometryAnswered};
 
@@ -82,15 +79,19 @@ pub fn prepare_geometry(
     if let Check::Fails(why) = check {
         return Prepare::Refused(why);
     }
-    let frame = bound.frame;
-    let quantum = quantum_of(frame);
-    let octant_counts = shape_geometry(
+    prepare_checked(
         bound,
         counts,
-        quantum,
+        others,
         polygons,
+        numbers,
+        mats,
         vertices,
+        list,
+        indices,
         polygons_out,
+        stored,
+        floats,
         shrunk,
         shrunk_floats,
         octants,
@@ -103,24 +104,5 @@ pub fn prepare_geometry(
         centres,
         olds,
         news,
-    );
-    let materials = finish(
-        counts.polygons,
-        counts.vertices,
-        counts.materials,
-        quantum,
-        numbers,
-        mats,
-        vertices,
-        list,
-        indices,
-        stored,
-        floats,
-    );
-    let values = Values {
-        frame: frame,
-        quantum: quantum,
-        materials: materials,
-    };
-    Prepare::Geometry(values, octant_counts)
+    )
 }

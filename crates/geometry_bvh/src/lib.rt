@@ -1,18 +1,13 @@
-// Preparing a mesh of kind 8: a tree over its polygons, these in leaf order, linked; then what both kinds end with.
-use bvh::core::Build;
-use bvh_shape::shape_bvh;
-use finishing::finish;
+// Preparing a mesh of kind 8: the checks, and what follows where they pass, with polygons or without.
+use checked_bvh::ending::finish_empty;
+use checked_bvh::prepare_tree;
 use meshes::Bound;
 use meshes::Check;
 use meshes::Counts;
 use meshes::GeometryLengths;
 use meshes::Lengths;
-use meshes::PrepareRefusal;
 use meshes::checking::bvh_refusal;
 use prepared::Prepare;
-use prepared::Values;
-use prepared::frames::frame_of;
-use prepared::frames::quantum_of;
 ghost use Rattle.bvh.specs.Entry.{outputs};
 ghost use Rattle.meshes.specs.Meshes.{meshOf};
 ghost use Rattle.prepared.specs.Answers.{lists, bvhWork, bvhLengths, BvhAnswered};
@@ -85,17 +80,10 @@ pub fn prepare_bvh(
     if let Check::Fails(why) = check {
         return Prepare::Refused(why);
     }
-    let p = counts.polygons;
-    let v = counts.vertices;
-    let m = counts.materials;
-    if p == 0 {
-        let frame = bound.frame;
-        let quantum = quantum_of(frame);
-        let materials = finish(
-            p,
-            v,
-            m,
-            quantum,
+    if counts.polygons == 0 {
+        return finish_empty(
+            bound,
+            counts,
             numbers,
             mats,
             vertices,
@@ -104,20 +92,20 @@ pub fn prepare_bvh(
             stored,
             floats,
         );
-        let values = Values {
-            frame: frame,
-            quantum: quantum,
-            materials: materials,
-        };
-        return Prepare::Empty(values);
     }
-    let built = shape_bvh(
+    prepare_tree(
         bound,
         counts,
+        others,
         polygons,
         numbers,
+        mats,
         vertices,
+        list,
+        indices,
         polygons_out,
+        stored,
+        floats,
         node_bytes,
         tree_bytes,
         order,
@@ -129,29 +117,5 @@ pub fn prepare_bvh(
         points,
         sorted,
         centres,
-    );
-    let Build::Built(tree) = built else {
-        return Prepare::Refused(PrepareRefusal::TooManyNodes);
-    };
-    let frame = frame_of(tree);
-    let quantum = quantum_of(frame);
-    let materials = finish(
-        p,
-        v,
-        m,
-        quantum,
-        sorted,
-        mats,
-        vertices,
-        list,
-        indices,
-        stored,
-        floats,
-    );
-    let values = Values {
-        frame: frame,
-        quantum: quantum,
-        materials: materials,
-    };
-    Prepare::Bvh(values, tree)
+    )
 }

@@ -1,4 +1,4 @@
--- What the steps of shaping a geometry ask of the slices that they are lent, and what they leave. Definitions only.
+-- What shrinking, listing and storing ask of the slices that they are lent, and what they leave. Definitions only.
 use Prim.Native.Nat.{ℕ, _*_, _≤_}
 use mathlib.Core.List.{List}
 use mathlib.Core.Path.{_≡_}

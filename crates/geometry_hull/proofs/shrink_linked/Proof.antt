@@ -1,11 +1,11 @@
--- `shrink_linked` meets its contract: the mesh is that of the corners and links that stand there (Shaping).
+-- `shrink_linked` meets its contract: the mesh is that of the corners and links that stand there (HullLaws).
 use borrow.Author.Needs.{needs}
-use Rattle.geometry_shape.proofs.shrink_linked.Statement.{statement}
-use Rattle.geometry_shape.proofs.shrink_linked.Tie as tie
+use Rattle.geometry_hull.proofs.shrink_linked.Statement.{statement}
+use Rattle.geometry_hull.proofs.shrink_linked.Tie as tie
 use Prim.Native.Nat.{_*_}
 use mathlib.Core.Path.{sym}
 use lib.Seq.{length-take-le}
-use Rattle.geometry_shape.proofs.Shaping.{shrinkable, by-geometry}
+use Rattle.geometry_hull.proofs.HullLaws.{shrinkable, by-geometry}
 
 mul-words : tie.Need-mul-words
 mul-words c = search needs

@@ -1,9 +1,9 @@
--- `shrink_and_store` meets its contract: what is listed and stored are the shrunk points (Shaping).
+-- `shrink_and_store` meets its contract: what is listed and stored are the shrunk points (HullLaws).
 use borrow.Author.Needs.{needs}
-use Rattle.geometry_shape.proofs.shrink_and_store.Statement.{statement}
-use Rattle.geometry_shape.proofs.shrink_and_store.Tie as tie
+use Rattle.geometry_hull.proofs.shrink_and_store.Statement.{statement}
+use Rattle.geometry_hull.proofs.shrink_and_store.Tie as tie
 use mathlib.Core.Path.{_∙_}
-use Rattle.geometry_shape.proofs.Shaping.{after-shrinking, of-points}
+use Rattle.geometry_hull.proofs.HullLaws.{after-shrinking, of-points}
 
 -- the last call, from where all is known; the first, from where it is done and from the last; and the start
 abbrev storing : tie.After-slice-known26 → tie.After-list-and-store

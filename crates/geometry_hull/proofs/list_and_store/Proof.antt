@@ -1,8 +1,8 @@
--- `list_and_store` meets its contract: the lists and the stored points, side by side (Shaping).
+-- `list_and_store` meets its contract: the lists and the stored points, side by side (HullLaws).
 use borrow.Author.Needs.{needs}
-use Rattle.geometry_shape.proofs.list_and_store.Statement.{statement}
-use Rattle.geometry_shape.proofs.list_and_store.Tie as tie
-use Rattle.geometry_shape.proofs.Shaping.{left}
+use Rattle.geometry_hull.proofs.list_and_store.Statement.{statement}
+use Rattle.geometry_hull.proofs.list_and_store.Tie as tie
+use Rattle.geometry_hull.proofs.HullLaws.{left}
 
 list-octants-requires : tie.Need-list-octants-requires
 list-octants-requires c κs = search needs

@@ -1,0 +1,2 @@
+mod Endings
+pub mod Grown
