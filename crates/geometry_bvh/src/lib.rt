@@ -13,6 +13,7 @@ use prepared::Prepare;
 use prepared::Values;
 use prepared::frames::frame_of;
 use prepared::frames::quantum_of;
+use rows::ranges::RANGE_LIMIT;
 ghost use Rattle.bvh.specs.Entry.{outputs};
 ghost use Rattle.meshes.specs.Meshes.{meshOf};
 ghost use Rattle.prepared.specs.Answers.{lists, bvhWork, bvhLengths, BvhAnswered};
@@ -129,6 +130,7 @@ pub fn prepare_bvh(
         points,
         sorted,
         centres,
+        RANGE_LIMIT,
     );
     let Build::Built(tree) = built else {
         return Prepare::Refused(PrepareRefusal::TooManyNodes);

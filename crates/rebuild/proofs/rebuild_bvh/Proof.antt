@@ -29,10 +29,10 @@ put-records-requires c κs =
     let a = s .args in
     let w = at-build .build-core in
     let m = s .pre .0 in
-    rebuildable _ _ _ (m .few) _ _ _ _ (s .pre .1)
-    (over-boxes _ _ _ (m .few) (a .entries .now) _ (a .places .now) (a .temp .now) (a .stack .now) (a .rows .now) (a .centres .now) _ _ _
+    rebuildable _ _ _ _ (m .few) _ _ _ _ (s .pre .1)
+    (over-boxes _ _ _ _ (m .few) (a .entries .now) _ (a .places .now) (a .temp .now) (a .stack .now) (a .rows .now) (a .centres .now) _ _ _
     (s .pre .1 .entries-room) (at-boxes .put-entries .ensures) (w .ensures))
-    _ _ _ (omega (arith, w .kept .1 .1 .1 .1 .1 .1 .1 .0, s .pre .1 .temp-room)) (m .records) (m .room)
+    _ _ _ (omega (arith, w .kept .1 .1 .1 .1 .1 .1 .1 .1 .0, s .pre .1 .temp-room)) (m .records) (m .room)
 
 same-length : tie.Need-same-length
 same-length c = search needs
@@ -76,8 +76,8 @@ returns c =
     let a = s .args in
     let w = at-build .build-core in
     let m = s .pre .0 in
-    rebuilt _ _ _ (m .few) _ _ _ _ (s .pre .1)
-    (over-boxes _ _ _ (m .few) (a .entries .now) _ (a .places .now) (a .temp .now) (a .stack .now) (a .rows .now) (a .centres .now) _ _ _
+    rebuilt _ _ _ _ (m .few) _ _ _ _ (s .pre .1)
+    (over-boxes _ _ _ _ (m .few) (a .entries .now) _ (a .places .now) (a .temp .now) (a .stack .now) (a .rows .now) (a .centres .now) _ _ _
     (s .pre .1 .entries-room) (at-boxes .put-entries .ensures) (w .ensures))
     _ _ _ (at-records .put-records .ensures)
 
