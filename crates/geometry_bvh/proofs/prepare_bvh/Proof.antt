@@ -1,6 +1,7 @@
 -- `prepare_bvh` meets its contract: a check that fails is the answer; without polygons nothing is shaped; and else what is shaped and finished is the
 -- definition's, or the tree has too many nodes and nothing was written (prepared BvhAnswering).
 use borrow.Author.Needs.{needs}
+use native.Mathlib.Omega.{arith}
 use Rattle.geometry_bvh.proofs.prepare_bvh.Statement.{statement}
 use Rattle.geometry_bvh.proofs.prepare_bvh.Tie as tie
 use mathlib.Core.Bool.{false}
@@ -160,7 +161,7 @@ shape-bvh-requires : tie.Need-shape-bvh-requires
 shape-bvh-requires c κs =
     let told = c .before .before .before .before .before .before .before .before .before .before .before .before .before in
     let check = told .before .before in
-    bvh-room (mesh check) (before check) (trees check) (work check) (start check .args .others) (well check (told .enum-told .given .1) .1)
+    (bvh-room (mesh check) (before check) (trees check) (work check) (start check .args .others) (well check (told .enum-told .given .1) .1), omega arith)
 
 enum-known-built : tie.Need-enum-known-built
 enum-known-built c = search needs
