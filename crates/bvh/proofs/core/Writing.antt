@@ -163,9 +163,9 @@ module _ (task : Task) (p : Planted) (entries places temp table : List ℕ) (o :
   flat : Flat t (p .nodes) table
   flat = grown-flat by th marks leaves table (p .nodes) (w .planted .grown) filled (w .nodes-few)
 
-  pub scannable : Scannable (task .limit) (p .nodes) table (o .trees)
-  scannable =
-      grown-scannable by th marks leaves table (p .nodes) (w .planted .grown) filled (w .nodes-few) (task .limit) (w .limit) (o .trees)
+  pub scannable : (limit : ℕ) → 0 < limit → Scannable limit (p .nodes) table (o .trees)
+  scannable limit some =
+      grown-scannable by th marks leaves table (p .nodes) (w .planted .grown) filled (w .nodes-few) limit some (o .trees)
       (omega (arith, nodes-most, w .trees-room))
 
   pub written : (all : BoxWords) (s : Scale) (cap parts : ℕ) (o′ : Outputs) → all ≡ rowAt table 0 .box → s ≡ scaleOfBox (all .min) (all .max)
