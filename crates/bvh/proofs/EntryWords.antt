@@ -16,9 +16,9 @@ use Rattle.bvh.specs.declared.core.Build.the-variants.{Refused}
 use Rattle.bvh.specs.declared.core.BuildRefusal.the-variants.{TooManyEntries, ThresholdOutside, BufferTooShort}
 use Rattle.bvh.specs.declared.core.Lengths.{Lengths}
 use Rattle.bvh.specs.declared.items.BvhItem.{BvhItem}
-use Rattle.bvh.specs.Build.{Entries, short, answerOf, kept, nodesWritten, treesWritten, orderWritten}
+use Rattle.bvh.specs.Build.{Entries, short, answerBy, kept, nodesWritten, treesWrittenBy, orderWritten}
 use Rattle.entries.specs.Boxes.{boxFrom}
-use Rattle.bvh.specs.Entry.{entriesOf, entriesIn, takenOf, Outputs, lent, lengthsOf, Answered}
+use Rattle.bvh.specs.Entry.{entriesOf, entriesIn, takenOf, Outputs, lent, lengthsOf, AnsweredBy}
 use Rattle.bvh.specs.Items.{itemWords, wordsOf, boxIn, present, marked}
 use Rattle.bvh.proofs.MarkedLaws.{marked-present}
 use Rattle.bvh.proofs.ItemWords.{length-words, apart, apart-all, length-apart}
@@ -55,10 +55,11 @@ short-words n l few = simp (lt-ltb (l .entries) (7 * n) few, or-true)
 abbrev Unread : ℕ → Lengths → Type 0
 Unread n l = (32767 < n) ⊎ (l .entries < 7 * n)
 
-unread-answer : (e e′ : Entries) (th : ℕ) (l : Lengths) → e .number ≡ e′ .number → Unread (e .number) l → answerOf e th l ≡ answerOf e′ th l
-unfolding answerOf
-unread-answer e e′ th l same (inl many) = rw (← same, lt-ltb 32767 (e .number) many)
-unread-answer e e′ th l same (inr few) = rw (← same, short-words (e .number) l few)
+unread-answer : (limit : ℕ) (e e′ : Entries) (th : ℕ) (l : Lengths) → e .number ≡ e′ .number → Unread (e .number) l
+    → answerBy limit e th l ≡ answerBy limit e′ th l
+unfolding answerBy
+unread-answer limit e e′ th l same (inl many) = rw (← same, lt-ltb 32767 (e .number) many)
+unread-answer limit e e′ th l same (inr few) = rw (← same, short-words (e .number) l few)
 
 -- a refusal that comes before the nodes are counted
 abbrev early : Bool → Bool → Build
@@ -69,26 +70,26 @@ early-keeps true outside w w′ before = refl
 early-keeps false true w w′ before = refl
 early-keeps false false w w′ before = refl
 
-unread-kept : (e : Entries) (th : ℕ) (l : Lengths) → Unread (e .number) l → (w w′ before : List ℕ)
-    → kept (answerOf e th l) w before ≡ kept (answerOf e th l) w′ before
-unfolding answerOf
-unread-kept e th l (inl many) w w′ before = rw (lt-ltb 32767 (e .number) many)
-unread-kept e th l (inr few) w w′ before =
+unread-kept : (limit : ℕ) (e : Entries) (th : ℕ) (l : Lengths) → Unread (e .number) l → (w w′ before : List ℕ)
+    → kept (answerBy limit e th l) w before ≡ kept (answerBy limit e th l) w′ before
+unfolding answerBy
+unread-kept limit e th l (inl many) w w′ before = rw (lt-ltb 32767 (e .number) many)
+unread-kept limit e th l (inr few) w w′ before =
     rw (short-words (e .number) l few) (early-keeps (ltb 32767 (e .number)) (ltb th 1 || ltb 32767 th) w w′ before)
 
 -- so nothing hangs on the entries but their number
-unread-same : (e e′ : Entries) (th : ℕ) (l : Lengths) (r : Build) (o o′ : Outputs) → e .number ≡ e′ .number → Unread (e .number) l
-    → Answered e th l r o o′ → Answered e′ th l r o o′
-unread-same e e′ th l r o o′ same unread a =
+unread-same : (limit : ℕ) (e e′ : Entries) (th : ℕ) (l : Lengths) (r : Build) (o o′ : Outputs) → e .number ≡ e′ .number → Unread (e .number) l
+    → AnsweredBy limit e th l r o o′ → AnsweredBy limit e′ th l r o o′
+unread-same limit e e′ th l r o o′ same unread a =
     record {
-      answer = a .answer ∙ unread-answer e e′ th l same unread;
+      answer = a .answer ∙ unread-answer limit e e′ th l same unread;
       nodes-are = a .nodes-are ∙ keeps (nodesWritten e th) (nodesWritten e′ th) (o .nodes);
-      trees-are = a .trees-are ∙ keeps (treesWritten e th) (treesWritten e′ th) (o .trees);
+      trees-are = a .trees-are ∙ keeps (treesWrittenBy limit e th) (treesWrittenBy limit e′ th) (o .trees);
       order-is = a .order-is ∙ keeps (orderWritten e th) (orderWritten e′ th) (o .order);
     }
   where
     keeps : (w w′ before : List ℕ) → kept r w before ≡ kept r w′ before
-    keeps w w′ before = rw (a .answer) (unread-kept e th l unread w w′ before)
+    keeps w w′ before = rw (a .answer) (unread-kept limit e th l unread w w′ before)
 
 -- ---- the two together
 taken-cases : (n room : ℕ) → ((takenOf n room ≡ n) × (7 * n ≤ room)) ⊎ ((takenOf n room ≡ 0) × ((32767 < n) ⊎ (room < 7 * n)))
@@ -104,22 +105,22 @@ pub taken-fits : (n room : ℕ) → (takenOf n room ≤ n) × (7 * takenOf n roo
 taken-fits n room = ⊎-elim (λ all. omega arith) (λ none. omega arith) (taken-cases n room)
 
 -- What the core answers over the words, the entry point answers over the items.
-pub answers : (items : List BvhItem) (th : ℕ) (entries places temp stack rows : List ℕ) (centres : List Float) (r : Build) (o o′ : Outputs)
+pub answers : (limit : ℕ) (items : List BvhItem) (th : ℕ) (entries places temp stack rows : List ℕ) (centres : List Float) (r : Build) (o o′ : Outputs)
     → let n = length items in
     let held = apart items entries (takenOf n (length entries)) in
-    Answered (entriesIn n (take (7 * n) held)) th (lengthsOf o (lent held places temp stack rows centres)) r o o′
-    → Answered (entriesOf items) th (lengthsOf o (lent entries places temp stack rows centres)) r o o′
+    AnsweredBy limit (entriesIn n (take (7 * n) held)) th (lengthsOf o (lent held places temp stack rows centres)) r o o′
+    → AnsweredBy limit (entriesOf items) th (lengthsOf o (lent entries places temp stack rows centres)) r o o′
 unfolding entriesIn entriesOf
-answers items th entries places temp stack rows centres r o o′ a =
+answers limit items th entries places temp stack rows centres r o o′ a =
     let n = length items in
     let k = takenOf n (length entries) in
     let fits = taken-fits n (length entries) in
     let same : length (apart items entries k) ≡ length entries = length-apart items entries k (fits .0) (fits .1) in
     let l = lengthsOf o (lent entries places temp stack rows centres) in
-    let b : Answered (entriesIn n (take (7 * n) (apart items entries k))) th l r o o′ = rw same at a in
+    let b : AnsweredBy limit (entriesIn n (take (7 * n) (apart items entries k))) th l r o o′ = rw same at a in
     ⊎-elim
-    (λ all. subst (λ (e : Entries). Answered e th l r o o′) (whole (all .0)) b)
-    (λ none. unread-same (entriesIn n (take (7 * n) (apart items entries k))) (entriesOf items) th l r o o′ refl (none .1) b)
+    (λ all. subst (λ (e : Entries). AnsweredBy limit e th l r o o′) (whole (all .0)) b)
+    (λ none. unread-same limit (entriesIn n (take (7 * n) (apart items entries k))) (entriesOf items) th l r o o′ refl (none .1) b)
     (taken-cases n (length entries))
   where
     whole : takenOf (length items) (length entries) ≡ length items

@@ -40,30 +40,38 @@ short n l =
     || ltb (l .entries) (7 * n) || ltb (l .places) n || ltb (l .temp) n || ltb (l .stack) n || ltb (l .rows) (8 * (2 * n + 1))
     || ltb (l .centres) (4 * n)
 
--- the values of a build that is not refused
-abbrev pub builtOf : Entries → ℕ → Node → BuiltTree
-builtOf e th t =
+-- the values of a build that is not refused, at a limit of nodes a range
+abbrev pub builtBy : ℕ → Entries → ℕ → Node → BuiltTree
+builtBy limit e th t =
     record {
       nodes = size t;
       capacity = capacityOf th (e .number) (size t);
-      trees = length (ranges rangeLimit 0 t);
+      trees = length (ranges limit 0 t);
       present = length (e .places);
       min = boxOf t .min;
       max = boxOf t .max;
       scale = scaleIn t;
     }
 
--- Rule B1 (01, Build): the checks in the order written.
-unfoldable pub answerOf : Entries → ℕ → Lengths → Build
+-- and those at the limit of a build
+abbrev pub builtOf : Entries → ℕ → Node → BuiltTree
+builtOf e th t = builtBy rangeLimit e th t
+
+-- Rule B1 (01, Build): the checks in the order written, at a limit of nodes a range.
+unfoldable pub answerBy : ℕ → Entries → ℕ → Lengths → Build
 unfolding treeOf
-answerOf e th l =
+answerBy limit e th l =
     let n = e .number in
     let t = treeOf e th in
     cond (ltb 32767 n) (Refused TooManyEntries)
     (cond (ltb th 1 || ltb 32767 th) (Refused ThresholdOutside)
     (cond (short n l) (Refused BufferTooShort)
     (cond (ltb 32767 (size t)) (Refused TooManyNodes)
-    (Built (builtOf e th t)))))
+    (Built (builtBy limit e th t)))))
+
+-- Rule B1, at the limit of a build.
+abbrev pub answerOf : Entries → ℕ → Lengths → Build
+answerOf e th l = answerBy rangeLimit e th l
 
 -- 01's number for each reason
 abbrev pub refusalNumber : BuildRefusal → ℕ
@@ -89,10 +97,13 @@ nodesWritten e th =
     let t = treeOf e th in
     nodesBytes (scaleIn t) th (leafOrder t) (rows 0 t) ++ padBytes (capacityOf th (e .number) (size t) - size t)
 
--- Rule R14.
-unfoldable pub treesWritten : Entries → ℕ → List ℕ
+-- Rule R14, at any limit of nodes a range, and at that of a build.
+unfoldable pub treesWrittenBy : ℕ → Entries → ℕ → List ℕ
 unfolding treeOf
-treesWritten e th = treesBytes (scaleIn (treeOf e th)) (ranges rangeLimit 0 (treeOf e th))
+treesWrittenBy limit e th = treesBytes (scaleIn (treeOf e th)) (ranges limit 0 (treeOf e th))
+
+abbrev pub treesWritten : Entries → ℕ → List ℕ
+treesWritten e th = treesWrittenBy rangeLimit e th
 
 -- Rule R13.
 unfoldable pub orderWritten : Entries → ℕ → List ℕ

@@ -9,9 +9,10 @@ use lib.ListN.{length}
 use Rattle.bvh.specs.declared.core.Build.{Build}
 use Rattle.bvh.specs.declared.items.BvhItem.{BvhItem}
 use Rattle.bvh.specs.declared.core.Lengths.{Lengths}
-use Rattle.bvh.specs.Build.{Entries, answerOf, kept, nodesWritten, treesWritten, orderWritten}
+use Rattle.bvh.specs.Build.{Entries, answerBy, kept, nodesWritten, treesWrittenBy, orderWritten}
 use Rattle.entries.specs.Boxes.{boxFrom}
 use Rattle.bvh.specs.Items.{boxIn, present, marked}
+use Rattle.rows.specs.Ranges.{rangeLimit}
 
 -- the entries of a list of items
 unfoldable pub entriesOf : List BvhItem → Entries
@@ -61,9 +62,13 @@ lengthsOf o l =
       centres = length (l .centres);
     }
 
--- Rule B2 (01, Build): the answer, and the three outputs whole. Nothing is said of the work buffers.
-pub record Answered (e : Entries) (th : ℕ) (l : Lengths) (r : Build) (before after : Outputs) : Type 0 where
-  pub answer : r ≡ answerOf e th l
+-- Rule B2 (01, Build), at a limit of nodes a range: the answer, and the three outputs whole. Nothing is said of the work buffers.
+pub record AnsweredBy (limit : ℕ) (e : Entries) (th : ℕ) (l : Lengths) (r : Build) (before after : Outputs) : Type 0 where
+  pub answer : r ≡ answerBy limit e th l
   pub nodes-are : after .nodes ≡ kept r (nodesWritten e th) (before .nodes)
-  pub trees-are : after .trees ≡ kept r (treesWritten e th) (before .trees)
+  pub trees-are : after .trees ≡ kept r (treesWrittenBy limit e th) (before .trees)
   pub order-is : after .order ≡ kept r (orderWritten e th) (before .order)
+
+-- Rule B2, at the limit of a build.
+abbrev pub Answered : Entries → ℕ → Lengths → Build → Outputs → Outputs → Type 0
+Answered e th l r before after = AnsweredBy rangeLimit e th l r before after

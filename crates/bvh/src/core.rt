@@ -2,13 +2,12 @@
 // The work buffer is lent in five parts, since two parts of one slice cannot be lent at once.
 use math::words3::Words3;
 use records::scale::Scale;
-use rows::ranges::RANGE_LIMIT;
 ghost use mathlib.Core.Path.{_≡_};
 ghost use Prim.Native.Nat.{_+_, _*_, _≤_, _<_};
 ghost use lib.ListN.{length, take};
 ghost use Rattle.base.specs.Lists.{over};
 ghost use Rattle.bvh.specs.Build.{short};
-ghost use Rattle.bvh.specs.Entry.{entriesIn, outputs, lent, lengthsOf, Answered};
+ghost use Rattle.bvh.specs.Entry.{entriesIn, outputs, lent, lengthsOf, AnsweredBy};
 ghost use Rattle.bvh.specs.Items.{marked};
 ghost use Rattle.rows.specs.Output.{orderOf};
 ghost use Rattle.bvh.specs.steps.Core.{NodesWritten, OrderFits, WorkRoom, TreePlanted, Writable, Written};
@@ -50,10 +49,11 @@ pub struct Lengths {
     pub centres: usize,
 }
 
-// How many entries there are, and how many items a leaf may have.
+// How many entries there are, how many items a leaf may have, and how many nodes a range.
 pub struct Task {
     pub n: usize,
     pub threshold: usize,
+    pub limit: usize,
 }
 
 // How many entries are present, and how many nodes their tree has.
@@ -175,7 +175,7 @@ fn write_tree(
 ) -> BuiltTree
     requires { ⌜ Writable task planted (now entries) (now places) (now temp) (now rows)
         (outputs (now «node_bytes») (now «tree_bytes») (now order)) ⌝ }
-    ensures { λ r. ⌜ Written (entriesIn (task .n) (now (entries .entry))) (task .threshold) r
+    ensures { λ r. ⌜ Written (task .limit) (entriesIn (task .n) (now (entries .entry))) (task .threshold) r
         (outputs (now («node_bytes» .entry)) (now («tree_bytes» .entry)) (now (order .entry)))
         (outputs (now («node_bytes» .exit)) (now («tree_bytes» .exit)) (now (order .exit))) ⌝ }
 {
@@ -186,7 +186,7 @@ fn write_tree(
     let max = all.max;
     let scale = records::scale::scale_of(min, max);
     let capacity = write_nodes(node_bytes, rows, m, &places[..k], scale, task);
-    let parts = rows::ranges::put_trees(tree_bytes, rows, m, scale, RANGE_LIMIT);
+    let parts = rows::ranges::put_trees(tree_bytes, rows, m, scale, task.limit);
     write_order(order, entries, &places[..k], temp, task);
     BuiltTree {
         nodes: m,
@@ -199,10 +199,11 @@ fn write_tree(
     }
 }
 
-// The tree of the present ones among n entries, seven words each: a mark, then the box.
+// The tree of the present ones among n entries, seven words each: a mark, then the box. No range has more than `limit` nodes.
 pub fn build_core(
     n: usize,
     threshold: u32,
+    limit: usize,
     entries: &[u32],
     node_bytes: &mut [u8],
     tree_bytes: &mut [u8],
@@ -213,7 +214,8 @@ pub fn build_core(
     rows: &mut [u32],
     centres: &mut [f32],
 ) -> Build
-    ensures { λ r. ⌜ Answered (entriesIn n (take (7 * n) (now (entries .entry)))) threshold
+    requires { ⌜ 0 < limit ⌝ }
+    ensures { λ r. ⌜ AnsweredBy limit (entriesIn n (take (7 * n) (now (entries .entry)))) threshold
         (lengthsOf (outputs (now («node_bytes» .entry)) (now («tree_bytes» .entry)) (now (order .entry)))
         (lent (now (entries .entry)) (now (places .entry)) (now (temp .entry)) (now (stack .entry)) (now (rows .entry)) (now (centres .entry)))) r
         (outputs (now («node_bytes» .entry)) (now («tree_bytes» .entry)) (now (order .entry)))
@@ -245,6 +247,7 @@ pub fn build_core(
     let task = Task {
         n: n,
         threshold: threshold as usize,
+        limit: limit,
     };
     let listed = &entries[..7 * n];
     let planted = plant(listed, places, temp, stack, rows, centres, task);

@@ -2,6 +2,7 @@
 use crate::core::Build;
 use crate::items::BvhItem;
 use entries::boxes::BoxWords;
+use rows::ranges::RANGE_LIMIT;
 ghost use mathlib.Core.Path.{_≡_};
 ghost use Prim.Native.Nat.{_+_, _*_, _≤_};
 ghost use lib.ListN.{length};
@@ -61,6 +62,7 @@ pub fn build_bvh(
     crate::core::build_core(
         items.len(),
         threshold,
+        RANGE_LIMIT,
         entries,
         node_bytes,
         tree_bytes,

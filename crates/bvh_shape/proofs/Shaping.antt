@@ -11,7 +11,7 @@ use lib.ListN.{length, take, drop, getD, length-map, List·getD-append}
 use lib.Seq.{take-at}
 use Rattle.base.proofs.NumberLaws.{below-wider}
 use Rattle.base.specs.Lists.{Below, over}
-use Rattle.bvh.specs.Build.{Entries, kept, nodesWritten, treesWritten, orderWritten}
+use Rattle.bvh.specs.Build.{Entries, kept, nodesWritten, treesWrittenBy, orderWritten}
 use Rattle.bvh.specs.Entry.{Outputs, Lent, lent, lengthsOf}
 use Rattle.bvh.specs.declared.core.Build.{Build}
 use Rattle.bvh.specs.declared.core.Build.the-variants.{Built, Refused}
@@ -28,10 +28,10 @@ use Rattle.meshes.specs.declared.Bound.{Bound}
 use Rattle.points.specs.Points.{positionsOf}
 use Rattle.prepared.specs.Answers.{BvhWork}
 use Rattle.prepared.specs.Rebuilt.{entriesOf8, orderOf8, polygonsOf8}
-use Rattle.prepared.specs.steps.Shapes.{BvhRoom, BvhShaped}
+use Rattle.prepared.specs.steps.Shapes.{BvhRoom, BvhShapedBy}
 use Rattle.rebuild.proofs.LinkTrace.{kinds-written}
 use Rattle.rebuild.proofs.OrderLaws.{order-length, places-below, order-taken, numbered}
-use Rattle.rebuild.specs.Rebuilding.{leafLimit, treeAnswer, polygonEntries, Rebuilt}
+use Rattle.rebuild.specs.Rebuilding.{leafLimit, treeAnswerBy, polygonEntries, Rebuilt}
 use Rattle.reorder.proofs.RecordLaws.{length-rebuilt}
 use Rattle.reorder.specs.Reordering.{inOrder, relinked, movedTo, rebuiltOf, lookupOf}
 use Rattle.bvh_shape.proofs.Given.{entries-given, order-given, polygons-given}
@@ -84,8 +84,8 @@ abbrev pub lentOf : BvhWork → Lent
 lentOf w = lent (w .entries) (w .places) (w .temp) (w .stack) (w .rows) (w .centres)
 
 module _ (p v : ℕ) (polygons numbers vertices out : List ℕ) (t : Outputs) (w : BvhWork) (room : BvhRoom p v polygons numbers vertices out t w) where
-  module _ (b : Bound) (r : Build) (t′ : Outputs) (out₁ : List ℕ)
-      (a : Rebuilt (polygonEntries (b .transform) (b .center) p v polygons vertices) p polygons (lengthsOf t (lentOf w)) r t t′ out out₁) where
+  module _ (limit : ℕ) (b : Bound) (r : Build) (t′ : Outputs) (out₁ : List ℕ)
+      (a : Rebuilt limit (polygonEntries (b .transform) (b .center) p v polygons vertices) p polygons (lengthsOf t (lentOf w)) r t t′ out out₁) where
     abbrev e : Entries
     e = polygonEntries (b .transform) (b .center) p v polygons vertices
 
@@ -152,14 +152,14 @@ module _ (p v : ℕ) (polygons numbers vertices out : List ℕ) (t : Outputs) (w
         ∙ ap (λ (l : List ℕ). inOrder l numbers) (sym (order-given b p v polygons vertices (room .records)))
 
     pub shaped : (out₂ sorted : List ℕ) → Sorted r p numbers (t′ .order) out₁ out₂ (w .sorted) sorted
-        → BvhShaped b p v polygons numbers vertices out out₂ t t′ sorted r
+        → BvhShapedBy limit b p v polygons numbers vertices out out₂ t t′ sorted r
     shaped out₂ sorted s =
         let same : e ≡ entriesOf8 b p v polygons vertices = sym (entries-given b p v polygons vertices (room .records)) in
         record {
-          answer = a .answer ∙ ap treeAnswer same;
+          answer = a .answer ∙ ap (treeAnswerBy limit) same;
           records-are = records-are out₂ r (a .records-are) (s .linked-are);
           nodes-are = a .built .nodes-are ∙ ap (λ (x : Entries). kept r (nodesWritten x leafLimit) (t .nodes)) same;
-          trees-are = a .built .trees-are ∙ ap (λ (x : Entries). kept r (treesWritten x leafLimit) (t .trees)) same;
+          trees-are = a .built .trees-are ∙ ap (λ (x : Entries). kept r (treesWrittenBy limit x leafLimit) (t .trees)) same;
           order-is = a .built .order-is ∙ ap (λ (x : Entries). kept r (orderWritten x leafLimit) (t .order)) same;
           numbers-are = numbers-are sorted (s .numbers-are);
         }

@@ -6,11 +6,12 @@ use meshes::Counts;
 use rebuild::rebuild_bvh;
 use reorder::records::reorder_bytes;
 ghost use mathlib.Core.Path.{_≡_};
+ghost use Prim.Native.Nat.{_<_};
 ghost use Rattle.bvh.specs.Entry.{outputs};
 ghost use Rattle.bvh.specs.declared.core.Build.the-variants.{Built};
 ghost use Rattle.bvh.specs.declared.core.BuiltTree.{BuiltTree};
 ghost use Rattle.prepared.specs.Answers.{bvhWork};
-ghost use Rattle.prepared.specs.steps.Shapes.{BvhRoom, BvhShaped};
+ghost use Rattle.prepared.specs.steps.Shapes.{BvhRoom, BvhShapedBy};
 ghost use Rattle.bvh_shape.specs.Sorting.{Sortable, Sorted};
 
 // Links the polygons that stand in the order of the leaves, and puts the numbers of their materials in it; nothing where the tree is refused.
@@ -40,7 +41,7 @@ fn link_and_sort(
 }
 
 // The tree over the polygons, these in the order of its leaves with their links, and the numbers of their materials in the same order in `sorted`.
-// The links that the polygons came with are not made anew before the tree is built: that would leave no trace.
+// The links that the polygons came with are not made anew before the tree is built: that would leave no trace. No range has more than `limit` nodes.
 pub fn shape_bvh(
     bound: Bound,
     counts: Counts,
@@ -59,11 +60,12 @@ pub fn shape_bvh(
     points: &mut [u32],
     sorted: &mut [u8],
     centres: &mut [f32],
+    limit: usize,
 ) -> Build
-    requires { ⌜ BvhRoom (counts .polygons) (counts .vertices) (now polygons) (now numbers) (now vertices) (now «polygons_out»)
+    requires { ⌜ (BvhRoom (counts .polygons) (counts .vertices) (now polygons) (now numbers) (now vertices) (now «polygons_out»)
         (outputs (now «node_bytes») (now «tree_bytes») (now order))
-        (bvhWork (now entries) (now places) (now temp) (now stack) (now rows) (now points) (now sorted) (now centres)) ⌝ }
-    ensures { λ r. ⌜ BvhShaped bound (counts .polygons) (counts .vertices) (now (polygons .entry)) (now (numbers .entry)) (now (vertices .entry))
+        (bvhWork (now entries) (now places) (now temp) (now stack) (now rows) (now points) (now sorted) (now centres))) × (0 < limit) ⌝ }
+    ensures { λ r. ⌜ BvhShapedBy limit bound (counts .polygons) (counts .vertices) (now (polygons .entry)) (now (numbers .entry)) (now (vertices .entry))
         (now («polygons_out» .entry)) (now («polygons_out» .exit))
         (outputs (now («node_bytes» .entry)) (now («tree_bytes» .entry)) (now (order .entry)))
         (outputs (now («node_bytes» .exit)) (now («tree_bytes» .exit)) (now (order .exit)))
@@ -87,6 +89,7 @@ pub fn shape_bvh(
         rows,
         centres,
         points,
+        limit,
     );
     link_and_sort(
         built,

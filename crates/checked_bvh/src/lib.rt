@@ -7,6 +7,7 @@ use meshes::Bound;
 use meshes::Counts;
 use meshes::GeometryLengths;
 use prepared::Prepare;
+use rows::ranges::RANGE_LIMIT;
 ghost use Rattle.bvh.specs.Entry.{outputs};
 ghost use Rattle.meshes.specs.Meshes.{meshOf};
 ghost use Rattle.prepared.specs.Answers.{lists, bvhWork, bvhLengths, BvhAnswered};
@@ -71,6 +72,7 @@ pub fn prepare_tree(
         points,
         sorted,
         centres,
+        RANGE_LIMIT,
     );
     finish_tree(
         built,

@@ -27,12 +27,13 @@ use Rattle.walk.specs.declared.core.Walk.{Walk}
 use Rattle.tree.specs.Pair.{outcomeOf, boxValues, Delivered}
 use Rattle.tree.specs.WellFormed.{WellFormed, itemsAt}
 use Rattle.tree.proofs.AnswerLaws.{refusal-numbered, Listed, items-listed}
+use Rattle.rows.specs.Ranges.{rangeLimit}
 use Rattle.tree.proofs.PointThree.{records-well-formed, walk-delivers}
 use Rattle.composite.specs.declared.building.CompositeTree.{CompositeTree}
 use Rattle.composite.specs.declared.building.CompositeTree.the-variants.{NoTree, Tree}
 use Rattle.composite.specs.Children.{isPresent, computedBox}
 use Rattle.composite.specs.Delivers.{WalkedOver, handedOut, Delivers}
-use Rattle.composite.specs.Trees.{childItems, childEntries, buildOf, treeAbove, Answered}
+use Rattle.composite.specs.Trees.{childItems, childEntries, buildBy, treeAboveBy, Answered}
 use Rattle.composite.proofs.ItemLaws.{length-items, present-listed, listed-present, box-at}
 
 -- ---- the build
@@ -57,10 +58,10 @@ has-tree false x b e = absurd (not-refused b TooManyEntries (ap buildIn e))
 module _ (limit n : ℕ) (ws : List ℕ) (l : Lengths) (before after : Outputs) (b : BuiltTree)
     (a : Answered limit n ws l (Tree (Built b)) before after) where
   built-is : Built b ≡ B.answerOf (childEntries n ws) 1 l
-  unfolding treeAbove buildOf
+  unfolding treeAboveBy buildBy
   built-is =
       past (ltb (length ws) (24 * n)) BufferTooShort _ b
-      (past (ltb 32767 n) TooManyEntries _ b (has-tree (ltb limit n) (buildOf n ws l) b (a .answer)))
+      (past (ltb 32767 n) TooManyEntries _ b (has-tree (ltb limit n) (buildBy rangeLimit n ws l) b (a .answer)))
 
   -- the tree of a composite is a build's
   pub as-build : E.Answered (childEntries n ws) 1 l (Built b) before after

@@ -4,13 +4,14 @@ use bvh::core::Build;
 use bvh::core::BuildRefusal;
 use bvh::items::BvhItem;
 use math::words3::Words3;
+use rows::ranges::RANGE_LIMIT;
 ghost use mathlib.Core.Path.{_≡_};
-ghost use Prim.Native.Nat.{_+_, _*_, _≤_};
+ghost use Prim.Native.Nat.{_+_, _*_, _≤_, _<_};
 ghost use lib.ListN.{length, take};
 ghost use Rattle.base.specs.Lists.{over};
 ghost use Rattle.bvh.specs.Entry.{outputs, lent, lengthsOf};
 ghost use Rattle.bvh.specs.Items.{absent, wordsOf};
-ghost use Rattle.composite.specs.Trees.{childLimit, childItem, childItems, Answered};
+ghost use Rattle.composite.specs.Trees.{childLimit, childItem, childItems, Answered, AnsweredBy};
 
 // Rule C3: a composite has a tree above so many children.
 pub const CHILD_LIMIT: usize = 5;
@@ -61,9 +62,11 @@ fn put_items(children: &[u32], n: usize, k: usize, entries: &mut [u32])
     }
 }
 
-// The tree above so many children; else none, and no buffer is looked at. The work is lent in a build's six parts.
+// The tree above so many children, with at most `range_limit` nodes a range; else none, and no buffer is looked at. The work is lent in a build's
+// six parts.
 fn tree_above(
     limit: usize,
+    range_limit: usize,
     n: usize,
     children: &[u32],
     node_bytes: &mut [u8],
@@ -76,7 +79,8 @@ fn tree_above(
     rows: &mut [u32],
     centres: &mut [f32],
 ) -> CompositeTree
-    ensures { λ r. ⌜ Answered limit n (now (children .entry))
+    requires { ⌜ 0 < «range_limit» ⌝ }
+    ensures { λ r. ⌜ AnsweredBy «range_limit» limit n (now (children .entry))
         (lengthsOf (outputs (now («node_bytes» .entry)) (now («tree_bytes» .entry)) (now (order .entry)))
         (lent (now (entries .entry)) (now (places .entry)) (now (temp .entry)) (now (stack .entry)) (now (rows .entry)) (now (centres .entry)))) r
         (outputs (now («node_bytes» .entry)) (now («tree_bytes» .entry)) (now (order .entry)))
@@ -95,6 +99,7 @@ fn tree_above(
     CompositeTree::Tree(bvh::core::build_core(
         n,
         1,
+        range_limit,
         entries,
         node_bytes,
         tree_bytes,
@@ -129,6 +134,7 @@ pub fn composite_tree(
 {
     tree_above(
         CHILD_LIMIT,
+        RANGE_LIMIT,
         n,
         children,
         node_bytes,

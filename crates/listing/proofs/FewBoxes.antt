@@ -16,7 +16,7 @@ use Rattle.bvh.specs.declared.core.Build.the-variants.{Built, Refused}
 use Rattle.bvh.specs.declared.core.BuildRefusal.{BuildRefusal}
 use Rattle.bvh.specs.declared.core.BuiltTree.{BuiltTree}
 use Rattle.bvh.specs.declared.core.Lengths.{Lengths}
-use Rattle.bvh.specs.Build.{Entries, treeOf, builtOf, short, answerOf, kept, nodesWritten, treesWritten}
+use Rattle.bvh.specs.Build.{Entries, treeOf, builtOf, short, answerOf, answerBy, kept, nodesWritten, treesWritten}
 use Rattle.rows.specs.steps.Decode.{SmallRows}
 use Rattle.bvh.specs.Entry.{Answered, Outputs}
 use Rattle.rows.specs.Output.{capacityOf}
@@ -88,7 +88,7 @@ module _ (e : Entries) (f : FewEntries e) where
   entries-size = omega (arith, size-few e, f .few, f .most)
 
   not-refused : (l : Lengths) → Roomy l → answerOf e 1 l ≡ Built (builtOf e 1 (treeOf e 1))
-  unfolding answerOf treeOf
+  unfolding answerBy treeOf
   not-refused l r =
       rw (le-ltb 32767 (e .number) (omega (arith, f .few)), not-short (e .number) l (f .few) r, le-ltb 32767 (size (treeOf e 1)) (omega (arith, entries-size)))
 

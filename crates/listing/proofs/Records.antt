@@ -11,7 +11,7 @@ use Rattle.records.specs.Records.{nodeBytes, nodeAt, NodeFits, treeBytes, treeA
 use Rattle.records.proofs.Fitting.{quantise-fits}
 use Rattle.records.proofs.ReadBack.{node-back, tree-back}
 use Rattle.records.proofs.Sizes.{node-bytes, tree-bytes}
-use Rattle.bvh.specs.Build.{Entries, treeOf, nodesWritten, treesWritten, scaleIn}
+use Rattle.bvh.specs.Build.{Entries, treeOf, nodesWritten, treesWritten, treesWrittenBy, scaleIn}
 use Rattle.rows.specs.steps.Decode.{SmallRows}
 use Rattle.rows.specs.Numbers.{RisingRanges}
 use Rattle.rows.specs.Output.{nodeOf, nodesBytes, padBytes, capacityOf, treeRecord, treesBytes}
@@ -83,7 +83,7 @@ trees-fit s lo hi (r ∷ rs) few h =
 
 pub tree-lines : (e : Entries) (before : List ℕ) → size (treeOf e 1) < 32768
     → treeLines (over (treesWritten e 1) before) (length (ranges rangeLimit 0 (treeOf e 1))) ≡ numbered treeLine 0 (treesOf (treeOf e 1))
-unfolding treeLines treesOf treesWritten treeOf
+unfolding treeLines treesOf treesWrittenBy treeOf
 tree-lines e before few =
     let t = treeOf e 1 in
     let ts = map (treeRecord (scaleIn t)) (ranges rangeLimit 0 t) in

@@ -5,6 +5,7 @@ use crate::lines::put_refusal;
 use crate::lines::put_tree_lines;
 use crate::reading::read_children;
 use bvh::core::Build;
+use rows::ranges::RANGE_LIMIT;
 ghost use mathlib.Core.Path.{_≡_};
 ghost use Prim.Native.Nat.{_*_, _/_, _%_, _≤_};
 ghost use lib.ListN.{length};
@@ -50,6 +51,7 @@ fn put_children(out: &mut [u8], input: &[u8]) -> usize
     let built = bvh::core::build_core(
         n,
         1,
+        RANGE_LIMIT,
         &entries,
         &mut node_bytes,
         &mut tree_bytes,

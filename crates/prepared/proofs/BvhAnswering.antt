@@ -36,7 +36,7 @@ use Rattle.meshes.specs.Checks.{isGeometry, isBvh, checkIn, geometryCheck, bvhC
 use Rattle.meshes.specs.Meshes.{Mesh, boxOf, materialsOf}
 use Rattle.octants.specs.declared.lists.OctantCounts.{OctantCounts}
 use Rattle.octants.specs.Octants.{countsOf}
-use Rattle.rebuild.specs.Rebuilding.{leafLimit, treeAnswer}
+use Rattle.rebuild.specs.Rebuilding.{leafLimit, treeAnswer, treeAnswerBy}
 use Rattle.rebuild.proofs.MaterialOrder.{values-in-order, second-pass-values}
 use Rattle.rebuild.proofs.OrderLaws.{order-length, places-below}
 use Rattle.reorder.specs.Reordering.{inOrder}
@@ -67,7 +67,7 @@ only-built false t x why h = ap (treeIn t) h
 
 -- a tree that is not refused is the definition's
 tree-built : (t : BuiltTree) (e : Entries) → Build.Built t ≡ treeAnswer e → t ≡ builtOf e leafLimit (treeOf e leafLimit)
-unfolding treeAnswer
+unfolding treeAnswerBy
 tree-built t e h = only-built (ltb 32767 (size (treeOf e leafLimit))) t (builtOf e leafLimit (treeOf e leafLimit)) Why.TooManyNodes h
 
 module _ (g : Mesh) where

@@ -19,7 +19,7 @@ use Rattle.meshes.specs.declared.PrepareRefusal.the-variants.{UnknownKind, TooM
 use Rattle.meshes.specs.Checks.{isGeometry, isBvh, checkIn, checkOf, refusalNumber}
 use Rattle.meshes.specs.Meshes.{Mesh}
 use Rattle.octants.specs.Octants.{countsOf}
-use Rattle.rebuild.specs.Rebuilding.{treeAnswer}
+use Rattle.rebuild.specs.Rebuilding.{treeAnswer, treeAnswerBy}
 use Rattle.prepared.specs.declared.Prepare.{Prepare}
 use Rattle.prepared.specs.declared.Prepare.the-variants.{Geometry, Bvh, Empty, Refused}
 use Rattle.prepared.specs.declared.Values.{Values}
@@ -43,7 +43,7 @@ answerAfter g Passed =
 
 -- Rule K4: what preparing a mesh answers, in buffers of these lengths.
 unfoldable pub answerOf : Mesh → Lengths → Prepare
-unfolding checkIn preparedOf entriesOf8 treeAnswer
+unfolding checkIn preparedOf entriesOf8 treeAnswerBy
 answerOf g l = answerAfter g (checkOf g l)
 
 -- 01's number for each answer, 0 where it is not refused

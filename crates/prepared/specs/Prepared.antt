@@ -5,7 +5,7 @@ use mathlib.Core.Bool.{Bool, cond, not, _&&_}
 use mathlib.Core.List.{List, []}
 use lib.Dec.{eqb}
 use lib.ListN.{length}
-use Rattle.bvh.specs.Build.{nodesWritten, treesWritten, orderWritten}
+use Rattle.bvh.specs.Build.{nodesWritten, treesWritten, treesWrittenBy, orderWritten}
 use Rattle.edges.specs.Edges.{linked}
 use Rattle.finishing.specs.Filled.{listBytes}
 use Rattle.finishing.specs.Stored.{storedBytes, floatsOf}
@@ -79,7 +79,7 @@ ofTree g xs = cond (rebuilds g) xs []
 -- Rules K5 to K7.
 unfoldable pub preparedOf : Mesh → PreparedMesh
 unfolding frameFor quantumFor polygonsOf usedOf listBytes storedBytes floatsOf shrunkBytes shrunkFloats shrunkOctant entriesOf8
-    nodesWritten treesWritten orderWritten
+    nodesWritten treesWrittenBy orderWritten
 preparedOf g =
     let b = g .bound in
     let p = g .counts .polygons in

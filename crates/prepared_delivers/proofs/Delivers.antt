@@ -10,7 +10,7 @@ use lib.Dec.{ltb}
 use lib.ListN.{length, getD, take, drop, List·getD-append}
 use lib.Seq.{take-append-seam}
 use Rattle.base.specs.Lists.{occurrences, Among, over}
-use Rattle.bvh.specs.Build.{Entries, treeOf, answerOf, short, orderWritten, nodesWritten, treesWritten}
+use Rattle.bvh.specs.Build.{Entries, treeOf, answerOf, answerBy, short, orderWritten, nodesWritten, treesWritten}
 use Rattle.bvh.specs.Entry.{Outputs, Answered, entriesIn}
 use Rattle.bvh.specs.declared.core.Build.the-variants.{Built}
 use Rattle.bvh.specs.declared.core.BuiltTree.{BuiltTree}
@@ -27,7 +27,7 @@ use Rattle.polygon_items.specs.Items.{itemsOf}
 use Rattle.prepared.specs.Rebuilt.{entriesOf8, polygonsOf8}
 use Rattle.prepared.specs.steps.Shapes.{BvhShaped}
 use Rattle.rebuild.proofs.OrderLaws.{order-permutes, order-length}
-use Rattle.rebuild.specs.Rebuilding.{leafLimit, treeAnswer}
+use Rattle.rebuild.specs.Rebuilding.{leafLimit, treeAnswer, treeAnswerBy}
 use Rattle.reorder.proofs.LookupLaws.{new-of-old, among-at}
 use Rattle.tree.proofs.AnswerLaws.{Listed, words-listed, built-passed}
 use Rattle.tree.proofs.PointThree.{records-well-formed, walk-delivers}
@@ -65,7 +65,7 @@ not-short : (p : ℕ) → short p (enough p) ≡ false
 not-short p = rw (no-less (16 * (2 * p + 1)), no-less p, no-less (7 * p), no-less (8 * (2 * p + 1)), no-less (4 * p))
 
 answer-is : (p : ℕ) (items : List ℕ) → p ≤ 32767 → answerOf (entriesIn p items) leafLimit (enough p) ≡ treeAnswer (entriesIn p items)
-unfolding answerOf treeAnswer entriesIn
+unfolding answerBy treeAnswerBy entriesIn
 answer-is p items few = rw (le-ltb 32767 p few, not-short p)
 
 module _ (b : Bound) (p v : ℕ) (polygons vertices : List ℕ) (few : p ≤ 32767) (records : 16 * p ≤ length polygons)

@@ -9,8 +9,8 @@ use lib.Ieee.{Float}
 use lib.ListN.{length, take, drop}
 use lib.Seq.{take-at}
 use Rattle.base.specs.Lists.{over}
-use Rattle.bvh.specs.Build.{Entries, answerOf, short, kept, orderWritten}
-use Rattle.bvh.specs.Entry.{Outputs, Lent, lent, lengthsOf, entriesIn, Answered}
+use Rattle.bvh.specs.Build.{Entries, answerBy, short, kept, orderWritten}
+use Rattle.bvh.specs.Entry.{Outputs, Lent, lent, lengthsOf, entriesIn, AnsweredBy}
 use Rattle.bvh.specs.declared.core.Build.{Build}
 use Rattle.bvh.specs.declared.core.Build.the-variants.{Built, Refused}
 use Rattle.bvh.specs.declared.core.BuiltTree.{BuiltTree}
@@ -19,7 +19,7 @@ use Rattle.corners.proofs.CornerLaws.{length-over}
 use Rattle.polygon_items.specs.Items.{itemsOf}
 use Rattle.reorder.specs.Reordering.{rebuiltOf}
 use Rattle.reorder.specs.steps.Lent.{Rebuildable}
-use Rattle.rebuild.specs.Rebuilding.{leafLimit, treeAnswer, Rebuilt}
+use Rattle.rebuild.specs.Rebuilding.{leafLimit, treeAnswerBy, Rebuilt}
 use Rattle.rebuild.specs.steps.Room.{BuildRoom}
 use Rattle.rebuild.proofs.OrderLaws.{length-items, order-taken, numbered}
 
@@ -39,13 +39,14 @@ not-short p o l b =
       le-ltb (length (l .centres)) (4 * p) (b .centres-room),
     )
 
-answer-is : (e : Entries) (l : Lengths) → e .number ≤ 32767 → short (e .number) l ≡ false → answerOf e leafLimit l ≡ treeAnswer e
-unfolding answerOf treeAnswer
-answer-is e l few enough = rw (le-ltb 32767 (e .number) few, enough)
+answer-is : (limit : ℕ) (e : Entries) (l : Lengths) → e .number ≤ 32767 → short (e .number) l ≡ false
+    → answerBy limit e leafLimit l ≡ treeAnswerBy limit e
+unfolding answerBy treeAnswerBy
+answer-is limit e l few enough = rw (le-ltb 32767 (e .number) few, enough)
 
 -- ---- over the boxes
 
-module _ (p : ℕ) (bytes ws : List ℕ) (few : p ≤ 32767) where
+module _ (limit p : ℕ) (bytes ws : List ℕ) (few : p ≤ 32767) where
   abbrev e : Entries
   e = entriesIn p (itemsOf p bytes ws)
 
@@ -56,8 +57,8 @@ module _ (p : ℕ) (bytes ws : List ℕ) (few : p ≤ 32767) where
   -- what the core answers over the words that hold the boxes
   pub over-boxes : (entries held places temp stack rows : List ℕ) (centres : List Float) (r : Build) (o o′ : Outputs)
       → 7 * p ≤ length entries → held ≡ over (itemsOf p bytes ws) entries
-      → Answered (entriesIn p (take (7 * p) held)) leafLimit (lengthsOf o (lent held places temp stack rows centres)) r o o′
-      → Answered e leafLimit (lengthsOf o (lent entries places temp stack rows centres)) r o o′
+      → AnsweredBy limit (entriesIn p (take (7 * p) held)) leafLimit (lengthsOf o (lent held places temp stack rows centres)) r o o′
+      → AnsweredBy limit e leafLimit (lengthsOf o (lent entries places temp stack rows centres)) r o o′
   over-boxes entries held places temp stack rows centres r o o′ room q a =
       let items = itemsOf p bytes ws in
       let many = length-items p bytes ws in
@@ -65,7 +66,7 @@ module _ (p : ℕ) (bytes ws : List ℕ) (few : p ≤ 32767) where
       let same : length held ≡ length entries = ap length q ∙ length-over items entries (omega arith) in
       rw (words, same) at a
 
-  module _ (l : Lent) (r : Build) (o o′ : Outputs) (b : BuildRoom p o l) (a : Answered e leafLimit (lengthsOf o l) r o o′) where
+  module _ (l : Lent) (r : Build) (o o′ : Outputs) (b : BuildRoom p o l) (a : AnsweredBy limit e leafLimit (lengthsOf o l) r o o′) where
     -- what is asked before the records are moved
     pub rebuildable : (temp polygons out : List ℕ) → p ≤ length temp → 16 * p ≤ length polygons → 16 * p ≤ length out
         → (t : BuiltTree) → r ≡ Built t → Rebuildable p (o′ .order) temp polygons out
@@ -89,11 +90,11 @@ module _ (p : ℕ) (bytes ws : List ℕ) (few : p ≤ 32767) where
     records-are polygons out out′ (Refused why) is q = q
 
     pub rebuilt : (polygons out out′ : List ℕ) → out′ ≡ kept r (rebuiltOf p (take p (o′ .order)) polygons) out
-        → Rebuilt e p polygons (lengthsOf o l) r o o′ out out′
+        → Rebuilt limit e p polygons (lengthsOf o l) r o o′ out out′
     rebuilt polygons out out′ q =
         let enough : short (e .number) (lengthsOf o l) ≡ false = subst (λ (k : ℕ). short k (lengthsOf o l) ≡ false) (sym number-is) (not-short p o l b) in
         record {
           built = a;
-          answer = a .answer ∙ answer-is e (lengthsOf o l) (omega (arith, number-is)) enough;
+          answer = a .answer ∙ answer-is limit e (lengthsOf o l) (omega (arith, number-is)) enough;
           records-are = records-are polygons out out′ r refl q;
         }

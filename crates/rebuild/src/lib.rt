@@ -6,7 +6,7 @@ use points::put_positions;
 use polygon_items::put_items;
 use reorder::records::rebuild_records;
 ghost use mathlib.Core.Path.{_≡_};
-ghost use Prim.Native.Nat.{_*_, _≤_};
+ghost use Prim.Native.Nat.{_*_, _≤_, _<_};
 ghost use lib.ListN.{length, take};
 ghost use Rattle.base.specs.Lists.{over};
 ghost use Rattle.bvh.specs.Build.{kept};
@@ -62,8 +62,8 @@ fn put_records(
 }
 
 // The tree over p polygons with v vertices, and the polygons in the order of its leaves. It is refused only where it has too many nodes, and then
-// nothing is written. The work is lent in a build's six parts, and as many words as the vertices have. Without polygons there is to be no tree
-// (01), and nothing to ask for here.
+// nothing is written. No range of it has more than `limit` nodes. The work is lent in a build's six parts, and as many words as the vertices have.
+// Without polygons there is to be no tree (01), and nothing to ask for here.
 pub fn rebuild_bvh(
     center: Vec3,
     transform: Mat4,
@@ -82,11 +82,12 @@ pub fn rebuild_bvh(
     rows: &mut [u32],
     centres: &mut [f32],
     points: &mut [u32],
+    limit: usize,
 ) -> Build
     requires { ⌜ (Meshed p v (now polygons) (now vertices) (now out) (now points))
         × (BuildRoom p (outputs (now «node_bytes») (now «tree_bytes») (now order))
-        (lent (now entries) (now places) (now temp) (now stack) (now rows) (now centres))) ⌝ }
-    ensures { λ r. ⌜ Rebuilt (polygonEntries transform center p v (now (polygons .entry)) (now (vertices .entry))) p (now (polygons .entry))
+        (lent (now entries) (now places) (now temp) (now stack) (now rows) (now centres))) × (0 < limit) ⌝ }
+    ensures { λ r. ⌜ Rebuilt limit (polygonEntries transform center p v (now (polygons .entry)) (now (vertices .entry))) p (now (polygons .entry))
         (lengthsOf (outputs (now («node_bytes» .entry)) (now («tree_bytes» .entry)) (now (order .entry)))
         (lent (now (entries .entry)) (now (places .entry)) (now (temp .entry)) (now (stack .entry)) (now (rows .entry)) (now (centres .entry)))) r
         (outputs (now («node_bytes» .entry)) (now («tree_bytes» .entry)) (now (order .entry)))
@@ -97,6 +98,7 @@ pub fn rebuild_bvh(
     let built = bvh::core::build_core(
         p,
         LEAF_LIMIT,
+        limit,
         entries,
         node_bytes,
         tree_bytes,

@@ -16,7 +16,7 @@ use Rattle.bvh.specs.declared.core.BuildRefusal.{BuildRefusal}
 use Rattle.bvh.specs.declared.core.BuildRefusal.the-variants.{TooManyEntries, ThresholdOutside, BufferTooShort, TooManyNodes}
 use Rattle.bvh.specs.declared.core.BuiltTree.{BuiltTree}
 use Rattle.bvh.specs.declared.core.Lengths.{Lengths}
-use Rattle.bvh.specs.Build.{Entries, treeOf, builtOf, refusalNumber, numberOf, short, answerOf}
+use Rattle.bvh.specs.Build.{Entries, treeOf, builtOf, refusalNumber, numberOf, short, answerOf, answerBy}
 use Rattle.bvh.specs.declared.items.BvhItem.{BvhItem}
 use Rattle.bvh.specs.Entry.{entriesIn, entriesOf}
 use Rattle.bvh.specs.Items.{wordsOf, present, isMarked, marked}
@@ -47,7 +47,7 @@ pub record Passed (e : Entries) (th : ℕ) (b : BuiltTree) : Type 0 where
   pub values : b ≡ builtOf e th (treeOf e th)
 
 pub built-passed : (e : Entries) (th : ℕ) (l : Lengths) (b : BuiltTree) → Built b ≡ answerOf e th l → Passed e th b
-unfolding answerOf
+unfolding answerBy
 built-passed e th l b a =
     let t = treeOf e th in
     let c₁ = passed (ltb 32767 (e .number)) TooManyEntries _ b a in

@@ -20,7 +20,7 @@ use Rattle.records.specs.declared.scale.Scale.{Scale}
 use Rattle.records.specs.Scale.{scaleOfBox}
 use Rattle.entries.specs.Folding.{foldBox}
 use Rattle.entries.specs.declared.boxes.BoxWords.{BoxWords}
-use Rattle.bvh.specs.Build.{Entries, treeOf, scaleIn, builtOf, nodesWritten, treesWritten}
+use Rattle.bvh.specs.Build.{Entries, treeOf, scaleIn, builtOf, nodesWritten, treesWritten, treesWrittenBy}
 use Rattle.bvh.specs.Entry.{outputs}
 use Rattle.rows.specs.steps.Decode.{Small, SmallRows}
 use Rattle.rows.specs.steps.Flat.{Full, Filled}
@@ -217,7 +217,7 @@ module _ (e : Entries) (th : ℕ) (stands : Stands e th) where
         }
 
     lent-is : lent written ≡ bytes
-    unfolding treeOf nodesWritten treesWritten
+    unfolding treeOf nodesWritten treesWrittenBy
     lent-is =
         let nodes-are : nodesBytes scale th order (rows 0 t) ++ (padding ++ drop (length (nodesWritten e th)) nodes) ≡ over (nodesWritten e th) nodes =
         sym (append-assoc (nodesBytes scale th order (rows 0 t)) padding (drop (length (nodesWritten e th)) nodes)) in
@@ -332,7 +332,7 @@ module _ (e : Entries) (th : ℕ) (stands : Stands e th) where
         omega (arith, all-long, length-append written padding, length-nodes scale th order (rows 0 t), length-rows 0 t)
 
     trees-long : 16 * length (ranges rangeLimit 0 t) ≤ length (over (treesWritten e th) trees)
-    unfolding treeOf treesWritten
+    unfolding treeOf treesWrittenBy
     trees-long =
         let written = treesBytes scale (ranges rangeLimit 0 t) in
         omega (arith, length-append written (drop (length written) trees), length-trees scale (ranges rangeLimit 0 t))

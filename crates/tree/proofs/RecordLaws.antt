@@ -18,7 +18,7 @@ use Rattle.records.specs.Records.{nodeAt}
 use Rattle.records.specs.declared.BvhNode.{BvhNode}
 use Rattle.records.specs.declared.BvhTree.{BvhTree}
 use Rattle.records.specs.declared.scale.Scale.{Scale}
-use Rattle.bvh.specs.Build.{Entries, treeOf, scaleIn, builtOf, nodesWritten, treesWritten, orderWritten}
+use Rattle.bvh.specs.Build.{Entries, treeOf, scaleIn, builtOf, nodesWritten, treesWritten, treesWrittenBy, orderWritten}
 use Rattle.bvh.specs.Entry.{Outputs, outputs}
 use Rattle.rows.specs.Numbers.{rangesHolding, subtrees}
 use Rattle.rows.specs.Output.{idOf, nodeOf, nodesBytes, padBytes, treeRecord, treesBytes, capacityOf, orderOf}
@@ -133,7 +133,7 @@ module _ (e : Entries) (th : ℕ) (stands : Stands e th) (before : Outputs) wher
   range-some r m = let s = range-size rangeLimit (omega arith) 0 t r m in (omega (arith, s .0), s .1)
 
   pub tree-recorded : (j : ℕ) (r : Range) (qs : List Range) → drop j (ranges rangeLimit 0 t) ≡ r ∷ qs → treeNo after j ≡ treeRecord scale r
-  unfolding treeOf treesWritten
+  unfolding treeOf treesWrittenBy
   tree-recorded j r qs h =
       let m = mem-drop (ranges rangeLimit 0 t) j r qs h in
       tree-read scale (drop (length (treesBytes scale (ranges rangeLimit 0 t))) (before .trees)) (ranges rangeLimit 0 t) j r qs h
@@ -245,7 +245,7 @@ module _ (e : Entries) (th : ℕ) (stands : Stands e th) (before : Outputs) wher
   pub formed : WellFormed e th (builtOf e th (treeOf e th)) after
   unfolding treeOf
   formed =
-      let g = well-grown e th (stands .threshold) (stands .rising) in
+      let g = well-grown rangeLimit e th (omega arith) (stands .threshold) (stands .rising) in
       record {
         present-once = λ p m. ap (occurrences p) items-held ∙ g .present-once p m;
         only-present = λ p. ap (occurrences p) items-held ∙ g .only-present p;

@@ -5,6 +5,7 @@ use bvh::core::Build;
 use bvh::core::BuildRefusal;
 use bvh::core::BuiltTree;
 use math::aabb::Aabb;
+use rows::ranges::RANGE_LIMIT;
 use walk::core::Walk;
 use walk_steps::state::Sizes;
 ghost use mathlib.Core.Path.{_≡_};
@@ -75,6 +76,7 @@ pub fn build_and_walk(
     let built = bvh::core::build_core(
         n,
         threshold,
+        RANGE_LIMIT,
         entries,
         node_bytes,
         tree_bytes,

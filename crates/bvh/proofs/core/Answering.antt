@@ -18,8 +18,8 @@ use Rattle.bvh.specs.declared.core.BuiltTree.{BuiltTree}
 use Rattle.bvh.specs.declared.core.Lengths.{Lengths}
 use Rattle.bvh.specs.declared.core.Planted.{Planted}
 use Rattle.bvh.specs.declared.core.Task.{Task}
-use Rattle.bvh.specs.Build.{Entries, short, answerOf, treeOf}
-use Rattle.bvh.specs.Entry.{Outputs, Lent, lent, entriesIn, lengthsOf, Answered}
+use Rattle.bvh.specs.Build.{Entries, short, answerBy, treeOf}
+use Rattle.bvh.specs.Entry.{Outputs, Lent, lent, entriesIn, lengthsOf, AnsweredBy}
 use Rattle.bvh.specs.Items.{marked}
 use Rattle.growth.specs.Grow.{builder, grow}
 use Rattle.rows.specs.Tree.{size}
@@ -61,9 +61,9 @@ enough n o l e =
       centres-room = ltb-false _ _ (e₈ .1);
     }
 
-module _ (n th : ℕ) (o : Outputs) (l : Lent) (few : n ≤ 32767) (some : 1 ≤ th) (room : Enough n o l) where
+module _ (n th limit : ℕ) (o : Outputs) (l : Lent) (few : n ≤ 32767) (some : 1 ≤ th) (limited : 0 < limit) (room : Enough n o l) where
   abbrev task : Task
-  task = record { n = n; threshold = th }
+  task = record { n = n; threshold = th; limit = limit }
 
   abbrev listed : List ℕ
   listed = take (7 * n) (l .entries)
@@ -93,6 +93,7 @@ module _ (n th : ℕ) (o : Outputs) (l : Lent) (few : n ≤ 32767) (some : 1 ≤
         nodes-few = nodes-few;
         few = few;
         threshold = some;
+        limit = limited;
         entries-are = entries-long;
         places-room = omega (arith, room .places-room);
         temp-room = omega (arith, room .temp-room);
@@ -105,40 +106,41 @@ module _ (n th : ℕ) (o : Outputs) (l : Lent) (few : n ≤ 32767) (some : 1 ≤
 -- ---- the answers
 
 -- a refusal leaves the outputs
-refusal : (e : Entries) (th : ℕ) (l : Lengths) (o : Outputs) (r : BuildRefusal) → Refused r ≡ answerOf e th l → Answered e th l (Refused r) o o
-refusal e th l o r is = record { answer = is; nodes-are = refl; trees-are = refl; order-is = refl }
+refusal : (limit : ℕ) (e : Entries) (th : ℕ) (l : Lengths) (o : Outputs) (r : BuildRefusal) → Refused r ≡ answerBy limit e th l
+    → AnsweredBy limit e th l (Refused r) o o
+refusal limit e th l o r is = record { answer = is; nodes-are = refl; trees-are = refl; order-is = refl }
 
-module _ (n th : ℕ) (ws : List ℕ) (l : Lengths) (o : Outputs) where
+module _ (limit n th : ℕ) (ws : List ℕ) (l : Lengths) (o : Outputs) where
   abbrev e : Entries
   e = entriesIn n ws
 
-  pub too-many-entries : 32767 < n → Answered e th l (Refused TooManyEntries) o o
-  unfolding entriesIn answerOf
-  too-many-entries h = refusal e th l o TooManyEntries (rw (lt-ltb 32767 n h))
+  pub too-many-entries : 32767 < n → AnsweredBy limit e th l (Refused TooManyEntries) o o
+  unfolding entriesIn answerBy
+  too-many-entries h = refusal limit e th l o TooManyEntries (rw (lt-ltb 32767 n h))
 
-  pub threshold-below : n ≤ 32767 → th < 1 → Answered e th l (Refused ThresholdOutside) o o
-  unfolding entriesIn answerOf
-  threshold-below few h = refusal e th l o ThresholdOutside (rw (le-ltb 32767 n few, lt-ltb th 1 h))
+  pub threshold-below : n ≤ 32767 → th < 1 → AnsweredBy limit e th l (Refused ThresholdOutside) o o
+  unfolding entriesIn answerBy
+  threshold-below few h = refusal limit e th l o ThresholdOutside (rw (le-ltb 32767 n few, lt-ltb th 1 h))
 
-  pub threshold-above : n ≤ 32767 → 1 ≤ th → 32767 < th → Answered e th l (Refused ThresholdOutside) o o
-  unfolding entriesIn answerOf
-  threshold-above few some h = refusal e th l o ThresholdOutside (rw (le-ltb 32767 n few, le-ltb th 1 some, lt-ltb 32767 th h))
+  pub threshold-above : n ≤ 32767 → 1 ≤ th → 32767 < th → AnsweredBy limit e th l (Refused ThresholdOutside) o o
+  unfolding entriesIn answerBy
+  threshold-above few some h = refusal limit e th l o ThresholdOutside (rw (le-ltb 32767 n few, le-ltb th 1 some, lt-ltb 32767 th h))
 
-  pub buffer-too-short : n ≤ 32767 → 1 ≤ th → th ≤ 32767 → short n l ≡ true → Answered e th l (Refused BufferTooShort) o o
-  unfolding entriesIn answerOf
-  buffer-too-short few some most h = refusal e th l o BufferTooShort (rw (le-ltb 32767 n few, le-ltb th 1 some, le-ltb 32767 th most, h))
+  pub buffer-too-short : n ≤ 32767 → 1 ≤ th → th ≤ 32767 → short n l ≡ true → AnsweredBy limit e th l (Refused BufferTooShort) o o
+  unfolding entriesIn answerBy
+  buffer-too-short few some most h = refusal limit e th l o BufferTooShort (rw (le-ltb 32767 n few, le-ltb th 1 some, le-ltb 32767 th most, h))
 
   module _ (few : n ≤ 32767) (some : 1 ≤ th) (most : th ≤ 32767) (enough : short n l ≡ false) where
     abbrev nodes : ℕ
     nodes = size (grow (builder (boxAt ws)) th (marked 0 n ws))
 
-    pub too-many-nodes : 32767 < nodes → Answered e th l (Refused TooManyNodes) o o
-    unfolding entriesIn answerOf treeOf
+    pub too-many-nodes : 32767 < nodes → AnsweredBy limit e th l (Refused TooManyNodes) o o
+    unfolding entriesIn answerBy treeOf
     too-many-nodes h =
-        refusal e th l o TooManyNodes (rw (le-ltb 32767 n few, le-ltb th 1 some, le-ltb 32767 th most, enough, lt-ltb 32767 nodes h))
+        refusal limit e th l o TooManyNodes (rw (le-ltb 32767 n few, le-ltb th 1 some, le-ltb 32767 th most, enough, lt-ltb 32767 nodes h))
 
-    pub built : nodes ≤ 32767 → (b : BuiltTree) (o′ : Outputs) → Written e th b o o′ → Answered e th l (Built b) o o′
-    unfolding entriesIn answerOf treeOf
+    pub built : nodes ≤ 32767 → (b : BuiltTree) (o′ : Outputs) → Written limit e th b o o′ → AnsweredBy limit e th l (Built b) o o′
+    unfolding entriesIn answerBy treeOf
     built h b o′ w =
         record {
           answer =

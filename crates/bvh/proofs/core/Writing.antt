@@ -17,11 +17,11 @@ use Rattle.entries.specs.Boxes.{boxAt}
 use Rattle.entries.specs.declared.boxes.BoxWords.{BoxWords}
 use Rattle.bvh.specs.declared.core.Planted.{Planted}
 use Rattle.bvh.specs.declared.core.Task.{Task}
-use Rattle.bvh.specs.Build.{scaleIn, treeOf, nodesWritten, treesWritten, orderWritten}
+use Rattle.bvh.specs.Build.{scaleIn, treeOf, nodesWritten, treesWrittenBy, orderWritten}
 use Rattle.bvh.specs.Entry.{Outputs, entriesIn}
 use Rattle.bvh.specs.Items.{marked}
 use Rattle.rows.specs.Output.{nodesBytes, padBytes, capacityOf, treesBytes, orderOf}
-use Rattle.rows.specs.Ranges.{ranges, rangeLimit}
+use Rattle.rows.specs.Ranges.{ranges}
 use Rattle.rows.specs.Rows.{rows}
 use Rattle.rows.specs.Tree.{Node, leaf, inner, boxOf, leafOrder, size}
 use Rattle.growth.specs.Grow.{Builder, builder, grow}
@@ -163,25 +163,25 @@ module _ (task : Task) (p : Planted) (entries places temp table : List ℕ) (o :
   flat : Flat t (p .nodes) table
   flat = grown-flat by th marks leaves table (p .nodes) (w .planted .grown) filled (w .nodes-few)
 
-  pub scannable : Scannable rangeLimit (p .nodes) table (o .trees)
-  scannable =
-      grown-scannable by th marks leaves table (p .nodes) (w .planted .grown) filled (w .nodes-few) rangeLimit (omega arith) (o .trees)
+  pub scannable : (limit : ℕ) → 0 < limit → Scannable limit (p .nodes) table (o .trees)
+  scannable limit some =
+      grown-scannable by th marks leaves table (p .nodes) (w .planted .grown) filled (w .nodes-few) limit some (o .trees)
       (omega (arith, nodes-most, w .trees-room))
 
   pub written : (all : BoxWords) (s : Scale) (cap parts : ℕ) (o′ : Outputs) → all ≡ rowAt table 0 .box → s ≡ scaleOfBox (all .min) (all .max)
       → NodesWritten s task (p .nodes) leaves table (o .nodes) (o′ .nodes) cap
-      → ((u : Node) → Flat u (p .nodes) table → TreesPut rangeLimit s u (o .trees) (o′ .trees) parts)
+      → ((u : Node) → Flat u (p .nodes) table → TreesPut (task .limit) s u (o .trees) (o′ .trees) parts)
       → o′ .order ≡ over (orderOf th marks leaves) (o .order)
-      → Written (entriesIn n entries) th
+      → Written (task .limit) (entriesIn n entries) th
       (record { nodes = p .nodes; capacity = cap; trees = parts; present = p .present; min = all .min; max = all .max; scale = s }) o o′
-  unfolding entriesIn treeOf nodesWritten treesWritten orderWritten
+  unfolding entriesIn treeOf nodesWritten treesWrittenBy orderWritten
   written all s cap parts o′ ea es wn wt wo =
       let box-is : all ≡ boxOf t = ea ∙ root-box in
       let scale-is : s ≡ scaleIn t = es ∙ ap (λ (b : BoxWords). scaleOfBox (b .min) (b .max)) box-is in
       let size-is : p .nodes ≡ size t = w .planted .grown .size-is in
       let cap-is : cap ≡ capacityOf th n (size t) = wn .capacity-is ∙ ap (capacityOf th n) size-is in
       let leaves-are : leaves ≡ leafOrder t = w .planted .grown .order-is in
-      let put : TreesPut rangeLimit s t (o .trees) (o′ .trees) parts = wt t flat in
+      let put : TreesPut (task .limit) s t (o .trees) (o′ .trees) parts = wt t flat in
       record {
         built = λ i. record {
           nodes = size-is i;
@@ -194,6 +194,6 @@ module _ (task : Task) (p : Planted) (entries places temp table : List ℕ) (o :
         };
         nodes-are =
             wn .bytes-are ∙ (λ i. over (nodesBytes (scale-is i) th (leaves-are i) (rows-are i) ++ padBytes (cap-is i - size-is i)) (o .nodes));
-        trees-are = put .bytes-are ∙ ap (λ (u : Scale). over (treesBytes u (ranges rangeLimit 0 t)) (o .trees)) scale-is;
+        trees-are = put .bytes-are ∙ ap (λ (u : Scale). over (treesBytes u (ranges (task .limit) 0 t)) (o .trees)) scale-is;
         order-is = wo ∙ ap (λ (l : List ℕ). over (orderOf th marks l) (o .order)) leaves-are;
       }

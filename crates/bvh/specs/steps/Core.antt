@@ -9,7 +9,7 @@ use Rattle.entries.specs.Boxes.{boxAt}
 use Rattle.bvh.specs.declared.core.BuiltTree.{BuiltTree}
 use Rattle.bvh.specs.declared.core.Planted.{Planted}
 use Rattle.bvh.specs.declared.core.Task.{Task}
-use Rattle.bvh.specs.Build.{Entries, treeOf, builtOf, nodesWritten, treesWritten, orderWritten}
+use Rattle.bvh.specs.Build.{Entries, treeOf, builtBy, nodesWritten, treesWrittenBy, orderWritten}
 use Rattle.bvh.specs.Entry.{Outputs, Lent}
 use Rattle.bvh.specs.Items.{marked}
 use Rattle.rows.specs.Output.{nodesBytes, padBytes, capacityOf}
@@ -54,6 +54,7 @@ pub record Writable (t : Task) (p : Planted) (entries places temp table : List �
   pub nodes-few : p .nodes ≤ 32767
   pub few : t .n ≤ 32767
   pub threshold : 0 < t .threshold
+  pub limit : 0 < t .limit
   pub entries-are : length entries ≡ 7 * t .n
   pub places-room : t .n ≤ length places
   pub temp-room : t .n ≤ length temp
@@ -62,9 +63,9 @@ pub record Writable (t : Task) (p : Planted) (entries places temp table : List �
   pub trees-room : 16 * (2 * t .n + 1) ≤ length (o .trees)
   pub order-room : t .n ≤ length (o .order)
 
--- The values and the outputs of a build that is not refused.
-pub record Written (e : Entries) (th : ℕ) (b : BuiltTree) (before after : Outputs) : Type 0 where
-  pub built : b ≡ builtOf e th (treeOf e th)
+-- The values and the outputs of a build that is not refused, at a limit of nodes a range.
+pub record Written (limit : ℕ) (e : Entries) (th : ℕ) (b : BuiltTree) (before after : Outputs) : Type 0 where
+  pub built : b ≡ builtBy limit e th (treeOf e th)
   pub nodes-are : after .nodes ≡ over (nodesWritten e th) (before .nodes)
-  pub trees-are : after .trees ≡ over (treesWritten e th) (before .trees)
+  pub trees-are : after .trees ≡ over (treesWrittenBy limit e th) (before .trees)
   pub order-is : after .order ≡ over (orderWritten e th) (before .order)

@@ -30,7 +30,7 @@ link-and-sort-requires c κs =
     let w = rebuilding (c .before .before .before .before .before .before .before .before) in
     let s = start w in
     let k = w .rebuild-bvh .kept in
-    sortable _ _ _ _ _ _ _ _ (s .pre) (s .args .bound) _ _ _ (w .rebuild-bvh .ensures) _ _ _ _ _
+    sortable _ _ _ _ _ _ _ _ (s .pre .0) _ (s .args .bound) _ _ _ (w .rebuild-bvh .ensures) _ _ _ _ _
     (k .1 .1 .1 .1 .1 .1 .0) (k .1 .1 .1 .1 .1 .1 .1 .1 .1 .1 .0) (k .1 .1 .1 .1 .1 .1 .1 .1 .1 .1 .1 .0)
     (k .1 .1 .1 .1 .1 .1 .1 .1 .1 .1 .1 .1 .0) (k .1 .1 .1 .1 .1 .1 .1 .1 .1 .1 .1 .1 .1 .0) (k .1 .1 .1 .1 .1 .1 .1 .1 .1 .1 .1 .1 .1 .1 .0)
 
@@ -74,7 +74,7 @@ returns : tie.Need-returns
 returns c =
     let w = rebuilt c in
     let s = start w in
-    shaped _ _ _ _ _ _ _ _ (s .pre) (s .args .bound) _ _ _ (w .rebuild-bvh .ensures) _ _ (sorting c .link-and-sort .ensures)
+    shaped _ _ _ _ _ _ _ _ (s .pre .0) _ (s .args .bound) _ _ _ (w .rebuild-bvh .ensures) _ _ (sorting c .link-and-sort .ensures)
 
 pub shape-bvh-spec : {M : Type 1} → statement M
 shape-bvh-spec =

@@ -1,4 +1,5 @@
 -- `prepare_tree` meets its contract: the shape, and then the lists in the frame of its tree (Grown).
+use native.Mathlib.Omega.{arith}
 use Rattle.checked_bvh.proofs.prepare_tree.Statement.{statement}
 use Rattle.checked_bvh.proofs.prepare_tree.Tie as tie
 use Rattle.bvh.specs.Entry.{Outputs, outputs}
@@ -48,7 +49,7 @@ shaped c = shaping (ending c .before)
 shape-bvh-requires : tie.Need-shape-bvh-requires
 shape-bvh-requires c κs =
     let s = start c in
-    shape-room (mesh s) (before s) (trees s) (work s) (s .args .others) (s .pre .passed)
+    (shape-room (mesh s) (before s) (trees s) (work s) (s .args .others) (s .pre .passed), omega arith)
 
 finish-tree-requires : tie.Need-finish-tree-requires
 finish-tree-requires c κs =

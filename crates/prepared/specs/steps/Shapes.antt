@@ -7,7 +7,7 @@ use lib.Ieee.{Float}
 use lib.ListN.{length, take}
 use Rattle.base.specs.Lists.{over}
 use Rattle.bvh.specs.Build as B
-use Rattle.bvh.specs.Build.{nodesWritten, treesWritten, orderWritten}
+use Rattle.bvh.specs.Build.{nodesWritten, treesWrittenBy, orderWritten}
 use Rattle.bvh.specs.Entry.{Outputs}
 use Rattle.bvh.specs.declared.core.Build.{Build}
 use Rattle.bvh.specs.declared.core.Build.the-variants.{Built}
@@ -19,8 +19,9 @@ use Rattle.math.specs.declared.vec3.Vec3.{Vec3}
 use Rattle.meshes.specs.declared.Bound.{Bound}
 use Rattle.octants.specs.declared.lists.OctantCounts.{OctantCounts}
 use Rattle.octants.specs.Octants.{countsOf}
-use Rattle.rebuild.specs.Rebuilding.{leafLimit, treeAnswer}
+use Rattle.rebuild.specs.Rebuilding.{leafLimit, treeAnswerBy}
 use Rattle.reorder.specs.Reordering.{inOrder}
+use Rattle.rows.specs.Ranges.{rangeLimit}
 use Rattle.prepared.specs.Answers.{Hull, GeometryWork, BvhWork}
 use Rattle.prepared.specs.Rebuilt.{entriesOf8, orderOf8, polygonsOf8}
 use Rattle.prepared.specs.Shrunk.{shrunkBytes, shrunkFloats, shrunkOctant, octantsLeft}
@@ -80,11 +81,16 @@ pub record BvhRoom (p v : ℕ) (polygons numbers vertices out : List ℕ) (t : O
   pub for-centres : 4 * p ≤ length (w .centres)
 
 -- The tree is written, the polygons stand in its leaf order with their links, and the materials' numbers in the same order in `sorted`. Where the tree is
--- refused nothing is written, and nothing is said of `sorted`.
-pub record BvhShaped (b : Bound) (p v : ℕ) (polygons numbers vertices out₀ out : List ℕ) (t t′ : Outputs) (sorted : List ℕ) (r : Build) : Type 0 where
-  pub answer : r ≡ treeAnswer (entriesOf8 b p v polygons vertices)
+-- refused nothing is written, and nothing is said of `sorted`. No range has more than `limit` nodes.
+pub record BvhShapedBy (limit : ℕ) (b : Bound) (p v : ℕ) (polygons numbers vertices out₀ out : List ℕ) (t t′ : Outputs) (sorted : List ℕ) (r : Build)
+    : Type 0 where
+  pub answer : r ≡ treeAnswerBy limit (entriesOf8 b p v polygons vertices)
   pub records-are : out ≡ B.kept r (polygonsOf8 b p v polygons vertices) out₀
   pub nodes-are : t′ .nodes ≡ B.kept r (nodesWritten (entriesOf8 b p v polygons vertices) leafLimit) (t .nodes)
-  pub trees-are : t′ .trees ≡ B.kept r (treesWritten (entriesOf8 b p v polygons vertices) leafLimit) (t .trees)
+  pub trees-are : t′ .trees ≡ B.kept r (treesWrittenBy limit (entriesOf8 b p v polygons vertices) leafLimit) (t .trees)
   pub order-is : t′ .order ≡ B.kept r (orderWritten (entriesOf8 b p v polygons vertices) leafLimit) (t .order)
   pub numbers-are : (x : BuiltTree) → r ≡ Built x → take p sorted ≡ inOrder (orderOf8 b p v polygons vertices) numbers
+
+-- the same at the limit of a build
+abbrev pub BvhShaped : Bound → ℕ → ℕ → List ℕ → List ℕ → List ℕ → List ℕ → List ℕ → Outputs → Outputs → List ℕ → Build → Type 0
+BvhShaped b p v polygons numbers vertices out₀ out t t′ sorted r = BvhShapedBy rangeLimit b p v polygons numbers vertices out₀ out t t′ sorted r

@@ -2,7 +2,7 @@
 use borrow.Author.Needs.{needs}
 use Rattle.bvh.proofs.core.build_core.Statement.{statement}
 use Rattle.bvh.proofs.core.build_core.Tie as tie
-use Prim.Native.Nat.{_≤_}
+use Prim.Native.Nat.{_≤_, _<_}
 use mathlib.Core.Bool.{false}
 use mathlib.Core.Path.{_≡_, sym, _∙_}
 use lib.Seq.{length-take-le}
@@ -46,6 +46,9 @@ some c = c .before .before .before .if2 .left
 most : (c : tie.Else4) → start c .args .threshold ≤ 32767
 most c = c .before .before .if3 .left
 
+limited : (c : tie.Else4) → 0 < start c .args .limit
+limited c = start c .pre
+
 long : (c : tie.Else4) → short (start c .args .n) (lengthsOf (before c) (work c)) ≡ false
 long c = sym (c .before .too-short .ensures) ∙ c .if4 .left
 
@@ -53,13 +56,13 @@ room : (c : tie.Else4) → Enough (start c .args .n) (before c) (work c)
 room c = enough _ (before c) (work c) (long c)
 
 returns : tie.Need-returns
-returns c = too-many-entries _ _ _ _ _ (c .if1 .taken)
+returns c = too-many-entries _ _ _ _ _ _ (c .if1 .taken)
 
 returns-2 : tie.Need-returns-2
-returns-2 c = threshold-below _ _ _ _ _ (c .before .if1 .left) (c .if2 .taken)
+returns-2 c = threshold-below _ _ _ _ _ _ (c .before .if1 .left) (c .if2 .taken)
 
 returns-3 : tie.Need-returns-3
-returns-3 c = threshold-above _ _ _ _ _ (c .before .before .if1 .left) (c .before .if2 .left) (c .if3 .taken)
+returns-3 c = threshold-above _ _ _ _ _ _ (c .before .before .if1 .left) (c .before .if2 .left) (c .if3 .taken)
 
 too-short-requires : tie.Need-too-short-requires
 too-short-requires c κs = search needs
@@ -67,7 +70,7 @@ too-short-requires c κs = search needs
 returns-4 : tie.Need-returns-4
 returns-4 c =
     let short = sym (c .before .too-short .ensures) ∙ c .if4 .taken in
-    buffer-too-short _ _ _ _ _ (c .before .before .before .before .if1 .left) (c .before .before .before .if2 .left) (c .before .before .if3 .left) short
+    buffer-too-short _ _ _ _ _ _ (c .before .before .before .before .if1 .left) (c .before .before .before .if2 .left) (c .before .before .if3 .left) short
 
 mul-listed : tie.Need-mul-listed
 mul-listed c = search needs
@@ -78,7 +81,7 @@ slice-aggregate-listed c = sym (length-take-le _ _ (room (c .before) .entries-ro
 plant-requires : tie.Need-plant-requires
 plant-requires c κs =
     let p = c .before .before .before .before .before .before in
-    work-room _ _ (before p) (work p) (few p) (some p) (room p)
+    work-room _ _ _ (before p) (work p) (few p) (some p) (limited p) (room p)
 
 same-length : tie.Need-same-length
 same-length c = search needs
@@ -99,7 +102,7 @@ returns-5 : tie.Need-returns-5
 returns-5 c =
     let g = c .before .before .before .before .before .before .before .before .before .before .before .before in
     let p = checked g in
-    too-many-nodes _ _ _ _ _ (few p) (some p) (most p) (long p) (omega (arith, c .if5 .taken, g .plant .ensures .grown .size-is))
+    too-many-nodes _ _ _ _ _ _ (few p) (some p) (most p) (long p) (omega (arith, c .if5 .taken, g .plant .ensures .grown .size-is))
 
 write-tree-requires : tie.Need-write-tree-requires
 write-tree-requires c κs =
@@ -107,7 +110,7 @@ write-tree-requires c κs =
     let g = grown counted in
     let p = checked g in
     let k = g .plant .kept in
-    writable _ _ (before p) (work p) (few p) (some p) (room p) _ _ _ _ (g .plant .ensures) (counted .if5 .left)
+    writable _ _ _ (before p) (work p) (few p) (some p) (limited p) (room p) _ _ _ _ (g .plant .ensures) (counted .if5 .left)
     (k .1 .0) (k .1 .1 .0) (k .1 .1 .1 .1 .0)
 
 same-length-6 : tie.Need-same-length-6
@@ -149,7 +152,7 @@ returns-6 c =
     let w = c .before .before .before .before .before .before .before .before in
     let g = grown (counted w) in
     let p = checked g in
-    built _ _ _ _ _ (few p) (some p) (most p) (long p) (omega (arith, counted w .if5 .left, g .plant .ensures .grown .size-is)) _ _
+    built _ _ _ _ _ _ (few p) (some p) (most p) (long p) (omega (arith, counted w .if5 .left, g .plant .ensures .grown .size-is)) _ _
     (w .write-tree .ensures)
 
 pub build-core-spec : {M : Type 1} → statement M

@@ -2,6 +2,7 @@
 use borrow.Author.Needs.{needs}
 use Rattle.bvh.proofs.core.write_tree.Statement.{statement}
 use Rattle.bvh.proofs.core.write_tree.Tie as tie
+use native.Mathlib.Omega.{arith}
 use mathlib.Core.Path.{sym}
 use Rattle.bvh.proofs.core.Writing.{nodes-most, leaves-long, rows-fit, order-fits, scannable, written}
 
@@ -30,7 +31,9 @@ write-nodes-requires c κs =
     (rows-fit _ _ _ _ _ _ _ w, w .few, nodes-most _ _ _ _ _ _ _ w, w .nodes-room)
 
 put-trees-requires : tie.Need-put-trees-requires
-put-trees-requires c κs = scannable _ _ _ _ _ _ _ (start (scaled (c .before .before .before)) .pre)
+put-trees-requires c κs =
+    let w = start (scaled (c .before .before .before)) .pre in
+    scannable _ _ _ _ _ _ _ w _ (omega (arith, w .limit))
 
 slice-aggregate-write-order : tie.Need-slice-aggregate-write-order
 slice-aggregate-write-order c = sym (leaves-long _ _ _ _ _ _ _ (start (scaled (with-nodes (c .before .before .before .before))) .pre))

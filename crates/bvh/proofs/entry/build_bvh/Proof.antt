@@ -60,10 +60,11 @@ use denote.Triple.Table.{entered, cited}
 use denote.Triple.Walked.{says, Stays, walkOf, Walks, ends-at, walked, walk-meets}
 use Rattle.bvh.specs.declared.core.Build.{Build}
 use Rattle.bvh.specs.declared.items.BvhItem.{BvhItem}
-use Rattle.bvh.specs.Entry.{entriesIn, takenOf, outputs, lent, lengthsOf, Answered}
+use Rattle.bvh.specs.Entry.{entriesIn, takenOf, outputs, lent, lengthsOf, AnsweredBy}
 use Rattle.bvh.specs.Items.{absent, itemWords}
 use Rattle.bvh.proofs.ItemWords.{apart, length-apart, apart-next}
 use Rattle.bvh.proofs.EntryWords.{taken-fits, answers}
+use Rattle.rows.specs.Ranges.{rangeLimit}
 use Rattle.records.proofs.HandWalk.{all-passed, all-go}
 use Rattle.bvh.proofs.HandWalk.{Cell, packs, unpacks, room, full, cells, freed}
 use Rattle.bvh.proofs.core.Build as B
@@ -90,6 +91,9 @@ use Rattle.bvh.proofs.entry.build_bvh.Code.Mir as pieces
 
 abbrev stayed : Stays (f.ended .signature .params) (f.ended .kept)
 stayed = all-passed (f.ended .signature .params) (f.ended .kept)
+
+limit-some : 0 < rangeLimit
+limit-some = omega arith
 
 abbrev vals : BvhItem → List Val
 vals = LL.vals T.the-type T′.the-laws
@@ -270,15 +274,15 @@ module _ {M : Type 1} (𝓤 : URA M) (H : Heap 𝓤) (A : Atoms 𝓤) (W : Given
   qc = (fullShare, (qs .0, (qs .1 .0, (qs .1 .1 .0, q₅))))
 
   abbrev core-args : (ν : ℕ) → GName → List ℕ → Args core.signature (κc ν)
-  core-args ν δ l = (n, (th, (entries-at δ l, (nodes, (trees, (order, rest))))))
+  core-args ν δ l = (n, (th, (rangeLimit, (entries-at δ l, (nodes, (trees, (order, rest)))))))
 
   -- what `build_core` ensures over the entries l
   abbrev Said : (ν : ℕ) (δ : GName) (l : List ℕ) → Build → Lasts core.ended (κc ν) (core-args ν δ l) → Type 0
   Said ν δ l r us =
-      Answered (entriesIn n (take (7 * n) l)) th
+      AnsweredBy rangeLimit (entriesIn n (take (7 * n) l)) th
       (lengthsOf (outputs (nodes .now) (trees .now) (order .now))
       (lent l (rest .0 .now) (rest .1 .0 .now) (rest .1 .1 .0 .now) (rest .1 .1 .1 .0 .now) (rest .1 .1 .1 .1 .0 .now)))
-      r (outputs (nodes .now) (trees .now) (order .now)) (outputs (us .1 .1 .1 .0) (us .1 .1 .1 .1 .0) (us .1 .1 .1 .1 .1 .0))
+      r (outputs (nodes .now) (trees .now) (order .now)) (outputs (us .1 .1 .1 .1 .0) (us .1 .1 .1 .1 .1 .0) (us .1 .1 .1 .1 .1 .1 .0))
 
   exits : (ν : ℕ) (δ : GName) (l : List ℕ) (r : Build) (w : Val) (us : Lasts core.ended (κc ν) (core-args ν δ l)) → l ≡ held k
       → length l ≡ length (entries .now) → Said ν δ l r us
@@ -287,16 +291,16 @@ module _ {M : Type 1} (𝓤 : URA M) (H : Heap 𝓤) (A : Atoms 𝓤) (W : Given
   exits ν δ l r w us all same e =
       qed W (‵ (flft κ q) ∷ ‵ tkN ∷ ‵ tkT ∷ ‵ tkO ∷ ‵ tkE ∷ raw tks ∷ ‵ (lasts core.ended (κc ν) (core-args ν δ l) us) ∷ ‵ (finally u32 (entries .name) l)
       ∷ ‵ (B.the-row .own r (w ∷ [])) ∷ []) ∵ suffices ! _ (ends-at 𝓤 H A f.ended stayed (f.clauses 𝓤 H A mem run) W bound w r
-      (tt, (tt, (us .1 .1 .1 .0, (us .1 .1 .1 .1 .0, (us .1 .1 .1 .1 .1 .0, (l, us .1 .1 .1 .1 .1 .1))))))
+      (tt, (tt, (us .1 .1 .1 .1 .0, (us .1 .1 .1 .1 .1 .0, (us .1 .1 .1 .1 .1 .1 .0, (l, us .1 .1 .1 .1 .1 .1 .1))))))
       (tt, (tt, (tt, (tt, (tt, (tt, (tt, (tt, (tt, (tt, (tt, tt)))))))))))) $
-      says ! (answers (items .now) th (entries .now) (rest .0 .now) (rest .1 .0 .now) (rest .1 .1 .0 .now) (rest .1 .1 .1 .0 .now)
+      says ! (answers rangeLimit (items .now) th (entries .now) (rest .0 .now) (rest .1 .0 .now) (rest .1 .1 .0 .now) (rest .1 .1 .1 .0 .now)
       (rest .1 .1 .1 .1 .0 .now) r (outputs (nodes .now) (trees .now) (order .now))
-      (outputs (us .1 .1 .1 .0) (us .1 .1 .1 .1 .0) (us .1 .1 .1 .1 .1 .0)) (subst (λ (ws : List ℕ). Said ν δ ws r us) all e)) $
+      (outputs (us .1 .1 .1 .1 .0) (us .1 .1 .1 .1 .1 .0) (us .1 .1 .1 .1 .1 .1 .0)) (subst (λ (ws : List ℕ). Said ν δ ws r us) all e)) $
       move ! (6 ∷ []) $ fsplit ! $ move ! (1 ∷ []) $ fsplit ! $ move ! (1 ∷ []) $ fsplit ! $ move ! (1 ∷ []) $ fsplit ! $ move ! (1 ∷ []) $ fsplit ! $
-      move ! (1 ∷ []) $ fsplit ! $ feqI ! ℕ (length l) (length (entries .now)) same $ move ! (14 ∷ 0 ∷ []) $ fjoin ! $ move ! (0 ∷ 2 ∷ []) $ fjoin ! $
-      move ! (1 ∷ 0 ∷ []) $ fjoin ! $ move ! (1 ∷ 0 ∷ []) $ fjoin ! $ move ! (1 ∷ 0 ∷ []) $ fjoin ! $ move ! (1 ∷ 0 ∷ []) $ fjoin ! $ move ! (1 ∷ 0 ∷ []) $
-      fjoin ! $ move ! (1 ∷ []) $ let-go ! $ move ! (5 ∷ 6 ∷ []) $ join ! $ move ! (5 ∷ 0 ∷ []) $ join ! $ move ! (4 ∷ 0 ∷ []) $ join ! $
-      move ! (3 ∷ 0 ∷ []) $ join ! $ move ! (2 ∷ 0 ∷ []) $ join ! $ done !
+      move ! (1 ∷ []) $ fsplit ! $ move ! (1 ∷ []) $ fsplit ! $ feqI ! ℕ (length l) (length (entries .now)) same $ move ! (15 ∷ 0 ∷ []) $ fjoin ! $
+      move ! (0 ∷ 2 ∷ []) $ fjoin ! $ move ! (1 ∷ 0 ∷ []) $ fjoin ! $ move ! (1 ∷ 0 ∷ []) $ fjoin ! $ move ! (1 ∷ 0 ∷ []) $ fjoin ! $
+      move ! (1 ∷ 0 ∷ []) $ fjoin ! $ move ! (1 ∷ 0 ∷ []) $ fjoin ! $ move ! (1 ∷ []) $ let-go ! $ move ! (1 ∷ []) $ let-go ! $ move ! (5 ∷ 6 ∷ []) $
+      join ! $ move ! (5 ∷ 0 ∷ []) $ join ! $ move ! (4 ∷ 0 ∷ []) $ join ! $ move ! (3 ∷ 0 ∷ []) $ join ! $ move ! (2 ∷ 0 ∷ []) $ join ! $ done !
 
   -- ---- the call of `taken`
   abbrev to-taken : Taken 𝓤 H A mem run .Ghost
@@ -339,7 +343,10 @@ module _ {M : Type 1} (𝓤 : URA M) (H : Heap 𝓤) (A : Atoms 𝓤) (W : Given
       qc,
       tt,
       core-args ν δ l,
-      (vint w64 n ∷ [], (vint w32 th ∷ [], (slice-vals entries, (slice-vals nodes, (slice-vals trees, (slice-vals order, five-vals)))))),
+      (
+        vint w64 n ∷ [],
+        (vint w32 th ∷ [], (vint w64 rangeLimit ∷ [], (slice-vals entries, (slice-vals nodes, (slice-vals trees, (slice-vals order, five-vals)))))),
+      ),
     ),
     tt,
   )
@@ -350,10 +357,11 @@ module _ {M : Type 1} (𝓤 : URA M) (H : Heap 𝓤) (A : Atoms 𝓤) (W : Given
   goes-core ν δ l same =
       qed W
       (‵ (flft (ν ∷ []) fullShare) ∷ ‵ tkN ∷ ‵ tkT ∷ ‵ tkO ∷ raw tks ∷ ‵ Th ∷ ‵ (Shared ν δ l) ∷ ‵ Nodes ∷ ‵ Trees ∷ ‵ Order ∷ ‵ Rest ∷ []) ∵
-      move ! (9 ∷ 10 ∷ []) $ fjoin ! $ move ! (9 ∷ 0 ∷ []) $ fjoin ! $ move ! (8 ∷ 0 ∷ []) $ fjoin ! $ move ! (7 ∷ []) $ fsplit ! $
+      says ! limit-some $ move ! (9 ∷ 10 ∷ []) $ fjoin ! $ move ! (9 ∷ 0 ∷ []) $ fjoin ! $ move ! (8 ∷ 0 ∷ []) $ fjoin ! $ move ! (7 ∷ []) $ fsplit ! $
       feqI ! (List Val) (slice-vals entries) (slice-vals (entries-at δ l)) (ap (λ (m : ℕ). ev m ∷ []) (sym same)) $ fjoin ! $ fjoin ! $ fjoin ! $
-      move ! (6 ∷ 0 ∷ []) $ fjoin ! $ owned ! usize (Is usize) (uint-makes 𝓤 H A W w64) n _ (refl, yr .0) $ fjoin ! $ move ! (4 ∷ 5 ∷ []) $ join ! $
-      move ! (4 ∷ 0 ∷ []) $ join ! $ move ! (3 ∷ 0 ∷ []) $ join ! $ move ! (2 ∷ 0 ∷ []) $ join ! $ join ! $ nothing ! $ move ! (1 ∷ []) $ done !
+      owned ! usize (Is usize) (uint-makes 𝓤 H A W w64) rangeLimit _ (refl, lit< tt) $ fjoin ! $ move ! (6 ∷ 0 ∷ []) $ fjoin ! $
+      owned ! usize (Is usize) (uint-makes 𝓤 H A W w64) n _ (refl, yr .0) $ fjoin ! $ move ! (4 ∷ 5 ∷ []) $ join ! $
+      move ! (4 ∷ 0 ∷ []) $ join ! $ move ! (3 ∷ 0 ∷ []) $ join ! $ move ! (2 ∷ 0 ∷ []) $ join ! $ join ! $ done !
 
   -- ---- the loop
   abbrev Upto : Type 0
@@ -457,12 +465,12 @@ module _ {M : Type 1} (𝓤 : URA M) (H : Heap 𝓤) (A : Atoms 𝓤) (W : Given
           move ! (2 ∷ 87 ∷ 88 ∷ 89 ∷ 90 ∷ 91 ∷ 0 ∷ 92 ∷ 93 ∷ 94 ∷ 95 ∷ []) $ group ! 11 $
           use1 W (raw (Core 𝓤 H A mem run .pre (to-core ν δ l))) (goes-core ν δ l same) $
           calls-at ! fm (Core 𝓤 H A mem run) known-core (to-core ν δ l)
-          (and-then ! (load ! (from ! (stop !)) (look ! 64 refl)) (and-then ! (load ! (from ! (stop !)) (look ! 82 refl))
+          (and-then ! (load ! (from ! (stop !)) (look ! 64 refl)) (and-then ! (load ! (from ! (stop !)) (look ! 82 refl)) (and-then ! (lit ! tt)
           (and-then ! (load ! (from ! (stop !)) (look ! 58 refl)) (and-then ! (load ! (from ! (stop !)) (look ! 54 refl))
           (and-then ! (load ! (from ! (stop !)) (look ! 50 refl)) (and-then ! (load ! (from ! (stop !)) (look ! 46 refl))
           (and-then ! (load ! (from ! (stop !)) (look ! 42 refl)) (and-then ! (load ! (from ! (stop !)) (look ! 38 refl))
           (and-then ! (load ! (from ! (stop !)) (look ! 34 refl)) (and-then ! (load ! (from ! (stop !)) (look ! 30 refl))
-          (and-then ! (load ! (from ! (stop !)) (look ! 26 refl)) (no-more !)))))))))))) (λ w. use1 W
+          (and-then ! (load ! (from ! (stop !)) (look ! 26 refl)) (no-more !))))))))))))) (λ w. use1 W
           (later (some (λ (r : Build). ((‵ (flft (ν ∷ []) fullShare) ⊛ ‵ tkN ⊛ ‵ tkT ⊛ ‵ tkO ⊛ raw tks) ⊛ ‵ (B.the-row .own r (w ∷ []))) ⊛ raw
           (ensured 𝓤 H A core.ended (core.clauses 𝓤 H A mem run) (κc ν) (core-args ν δ l) tt r)))) (id⊢ 𝓤 _) $ await ! tt $ pick ! (λ r. split ! $
           move ! (1 ∷ []) $ use1 W (some (λ (us : Lasts core.ended (κc ν) (core-args ν δ l)). ‵ (lasts core.ended (κc ν) (core-args ν δ l) us) ⊛ raw

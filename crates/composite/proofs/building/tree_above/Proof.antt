@@ -5,16 +5,16 @@ use Rattle.composite.proofs.building.tree_above.Tie as tie
 use Rattle.composite.proofs.TreeLaws.{fits, none, too-many, too-short, by-build, over-items}
 
 returns : tie.Need-returns
-returns c = none _ _ _ _ _ (c .if1 .taken)
+returns c = none _ _ _ _ _ _ (c .if1 .taken)
 
 returns-2 : tie.Need-returns-2
-returns-2 c = too-many _ _ _ _ _ (c .before .if1 .left) (c .if2 .taken)
+returns-2 c = too-many _ _ _ _ _ _ (c .before .if1 .left) (c .if2 .taken)
 
 mul-if3 : tie.Need-mul-if3
 mul-if3 c = search needs
 
 returns-3 : tie.Need-returns-3
-returns-3 c = too-short _ _ _ _ _ (c .before .before .if1 .left) (c .before .if2 .left) (c .if3 .taken)
+returns-3 c = too-short _ _ _ _ _ _ (c .before .before .if1 .left) (c .before .if2 .left) (c .if3 .taken)
 
 taken-requires : tie.Need-taken-requires
 taken-requires c κs = search needs
@@ -64,8 +64,8 @@ returns-4 c =
     let at-if1 = at-if2 .before in
     let at-start = at-if1 .before .before .before .before .before .before .before .before .before .before .before in
     let a = at-start .args in
-    by-build _ _ _ _ _ _ _ (at-if1 .if1 .left) (at-if2 .if2 .left) (at-if3 .if3 .left)
-    (over-items _ _ (a .entries .now) _ (a .places .now) (a .temp .now) (a .stack .now) (a .rows .now) (a .centres .now) _ _ _ _
+    by-build _ _ _ _ _ _ _ _ (at-if1 .if1 .left) (at-if2 .if2 .left) (at-if3 .if3 .left)
+    (over-items _ _ _ (a .entries .now) _ (a .places .now) (a .temp .now) (a .stack .now) (a .rows .now) (a .centres .now) _ _ _ _
     (at-put-items .put-items .ensures) (at-taken .taken .ensures) (at-build-core .build-core .ensures))
 
 pub tree-above-spec : {M : Type 1} → statement M

@@ -18,7 +18,7 @@ start c = c .before .before .before .before .before .before .before .before .bef
 -- the outputs as the build leaves them
 abbrev written : tie.After-build-core → Outputs
 written c =
-    let last = c .build-core .last .1 .1 .1 in
+    let last = c .build-core .last .1 .1 .1 .1 in
     outputs (last .0) (last .1 .0) (last .1 .1 .0)
 
 -- What the build leaves, of which each later need knows.

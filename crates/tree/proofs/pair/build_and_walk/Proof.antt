@@ -60,28 +60,28 @@ returns c =
     unpaired _ _ _ _ _ _ _ _ _ (build (told .before .before) .build-core .ensures) (told .built .given .1)
 
 same-length-9 : tie.Need-same-length-9
-same-length-9 c = build (answer (known c)) .build-core .kept .1 .1 .1 .0
+same-length-9 c = build (answer (known c)) .build-core .kept .1 .1 .1 .1 .0
 
 same-length-10 : tie.Need-same-length-10
-same-length-10 c = build (answer (known c)) .build-core .kept .1 .1 .1 .1 .0
+same-length-10 c = build (answer (known c)) .build-core .kept .1 .1 .1 .1 .1 .0
 
 same-length-11 : tie.Need-same-length-11
-same-length-11 c = build (answer (known c)) .build-core .kept .1 .1 .1 .1 .1 .0
+same-length-11 c = build (answer (known c)) .build-core .kept .1 .1 .1 .1 .1 .1 .0
 
 same-length-12 : tie.Need-same-length-12
-same-length-12 c = build (answer (known c)) .build-core .kept .1 .1 .1 .1 .1 .1 .0
+same-length-12 c = build (answer (known c)) .build-core .kept .1 .1 .1 .1 .1 .1 .1 .0
 
 same-length-13 : tie.Need-same-length-13
-same-length-13 c = build (answer (known c)) .build-core .kept .1 .1 .1 .1 .1 .1 .1 .0
+same-length-13 c = build (answer (known c)) .build-core .kept .1 .1 .1 .1 .1 .1 .1 .1 .0
 
 same-length-14 : tie.Need-same-length-14
-same-length-14 c = build (answer (known c)) .build-core .kept .1 .1 .1 .1 .1 .1 .1 .1 .0
+same-length-14 c = build (answer (known c)) .build-core .kept .1 .1 .1 .1 .1 .1 .1 .1 .1 .0
 
 same-length-15 : tie.Need-same-length-15
-same-length-15 c = build (answer (known c)) .build-core .kept .1 .1 .1 .1 .1 .1 .1 .1 .1 .0
+same-length-15 c = build (answer (known c)) .build-core .kept .1 .1 .1 .1 .1 .1 .1 .1 .1 .1 .0
 
 same-length-16 : tie.Need-same-length-16
-same-length-16 c = build (answer (known c)) .build-core .kept .1 .1 .1 .1 .1 .1 .1 .1 .1 .1 .0
+same-length-16 c = build (answer (known c)) .build-core .kept .1 .1 .1 .1 .1 .1 .1 .1 .1 .1 .1 .0
 
 same-length-17 : tie.Need-same-length-17
 same-length-17 c = search needs
