@@ -1,7 +1,8 @@
 //! Whether a prepared mesh's bytes are what its input gives.
 
-use super::{MeshField, MeshFolder};
+use super::MeshFolder;
 use crate::failure::Failure;
+use crate::field::mesh::MeshField;
 use crate::number::counted;
 use std::collections::HashSet;
 
@@ -21,9 +22,10 @@ pub fn account(folder: &MeshFolder) -> Result<MeshAccount, Failure> {
 
 /// The fields that two prepared meshes do not share, or have different values in. Addresses are given, and may be any.
 pub fn differing(a: &MeshFolder, b: &MeshFolder) -> Vec<MeshField> {
-    let mut fields = MeshField::all(&a.parts);
-    fields.extend(MeshField::all(&b.parts).into_iter().filter(|field| field.raw(&a.parts).is_none()));
-    fields.retain(|field| !field.is_given() && !field.same(&a.parts, &b.parts));
+    let (a, b) = (&a.derived(), &b.derived());
+    let mut fields = MeshField::all(a);
+    fields.extend(MeshField::all(b).into_iter().filter(|field| field.raw(a).is_none()));
+    fields.retain(|field| !field.is_given() && !field.same(a, b));
     fields
 }
 
@@ -37,7 +39,8 @@ impl MeshAccount {
     pub fn warning(&self, folder: &MeshFolder) -> Option<String> {
         const SHOWN: usize = 8;
         let n = self.differing.len();
-        let shown: Vec<String> = self.differing.iter().take(SHOWN).map(|field| self.difference(folder, *field)).collect();
+        let shown: Vec<String> =
+            self.differing.iter().take(SHOWN).map(|field| self.difference(folder, *field)).collect();
         let more = if n > SHOWN { format!("; and {} more", n - SHOWN) } else { String::new() };
         (n > 0).then(|| {
             let fields = counted(n, "field");
@@ -47,7 +50,8 @@ impl MeshAccount {
 
     /// `polygon 3 link 1 is 5, the input gives 4`.
     pub fn difference(&self, folder: &MeshFolder, field: MeshField) -> String {
-        let show = |of: &MeshFolder| field.value(&of.parts).map_or("not there".to_string(), |value| value.to_string());
+        let show =
+            |of: &MeshFolder| field.value(&of.derived()).map_or("not there".to_string(), |value| value.to_string());
         format!("{field} is {}, the input gives {}", show(folder), show(&self.rebuilt))
     }
 }

@@ -6,16 +6,14 @@ use bounds::bvh::BuiltTree;
 use bounds::prepare::{PreparedTree, Quantised};
 use bounds::{tree_header, BoundMaterial, BoundVertex, Geometry, Octants, Prepared, Refusal, Vec3};
 
-/// Where the tree's header and the octants are thought to lie; what belongs to them lies behind.
+/// Where the tree's header is thought to lie; its records lie behind it.
 const HEADER_BASE: u64 = 0x5000_0000;
-const OCTANTS_BASE: u64 = 0x5800_0000;
 
 /// Bytes of quantum, box_min, box_max, box_center, sphere_center and sphere_radius, one behind the other.
 pub const FRAME: usize = 64;
 
-/// Bytes of the octants before their lists, and behind these.
-pub const OCTANTS_HEAD: usize = 96;
-pub const OCTANTS_TAIL: usize = 32;
+/// Bytes of the octants before their lists: eight counts.
+pub const COUNTS: usize = 32;
 
 /// The bytes of a prepared mesh.
 #[derive(Clone, Debug, PartialEq)]
@@ -39,7 +37,7 @@ pub struct Parts {
     /// Kind 4 with vertices: the same of the shrunk ones; else empty.
     pub shrunk: Vec<u8>,
     pub shrunk_floats: Vec<u8>,
-    /// Kind 4: counts, pointers, lists; else empty.
+    /// Kind 4: eight counts, then the lists one behind the other, four bytes each; else empty.
     pub octants: Vec<u8>,
     /// Kind 8 with polygons.
     pub tree: Option<Records>,
@@ -65,12 +63,12 @@ impl Parts {
             floats: point_bytes(&prepared.vertices.floats),
             shrunk: shrunk.map_or(Vec::new(), |vertices| stored_bytes(&vertices.stored)),
             shrunk_floats: shrunk.map_or(Vec::new(), |vertices| point_bytes(&vertices.floats)),
-            octants: prepared.octants.as_ref().map_or(Ok(Vec::new()), |octants| octants.write(OCTANTS_BASE))?,
+            octants: prepared.octants.as_ref().map_or(Vec::new(), octant_bytes),
             tree: prepared.bvh.as_ref().map(records).transpose()?,
         })
     }
 
-    /// The values that they stand for. Octants whose bytes lead nowhere have empty lists.
+    /// The values that they stand for.
     pub fn prepared(&self) -> Prepared {
         let at = |k: usize| floats3(&self.frame, 12 * k);
         let (plain, v) = (self.kind == Geometry::PLAIN, self.vertices_count);
@@ -109,7 +107,7 @@ impl Parts {
 
     /// The byte at which octant list k begins, by the counts before it.
     pub fn octant_start(&self, k: usize) -> usize {
-        OCTANTS_HEAD + 4 * (0..k).map(|before| self.octant_count(before)).sum::<usize>()
+        COUNTS + 4 * (0..k).map(|before| self.octant_count(before)).sum::<usize>()
     }
 
     fn octant(&self, k: usize) -> Vec<u32> {
@@ -121,18 +119,22 @@ impl Parts {
     /// Whether the counts are those of as many bytes as there are.
     pub fn check_octants(&self, path: &str) -> Result<(), Failure> {
         let n = self.octants.len();
-        let least = OCTANTS_HEAD + OCTANTS_TAIL;
-        if n < least {
-            return Err(Failure::File(format!("{path}: {n} bytes; expected at least {least}: counts and pointers")));
+        if n < COUNTS {
+            return Err(Failure::File(format!("{path}: {n} bytes; expected {COUNTS} at least: eight counts")));
         }
         let all: u64 = (0..8).map(|k| self.octant_count(k) as u64).sum();
-        let expected = least as u64 + 4 * all;
+        let expected = COUNTS as u64 + 4 * all;
         if n as u64 != expected {
             let words = format!("{path}: {n} bytes; expected {expected}: {all} indices by the counts in bytes 0-31");
             return Err(Failure::File(words));
         }
         Ok(())
     }
+}
+
+fn octant_bytes(octants: &Octants) -> Vec<u8> {
+    let counts = octants.items.iter().map(|list| list.len() as u32);
+    counts.chain(octants.items.iter().flatten().copied()).flat_map(u32::to_le_bytes).collect()
 }
 
 /// The records of a tree over polygons, with a header.

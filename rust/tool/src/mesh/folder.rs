@@ -15,7 +15,7 @@
 //! vertices.bin       6 bytes a vertex
 //! floats.bin         12 bytes a vertex: what these stand for
 //! shrunk.bin, shrunk_floats.bin                      kind 4 with vertices: the same of the shrunk ones
-//! octants.bin        kind 4: eight counts, eight pointers, the lists, 32 zeros
+//! octants.bin        kind 4: eight counts, then the eight lists one behind the other, four bytes each
 //! header.bin, nodes.bin, trees.bin, order.bin        kind 8 with polygons: as of boxes
 //! listing.txt        all of it as text, a line a record
 //! ```
@@ -28,6 +28,7 @@ use super::{items, text, Given, Mesh};
 use crate::boxes::{self, read_file, Boxes};
 use crate::dump::{exactly, manifest, tree_files, tree_records, Dump, Kind};
 use crate::failure::Failure;
+use crate::field::mesh::Derived;
 use crate::number::counted;
 use crate::output::write_folder;
 use bounds::{Geometry, Prepared};
@@ -83,12 +84,18 @@ impl MeshFolder {
         self.mesh.as_ref().map(|mesh| &mesh.geometry)
     }
 
+    /// What was derived, as its fields are read.
+    pub fn derived(&self) -> Derived<'_> {
+        Derived { prepared: &self.prepared, tree: self.parts.tree.as_ref() }
+    }
+
     /// The tree over its polygons as a dump of boxes: list places are those of the given polygons, positions those of the
     /// prepared ones. None for kind 4 and where there is no polygon.
     pub fn tree(&self) -> Result<Option<Dump>, Failure> {
         let Some(records) = &self.parts.tree else { return Ok(None) };
         let boxes = |mesh: &Mesh| -> Result<Boxes, Failure> {
-            let origin = boxes::Origin::Polygons { file: mesh.origin.file.clone(), lines: mesh.origin.polygons.clone() };
+            let origin =
+                boxes::Origin::Polygons { file: mesh.origin.file.clone(), lines: mesh.origin.polygons.clone() };
             Ok(Boxes { items: items(&mesh.geometry)?, origin })
         };
         Ok(Some(Dump {
@@ -178,7 +185,8 @@ impl MeshFolder {
         if found == said {
             return Ok(());
         }
-        let words = |(kind, p, v): (u8, usize, usize)| format!("kind {kind}, {}, {}", counted(p, "polygon"), vertices(v));
+        let words =
+            |(kind, p, v): (u8, usize, usize)| format!("kind {kind}, {}, {}", counted(p, "polygon"), vertices(v));
         let words = format!("{path}: {}, but mesh.txt has {}; expected one mesh", words(said), words(found));
         Err(Failure::File(words))
     }
@@ -200,9 +208,7 @@ struct First {
 fn first_file(parts: &Parts) -> String {
     let &Parts { kind, polygons_count, vertices_count, materials_count, .. } = parts;
     let head = format!("{}\nkind {}\n", crate::dump::FIRST_LINE, Kind::Mesh.name());
-    head + &format!(
-        "bound {kind}\npolygons {polygons_count}\nvertices {vertices_count}\nmaterials {materials_count}\n"
-    )
+    head + &format!("bound {kind}\npolygons {polygons_count}\nvertices {vertices_count}\nmaterials {materials_count}\n")
 }
 
 fn first_lines(path: &str) -> Result<First, Failure> {

@@ -3,7 +3,6 @@
 mod account;
 mod bytes;
 mod computed;
-pub mod field;
 mod folder;
 mod listing;
 mod obj;
@@ -13,7 +12,6 @@ pub mod text;
 
 pub use account::{account, differing, MeshAccount};
 pub use bytes::Parts;
-pub use field::MeshField;
 pub use folder::MeshFolder;
 pub use origin::{Of, Origin};
 
@@ -69,7 +67,8 @@ impl Mesh {
 
 /// Whether a file holds a mesh, and how it is written: by its name, or by the first word that it says.
 pub fn form(path: &str, bytes: &[u8]) -> Option<Form> {
-    let first = bytes.split(|&b| b == b'\n').map(|line| line.trim_ascii()).find(|line| !line.is_empty() && line[0] != b'#');
+    let first =
+        bytes.split(|&b| b == b'\n').map(|line| line.trim_ascii()).find(|line| !line.is_empty() && line[0] != b'#');
     let word = |line: &[u8]| line.split(u8::is_ascii_whitespace).next().map(<[u8]>::to_vec).unwrap_or_default();
     match first {
         Some(line) if line.starts_with(text::FIRST_LINE.as_bytes()) => Some(Form::Text),

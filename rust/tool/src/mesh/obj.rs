@@ -11,7 +11,20 @@ use bounds::{BoundMaterial, Geometry, Polygon, Vec3};
 
 /// Words that say nothing of polygons.
 const PASSED: [&str; 14] = [
-    "vt", "vn", "vp", "s", "l", "p", "mtllib", "lod", "bevel", "c_interp", "d_interp", "shadow_obj", "trace_obj", "maplib",
+    "vt",
+    "vn",
+    "vp",
+    "s",
+    "l",
+    "p",
+    "mtllib",
+    "lod",
+    "bevel",
+    "c_interp",
+    "d_interp",
+    "shadow_obj",
+    "trace_obj",
+    "maplib",
 ];
 
 const EXPECTED: &str = "v, f, o, g, usemtl, or one of those that are passed over (vt, vn, s, mtllib, ..)";
@@ -156,8 +169,7 @@ fn corner(word: &str, vertices: usize) -> Result<usize, String> {
     match number {
         1.. => usize::try_from(number - 1).map_err(|_| wrong()),
         0 => Err(wrong()),
-        _ => usize::try_from(number + vertices as i64).map_err(|_| {
-            format!("corner '{}' counts back past the {vertices} vertices before it", shown(word))
-        }),
+        _ => usize::try_from(number + vertices as i64)
+            .map_err(|_| format!("corner '{}' counts back past the {vertices} vertices before it", shown(word))),
     }
 }

@@ -61,7 +61,8 @@ impl Said<'_> {
 
 /// A float, by the same forms as a box's.
 pub fn float(word: &str) -> Result<f32, String> {
-    number(word).map_err(|_| format!("'{}' is no number: expected a decimal, inf, nan or 0x and eight digits", shown(word)))
+    number(word)
+        .map_err(|_| format!("'{}' is no number: expected a decimal, inf, nan or 0x and eight digits", shown(word)))
 }
 
 /// A whole number from `least` to `most`.

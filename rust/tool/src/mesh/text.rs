@@ -34,7 +34,8 @@ use bounds::{BoundMaterial, Geometry, Mat4, Polygon, Vec3};
 /// The first line.
 pub const FIRST_LINE: &str = "bounds mesh 1";
 
-const EXPECTED: &str = "kind, margin, center_geom, transform, box_min, box_max, box_center, sphere_center, sphere_radius, \
+const EXPECTED: &str =
+    "kind, margin, center_geom, transform, box_min, box_max, box_center, sphere_center, sphere_radius, \
                         material, vertex, triangle, sphere, capsule, box or cylinder";
 
 /// The mesh of a text.
@@ -46,7 +47,11 @@ pub fn mesh(path: &str, bytes: &[u8]) -> Result<Mesh, Failure> {
             let words = format!("'{}'; expected `{FIRST_LINE}`, or an .obj with its v and f", shown(&said(first)));
             return Err(wrong(path, first.line, words));
         }
-        None => return Err(Failure::File(format!("{path}: is empty; expected `{FIRST_LINE}`, or an .obj with its v and f"))),
+        None => {
+            return Err(Failure::File(format!(
+                "{path}: is empty; expected `{FIRST_LINE}`, or an .obj with its v and f"
+            )))
+        }
     };
     let mut geometry = Geometry::new(Geometry::BVH);
     geometry.margin = MARGIN;
@@ -117,7 +122,12 @@ fn polygon(line: &Said) -> Result<Polygon, String> {
     let vertex = |word: &str| whole(word, "vertex", 0, 65_535).map(|n| n as u16);
     let corner = |word: &str| whole(word, "vertex", -32_768, 65_535).map(|n| n as i16);
     let triangle = |m: &str, v: [&str; 3], area: f32| {
-        Ok(Polygon::Triangle { material: material(m)?, area, v: [vertex(v[0])?, vertex(v[1])?, vertex(v[2])?], edges: [-1; 3] })
+        Ok(Polygon::Triangle {
+            material: material(m)?,
+            area,
+            v: [vertex(v[0])?, vertex(v[1])?, vertex(v[2])?],
+            edges: [-1; 3],
+        })
     };
     match (line.word, &line.rest[..]) {
         ("triangle", &[m, a, b, c]) => triangle(m, [a, b, c], 0.0),
