@@ -8,12 +8,15 @@ mod listing;
 mod obj;
 mod origin;
 mod parse;
+mod place;
+pub mod state;
 pub mod text;
 
 pub use account::{account, differing, MeshAccount};
 pub use bytes::Parts;
-pub use folder::MeshFolder;
+pub use folder::{vertices, MeshFolder};
 pub use origin::{Of, Origin};
+pub use place::place_of;
 
 use crate::boxes::read_file;
 use crate::failure::Failure;
