@@ -34,8 +34,9 @@ they are; 1 where not, with the first value that breaks them, and how many do. S
 records were cut to 16 bits and are other numbers now: those stand for other places.
 
 Of a MESH whether it can be prepared, and the same of its polygons' boxes, over which kind 8 has its tree; the first value is
-told with its polygon, its vertex and their lines. Says also how many vertices lie outside the box and are cut to it, and how
-many polygons name a vertex or a material that is not there. What preparing refuses is refused here.
+told with its polygon, its vertex and their lines. Says also how many vertices are further from the centre than half the box
+and are stored cut to that, and how many polygons name a vertex or a material that is not there. What preparing refuses is
+refused here.
 
 examples
   bounds check terrain.obj && bounds prepare terrain.obj --out terrain

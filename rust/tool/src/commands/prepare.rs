@@ -88,7 +88,8 @@ fn summary(folder: &MeshFolder) -> Result<String, Failure> {
     let (linked, edges) = links(&made.polygons);
     text += &format!("links     {linked} of {edges} edges have a neighbour\n");
     let cut = cut_vertices(&mesh.geometry, &made.vertices.floats, made.quantum);
-    text += &format!("vertices  {cut} of {} outside the box and cut to it\n", parts.vertices_count);
+    let half = "further from center_geom than half the box, and cut to that";
+    text += &format!("vertices  {cut} of {} {half}\n", parts.vertices_count);
     if let Some(octants) = &made.octants {
         text += &shrunk(made.vertices_shrunk.as_ref(), &made.vertices);
         let counts: Vec<usize> = octants.items.iter().map(Vec::len).collect();
@@ -124,11 +125,11 @@ fn premises_words(folder: &MeshFolder) -> Result<String, Failure> {
     })
 }
 
-/// `3 used of 3 given: 1 grass, 2 rock, 3 sand`.
+/// `3 used of 3 given: grass, sand, rock`.
 fn materials(folder: &MeshFolder, mesh: &Mesh) -> String {
     let (used, given) = (folder.parts.materials_count, mesh.geometry.materials.len());
-    let named: Vec<String> = mesh.names.iter().enumerate().map(|(k, name)| format!("{} {name}", k + 1)).collect();
-    let names = if named.is_empty() { String::new() } else { format!(": {}", some(&named).replace(',', ", ")) };
+    let names: Vec<&str> = mesh.names.iter().map(String::as_str).filter(|name| !name.is_empty()).collect();
+    let names = if names.is_empty() { String::new() } else { format!(": {}", some(&names).replace(',', ", ")) };
     format!("{used} used of {given} given{names}")
 }
 

@@ -5,8 +5,8 @@ use crate::failure::Failure;
 use bounds::premises::{ordinary, Broken};
 use bounds::{BvhItem, Geometry, Polygon, Vec3};
 
-/// Stored vertices that lie outside the box that their quantum is made for, and were cut to it: more than a unit from where
-/// they were, or nowhere.
+/// Vertices that are further from the centre than half the box, for which the quantum is made, and were stored cut to that: now
+/// more than a unit from where they were, or nowhere.
 pub fn cut_vertices(geometry: &Geometry, stored: &[Vec3], quantum: Vec3) -> usize {
     let far = |a: f32, b: f32, unit: f32| {
         let near = (a as f64 - b as f64).abs() <= 1.001 * unit as f64 + 1e-6 * (a as f64).abs();

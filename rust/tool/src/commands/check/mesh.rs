@@ -100,7 +100,8 @@ impl Checked {
         if self.tree {
             text += &format!("node values cut to 16 bits: {} of {} ({F7}, {F8})\n", self.cut.0, self.cut.1);
         }
-        text += &format!("vertices cut to the box: {} of {} ({Q2}, {F9})\n", self.cut_vertices, self.vertices);
+        let cut = "vertices further from center_geom than half the box, and cut to that";
+        text += &format!("{cut}: {} of {} ({Q2}, {F9})\n", self.cut_vertices, self.vertices);
         text += &format!("polygons with a vertex that is not there: {} ({G8})\n", self.open);
         text + &format!("polygons with a material that is not there: {} ({M1})\n", self.plain)
     }

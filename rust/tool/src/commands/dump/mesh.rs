@@ -6,7 +6,7 @@ use crate::failure::Failure;
 use crate::field::mesh::MeshField;
 use crate::field::Value;
 use crate::json::Json;
-use crate::mesh::{account, place_of, vertices, MeshFolder};
+use crate::mesh::{account, place_of, rules_of, vertices, MeshFolder};
 use crate::number::{bytes, counted, float, place};
 use crate::rules;
 
@@ -56,7 +56,7 @@ fn row(folder: &MeshFolder, field: MeshField) -> String {
     let at = place_of(field, &derived).map_or(String::new(), |at| format!("{}-{}", at.start, at.end - 1));
     let value = field.value(&derived).map_or(String::new(), |value| value.to_string());
     let meaning = meaning(folder, field).unwrap_or_default();
-    let rules = rules::list(field.rules(&derived));
+    let rules = rules::list(&rules_of(field, &derived));
     let (part, name) = (field.part(), field.name());
     format!("{part:<18} {at:>9}  {name:<14} {value:<26} {meaning:>12}  {rules}\n")
 }
@@ -69,6 +69,6 @@ fn field_json(folder: &MeshFolder, field: MeshField) -> Json {
         ("bytes", field.raw(&derived).map(|raw| bytes(&raw)).into()),
         ("value", field.value(&derived).map(|value| value.to_string()).into()),
         ("stands_for", meaning(folder, field).into()),
-        ("rules", Json::list(field.rules(&derived).iter().map(|rule| rule.name()))),
+        ("rules", Json::list(rules_of(field, &derived).iter().map(|rule| rule.name()))),
     ])
 }
