@@ -2,9 +2,9 @@
 
 use crate::account::{account, traced, Account};
 use crate::cli::{corner, Answer, Command, Line};
-use crate::dump::Dump;
+use crate::dump::{Dump, Opened};
 use crate::explain::query::Asked;
-use crate::explain::{Explainer, Explanation};
+use crate::explain::{mesh, Explainer, Explanation};
 use crate::failure::Failure;
 use crate::field::Field;
 use crate::json::Json;
@@ -13,7 +13,7 @@ pub fn command() -> Command {
     Command {
         name: "explain",
         does: "tells the chain of rules from the input's bytes to a field, or why an item is handed out",
-        options: &["--threshold", "--text", "--records"],
+        options: &["--threshold", "--text", "--records", "--kind", "--margin"],
         words: (3, 6),
         run,
         help: HELP,
@@ -36,7 +36,10 @@ examples
 ";
 
 fn run(line: &Line) -> Result<Answer, Failure> {
-    let dump = Dump::load(&line.words[0], line.loading()?)?;
+    let dump = match Opened::load(&line.words[0], line.loading()?)? {
+        Opened::Boxes(dump) => dump,
+        Opened::Mesh(folder) => return mesh::answer(&folder, &line.words[1..], line.json()),
+    };
     let account = account(&dump)?;
     let boxes = dump.input()?;
     let trace = traced(&dump, &account)?;

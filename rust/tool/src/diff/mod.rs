@@ -5,6 +5,7 @@ mod causes;
 mod found;
 mod input;
 mod matching;
+pub mod mesh;
 mod report;
 mod words;
 

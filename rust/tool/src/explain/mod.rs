@@ -2,6 +2,7 @@
 
 mod fold;
 mod header;
+pub mod mesh;
 mod node;
 mod order;
 pub mod query;
