@@ -2,6 +2,7 @@
 
 use super::{value, Random, Spread};
 use bounds::{BoundMaterial, Geometry, Mat4, Polygon, Vec3};
+use tool::mesh::{Form, Mesh, MeshFolder, Origin};
 
 type Corners = [usize; 3];
 
@@ -15,6 +16,7 @@ struct Shape {
 /// A mesh of this kind.
 pub fn mesh(random: &mut Random, kind: u8) -> Geometry {
     let shape = match random.below(8) {
+        0 if random.below(3) == 0 => grid(random),
         0 => solid(random),
         1 => ball(random),
         2 => fan(random),
@@ -131,6 +133,18 @@ fn sheets(random: &mut Random) -> Shape {
     Shape { vertices: (0..8).map(corner).collect(), triangles: vec![[0, 2, 1], [1, 2, 3], [4, 5, 6], [5, 7, 6]] }
 }
 
+/// A field of hills, large enough for a tree of several ranges.
+fn grid(random: &mut Random) -> Shape {
+    let wide = 10 + random.below(8);
+    let height = |random: &mut Random| random.below(100) as f32 * 0.01;
+    let vertices = (0..wide * wide).map(|i| Vec3::new((i % wide) as f32, (i / wide) as f32, height(random))).collect();
+    let cell = |i: usize| {
+        let low = i / (wide - 1) * wide + i % (wide - 1);
+        [[low, low + 1, low + wide], [low + 1, low + wide + 1, low + wide]]
+    };
+    Shape { vertices, triangles: (0..(wide - 1) * (wide - 1)).flat_map(cell).collect() }
+}
+
 /// Equal triangles of few vertices: several on an edge, rings that do not come back.
 fn twins(random: &mut Random) -> Shape {
     let vertices = (0..3 + random.below(3)).map(|_| point(random, Spread::Small)).collect::<Vec<_>>();
@@ -203,4 +217,10 @@ fn frame(random: &mut Random, geometry: &mut Geometry) {
         let spread = random.pick(&[Spread::Small, Spread::Small, Spread::Hard]);
         geometry.transform = Mat4(std::array::from_fn(|_| value(random, spread)));
     }
+}
+
+/// What the library makes of a mesh; none where it is refused.
+pub fn folder(name: &str, geometry: Geometry) -> Option<MeshFolder> {
+    let mesh = Mesh { geometry, origin: Origin::new(name, Form::Text), names: Vec::new() };
+    MeshFolder::prepare(name, mesh).ok()
 }
