@@ -28,6 +28,11 @@ pub fn mesh(random: &mut Random, kind: u8) -> Geometry {
     geometry.vertices = shape.vertices;
     geometry.polygons = shape.triangles.iter().map(|&corners| triangle(random, corners)).collect();
     others(random, &mut geometry);
+    match random.below(30) {
+        0 => geometry.polygons.clear(),
+        1 => geometry.vertices.clear(),
+        _ => (),
+    }
     materials(random, &mut geometry);
     frame(random, &mut geometry);
     geometry
