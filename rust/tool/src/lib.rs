@@ -25,5 +25,6 @@ pub mod json;
 pub mod mesh;
 pub mod number;
 pub mod output;
+pub mod progress;
 pub mod rules;
 pub mod trace;

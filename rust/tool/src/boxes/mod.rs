@@ -85,7 +85,9 @@ pub fn read_file(path: &str) -> Result<Vec<u8>, Failure> {
         std::fs::File::open(path).map_err(failed)?.take(MOST_BYTES + 1).read_to_end(&mut bytes).map_err(failed)?;
     }
     if bytes.len() as u64 > MOST_BYTES {
-        return Err(Failure::File(format!("{path}: over {MOST_BYTES} bytes; expected a list of at most 32,767 boxes")));
+        return Err(Failure::File(format!(
+            "{path}: over {MOST_BYTES} bytes; expected a list of at most 32,767 boxes or polygons"
+        )));
     }
     Ok(bytes)
 }

@@ -6,6 +6,7 @@
 mod above;
 mod axis;
 mod lanes;
+pub mod mesh;
 mod rows;
 mod svg;
 

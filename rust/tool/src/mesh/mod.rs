@@ -8,12 +8,15 @@ mod listing;
 mod obj;
 mod origin;
 mod parse;
+mod place;
+pub mod state;
 pub mod text;
 
 pub use account::{account, differing, MeshAccount};
 pub use bytes::Parts;
-pub use folder::MeshFolder;
+pub use folder::{vertices, MeshFolder};
 pub use origin::{Of, Origin};
+pub use place::{place_of, rules_of};
 
 use crate::boxes::read_file;
 use crate::failure::Failure;
@@ -27,7 +30,7 @@ pub const MARGIN: f32 = 0.04;
 pub struct Mesh {
     pub geometry: Geometry,
     pub origin: Origin,
-    /// Of an .obj: its materials by name, as they are numbered; else none.
+    /// The materials' names; empty for one that has none.
     pub names: Vec<String>,
 }
 

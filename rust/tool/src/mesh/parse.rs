@@ -9,6 +9,7 @@ pub struct Said<'a> {
     pub line: usize,
     pub word: &'a str,
     pub rest: Vec<&'a str>,
+    pub comment: &'a str,
 }
 
 /// The lines that say something. `#` begins a comment.
@@ -18,8 +19,9 @@ pub fn lines<'a>(path: &str, bytes: &'a [u8]) -> Result<Vec<Said<'a>>, Failure> 
         wrong(path, line, "bytes that are no text; expected text in UTF-8")
     })?;
     let said = |(at, line): (usize, &'a str)| {
-        let mut words = line.split('#').next().unwrap_or("").split_ascii_whitespace();
-        Some(Said { line: at + 1, word: words.next()?, rest: words.collect() })
+        let (said, comment) = line.split_once('#').unwrap_or((line, ""));
+        let mut words = said.split_ascii_whitespace();
+        Some(Said { line: at + 1, word: words.next()?, rest: words.collect(), comment: comment.trim() })
     };
     Ok(text.lines().enumerate().filter_map(said).collect())
 }

@@ -19,7 +19,7 @@
 //! cylinder 0 2 3 0.5            as a capsule
 //! ```
 //!
-//! `#` begins a comment. Numbers count from 0 in the order of the lines. Floats are decimals, `inf`, `nan`, or `0x` and the
+//! `#` begins a comment; a material's is its name. Numbers count from 0 in the order of the lines. Floats are decimals, `inf`, `nan`, or `0x` and the
 //! eight digits of a word, so that a NaN keeps its bits; words are decimals or `0x` and digits. A number that no vertex or
 //! material has is welcome: it stands for zero.
 
@@ -85,6 +85,7 @@ fn put(mesh: &mut Mesh, line: &Said) -> Result<(), String> {
             };
             geometry.materials.push(BoundMaterial { data1: bits(data1)?, data2: bits(data2)? });
             mesh.origin.materials.push(line.line);
+            mesh.names.push(line.comment.into());
         }
         "vertex" => {
             geometry.vertices.push(line.point()?);
@@ -179,7 +180,8 @@ pub fn write(geometry: &Geometry, names: &[String]) -> String {
     let mut text = format!("{FIRST_LINE}\n");
     text.extend(Of::ALL.map(|of| format!("{} {}\n", of.name(), value(of))));
     for (k, material) in geometry.materials.iter().enumerate() {
-        let name = names.get(k).map_or(String::new(), |name| format!(" # {}", shown(name)));
+        let named = names.get(k).filter(|name| !name.is_empty());
+        let name = named.map_or(String::new(), |name| format!(" # {}", shown(name)));
         text += &format!("material 0x{:08X} 0x{:08X}{name}\n", material.data1, material.data2);
     }
     text.extend(geometry.vertices.iter().map(|&v| format!("vertex {}\n", point(v))));

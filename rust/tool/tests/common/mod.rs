@@ -3,6 +3,7 @@
 
 pub mod command;
 pub mod mesh;
+pub mod terrain;
 
 use bounds::{BvhItem, Vec3};
 
