@@ -65,7 +65,10 @@ impl Explainer<'_> {
 
     /// Where one of an entry's six values stands in the input.
     pub fn origin(&self, place: usize, value: usize) -> String {
-        self.boxes.origin.value(place, CORNERS[value / 3], AXES[value % 3])
+        match self.mesh {
+            Some(_) => String::new(), // what is beneath says it
+            None => self.boxes.origin.value(place, CORNERS[value / 3], AXES[value % 3]),
+        }
     }
 }
 

@@ -5,10 +5,40 @@ use crate::field::mesh::{InPolygon, MeshField};
 use crate::field::{Field, InRecord, Value};
 use crate::number::{place, some};
 
+/// What a field stands for beside its value.
+#[derive(Clone, Copy, Debug, PartialEq, Eq)]
+pub enum Meaning {
+    Polygon,
+    Material,
+    Place,
+}
+
+impl Meaning {
+    pub const ALL: [Meaning; 3] = [Meaning::Polygon, Meaning::Material, Meaning::Place];
+
+    pub fn name(self) -> &'static str {
+        match self {
+            Meaning::Polygon => "polygons",
+            Meaning::Material => "materials",
+            Meaning::Place => "places",
+        }
+    }
+
+    /// Of the fields that have one.
+    fn of(field: MeshField) -> Meaning {
+        match field {
+            MeshField::Polygon(..) | MeshField::Tree(Field::Node(_, InRecord::First)) => Meaning::Polygon,
+            MeshField::MaterialIndex(_) => Meaning::Material,
+            _ => Meaning::Place,
+        }
+    }
+}
+
 /// A field of equal bytes, and what it stands for in each.
 #[derive(Clone, Debug)]
 pub struct Elsewhere {
     pub field: MeshField,
+    pub meaning: Meaning,
     pub a: String,
     pub b: String,
 }
@@ -21,9 +51,12 @@ pub fn elsewhere(sides: &[MeshSide; 2]) -> Vec<Elsewhere> {
             return None;
         }
         let (in_a, in_b) = (meaning(&sides[0], field)?, meaning(&sides[1], field)?);
-        (in_a != in_b).then_some(Elsewhere { field, a: in_a, b: in_b })
+        (in_a != in_b).then_some(Elsewhere { field, meaning: Meaning::of(field), a: in_a, b: in_b })
     };
-    MeshField::all(&a).into_iter().filter_map(both).collect()
+    let mut all: Vec<Elsewhere> = MeshField::all(&a).into_iter().filter_map(both).collect();
+    // Links first: that a record is another polygon's is seen by its other fields too.
+    all.sort_by_key(|at| matches!(at.field, MeshField::Polygon(_, InPolygon::Kind)));
+    all
 }
 
 /// What a field stands for, where that is more than its value.

@@ -102,6 +102,37 @@ pub fn changes(a: &Geometry, b: &Geometry) -> Vec<Change> {
     all.iter().filter(told).copied().collect()
 }
 
+/// Many changes by what they are of: `1597 of vertices, 2 of the box`.
+pub fn grouped(changes: &[Change]) -> String {
+    let mut groups: Vec<(&str, usize)> = Vec::new();
+    for change in changes {
+        let name = change.of.group();
+        match groups.iter_mut().find(|(group, _)| *group == name) {
+            Some((_, count)) => *count += 1,
+            None => groups.push((name, 1)),
+        }
+    }
+    groups.iter().map(|(name, count)| format!("{count} of {name}")).collect::<Vec<_>>().join(", ")
+}
+
+impl Given {
+    /// What it is a value of.
+    fn group(self) -> &'static str {
+        match self {
+            Given::Kind => "the kind",
+            Given::Polygons | Given::Vertices | Given::Materials => "the lists' lengths",
+            Given::Box(..) => "the box",
+            Given::Centre(..) => "centres",
+            Given::Radius => "the radius",
+            Given::Margin => "the margin",
+            Given::Transform(_) => "the transform",
+            Given::Vertex(..) => "vertices",
+            Given::Polygon(..) | Given::Number(_) => "polygons",
+            Given::Material(_) => "materials",
+        }
+    }
+}
+
 impl Change {
     /// The change, short enough to be read aloud: `vertex 7 y 4.0 -> NaN`.
     pub fn short(&self) -> String {

@@ -1,5 +1,7 @@
 //! A comparison of two prepared meshes as people read it and as programs do: the verdict first.
 
+use super::elsewhere::Meaning;
+use super::input::grouped;
 use super::{Change, Elsewhere, MeshCaused, MeshComparison, MeshKnown};
 use crate::diff::causes::TOLD;
 use crate::diff::report::{cause_text, lost_words, premises_words, row_json, table};
@@ -8,6 +10,7 @@ use crate::number::{counted, verb};
 
 /// Longer lists are cut, and say so.
 const SHOWN: usize = 8;
+const EACH_SHOWN: usize = 3;
 
 impl MeshComparison<'_> {
     pub fn text(&self) -> String {
@@ -40,7 +43,7 @@ impl MeshComparison<'_> {
         let input = match &known.changes[..] {
             [] => "the inputs are the same".to_string(),
             [one] => one.short(),
-            many => format!("{} of the input", counted(many.len(), "difference")),
+            many => format!("{} of the input ({})", counted(many.len(), "difference"), grouped(many)),
         };
         let damaged = known.sides.iter().filter(|side| !side.account.differing.is_empty());
         let damaged: String =
@@ -122,15 +125,26 @@ impl MeshKnown<'_> {
     }
 
     fn elsewhere_lines(&self) -> String {
-        let n = self.elsewhere.len();
-        if n == 0 {
-            return String::new();
+        let mut lines: Vec<String> = Vec::new();
+        for group in Meaning::ALL {
+            let of: Vec<&Elsewhere> = self.elsewhere.iter().filter(|at| at.meaning == group).collect();
+            let told = |at: &&Elsewhere| format!("{} ({} and {})", at.field, at.a, at.b);
+            let shown: Vec<String> = of.iter().take(EACH_SHOWN).map(told).collect();
+            let more = of.len().saturating_sub(EACH_SHOWN);
+            let more = if more > 0 { format!(", and {more} more") } else { String::new() };
+            if !of.is_empty() {
+                let fields = counted(of.len(), "field");
+                lines.push(format!(
+                    "{fields} with EQUAL bytes for different {}: {}{more}",
+                    group.name(),
+                    shown.join(", ")
+                ));
+            }
         }
-        let told = |at: &Elsewhere| format!("{} ({} and {})", at.field, at.a, at.b);
-        let shown: Vec<String> = self.elsewhere.iter().take(4).map(told).collect();
-        let more = if n > 4 { format!(", and {} more", n - 4) } else { String::new() };
-        let fields = counted(n, "field");
-        format!("\nnote     {fields} with EQUAL bytes for different things: {}{more}\n", shown.join(", "))
+        match lines.is_empty() {
+            true => String::new(),
+            false => format!("\nnote     {}\n", lines.join("\n         ")),
+        }
     }
 }
 

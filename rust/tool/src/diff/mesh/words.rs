@@ -7,7 +7,7 @@ use crate::diff::input as boxes;
 use crate::field::mesh::{on, InPolygon, MeshField};
 use crate::field::AXES;
 use crate::number::{float, some};
-use crate::trace::mesh::links::edge;
+use crate::trace::mesh::links::{edge, Edge};
 use crate::trace::mesh::polygon::corners;
 use crate::trace::mesh::shrink::Shrinking;
 use std::collections::BTreeSet;
@@ -86,7 +86,33 @@ fn edge_lines(sides: &[MeshSide; 2], fields: &[MeshField]) -> Vec<String> {
     let line = |edge: (usize, usize)| {
         format!("edge {}-{}   a: {}   b: {}", edge.0, edge.1, told(&sides[0], edge), told(&sides[1], edge))
     };
-    cut(edges.into_iter().map(line).collect())
+    let doubled: BTreeSet<String> = edges.iter().flat_map(|&edge| doubles(sides, edge)).collect();
+    cut(edges.into_iter().map(line).chain(doubled).collect())
+}
+
+/// Where a polygon has left an edge for another vertex at the same place: it looks the same and is no longer linked.
+fn doubles(sides: &[MeshSide; 2], from: Edge) -> Vec<String> {
+    let given = |side: &MeshSide| -> BTreeSet<(usize, usize)> {
+        side.trace.links.on(from).iter().map(|at| (side.trace.order[at.polygon], at.slot)).collect()
+    };
+    let both = [given(&sides[0]), given(&sides[1])];
+    let mut lines = Vec::new();
+    for (here, name) in [(0, "b"), (1, "a")] {
+        let there = sides[1 - here].trace.of;
+        for &(polygon, slot) in both[here].difference(&both[1 - here]) {
+            let Some(corners) = there.polygons.get(polygon).and_then(corners) else { continue };
+            let to = edge(corners, slot);
+            let left = [from.0, from.1].into_iter().filter(|v| ![to.0, to.1].contains(v));
+            let taken = [to.0, to.1].into_iter().filter(|v| ![from.0, from.1].contains(v));
+            let same =
+                |x: usize, y: usize| there.vertices.get(x).is_some() && there.vertices.get(x) == there.vertices.get(y);
+            let twins = left.zip(taken).filter(|&(x, y)| same(x, y));
+            lines.extend(twins.map(|(x, y)| {
+                format!("in {name} given polygon {polygon} has vertex {y} instead of {x}, at the SAME place: two vertices where one was")
+            }));
+        }
+    }
+    lines
 }
 
 fn margin_line(of: &Shrinking, name: &str) -> String {
