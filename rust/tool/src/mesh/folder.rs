@@ -31,7 +31,10 @@ use crate::failure::Failure;
 use crate::field::mesh::Derived;
 use crate::number::counted;
 use crate::output::write_folder;
-use bounds::{Geometry, Prepared};
+use bounds::octants::VERTICES;
+use bounds::prepare::MATERIALS;
+use bounds::shrink::POLYGONS;
+use bounds::{Geometry, Prepared, Refusal};
 use std::path::Path;
 
 /// The most items of a leaf of a prepared mesh's tree.
@@ -52,13 +55,7 @@ impl MeshFolder {
     /// What the library makes of a mesh.
     pub fn prepare(name: &str, mesh: Mesh) -> Result<MeshFolder, Failure> {
         let geometry = &mesh.geometry;
-        let prepared = geometry.prepare().map_err(|refusal| {
-            let polygons = counted(geometry.polygons.len(), "polygon");
-            let materials = counted(geometry.materials.len(), "material");
-            let lists = format!("{polygons}, {}, {materials}", vertices(geometry.vertices.len()));
-            let margin = crate::number::float(geometry.margin);
-            Failure::Refused(format!("{refusal}\n{name}: kind {}, {lists}, margin {margin}", geometry.kind))
-        })?;
+        let prepared = geometry.prepare().map_err(|refusal| refused(name, geometry, refusal))?;
         let parts = Parts::of(geometry.kind, &prepared)?;
         Ok(MeshFolder { name: name.into(), mesh: Some(mesh), parts, prepared })
     }
@@ -169,6 +166,11 @@ impl MeshFolder {
             octants: if plain { read_file(&file("octants.bin"))? } else { Vec::new() },
             tree: if !plain && p > 0 { Some(tree_records(path, p)?) } else { None },
         };
+        if let Some(records) = parts.tree.as_ref().filter(|records| records.order.len() != p) {
+            let n = 2 * records.order.len();
+            let words = format!("{}: {n} bytes; expected {}: {p} polygons, by dump.txt", file("order.bin"), 2 * p);
+            return Err(Failure::File(words));
+        }
         if plain {
             parts.check_octants(&file("octants.bin"))?;
         }
@@ -190,6 +192,25 @@ impl MeshFolder {
         let words = format!("{path}: {}, but mesh.txt has {}; expected one mesh", words(said), words(found));
         Err(Failure::File(words))
     }
+}
+
+/// A refusal, what the mesh is, and what of it is to be changed.
+fn refused(name: &str, geometry: &Geometry, refusal: Refusal) -> Failure {
+    let (p, v, m) = (geometry.polygons.len(), geometry.vertices.len(), geometry.materials.len());
+    let (polygons, materials) = (counted(p, "polygon"), counted(m, "material"));
+    let mesh = format!("kind {}, {polygons}, {}, {materials}", geometry.kind, vertices(v));
+    let change = match refusal {
+        Refusal::UnknownKind => "; expected kind 4 or kind 8".into(),
+        Refusal::ListTooLong => {
+            let over = [(p, POLYGONS, "polygons"), (v, VERTICES, "vertices"), (m, MATERIALS, "materials")];
+            let over = over.iter().filter(|(n, most, _)| n > most);
+            over.map(|(n, most, of)| format!("; {} {of} too many", n - most)).collect()
+        }
+        Refusal::InfiniteMargin => format!("; margin {}", crate::number::float(geometry.margin)),
+        Refusal::TooManyMaterials => "; its polygons may use 255".into(),
+        _ => String::new(),
+    };
+    Failure::Refused(format!("{refusal}\n{name}: {mesh}{change}"))
 }
 
 /// `1 vertex`, `2 vertices`.

@@ -4,7 +4,7 @@
 //! that a stored vertex has all 16 bits. Areas are 0: they are not computed.
 
 use super::computed::{around, complete};
-use super::parse::{float, lines, shown, wrong, Said};
+use super::parse::{lines, number, shown, wrong, Said};
 use super::{Form, Mesh, Origin, MARGIN};
 use crate::failure::Failure;
 use bounds::{BoundMaterial, Geometry, Polygon, Vec3};
@@ -152,7 +152,7 @@ fn vertex(line: &Said) -> Result<Vec3, String> {
     if !(3..=7).contains(&n) {
         return Err(format!("{n} numbers behind v; expected three: x y z"));
     }
-    let [x, y, z] = [float(line.rest[0])?, float(line.rest[1])?, float(line.rest[2])?];
+    let [x, y, z] = [number(line.rest[0])?, number(line.rest[1])?, number(line.rest[2])?];
     Ok(Vec3::new(x, y, z))
 }
 

@@ -1,6 +1,6 @@
 //! Lines and numbers of a mesh's text.
 
-use crate::boxes::number;
+pub use crate::boxes::number;
 use crate::failure::Failure;
 use bounds::Vec3;
 
@@ -50,7 +50,7 @@ impl Said<'_> {
             self.rest.clone().try_into().map_err(|_| format!("{found} numbers behind {}; expected {of}", self.word))?;
         let mut numbers = [0.0; N];
         for (number, word) in numbers.iter_mut().zip(words) {
-            *number = float(word)?;
+            *number = self::number(word)?;
         }
         Ok(numbers)
     }
@@ -59,12 +59,6 @@ impl Said<'_> {
     pub fn point(&self) -> Result<Vec3, String> {
         self.floats("three: x y z").map(|[x, y, z]| Vec3::new(x, y, z))
     }
-}
-
-/// A float, by the same forms as a box's.
-pub fn float(word: &str) -> Result<f32, String> {
-    number(word)
-        .map_err(|_| format!("'{}' is no number: expected a decimal, inf, nan or 0x and eight digits", shown(word)))
 }
 
 /// A whole number from `least` to `most`.

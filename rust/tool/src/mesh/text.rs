@@ -25,10 +25,10 @@
 
 use super::computed::complete;
 use super::origin::{Of, Origin};
-use super::parse::{bits, float, lines, shown, whole, wrong, Said};
+use super::parse::{bits, lines, number, shown, whole, wrong, Said};
 use super::{Form, Mesh, MARGIN};
 use crate::failure::Failure;
-use crate::number::float as decimal;
+use crate::number::{counted, float as decimal};
 use bounds::{BoundMaterial, Geometry, Mat4, Polygon, Vec3};
 
 /// The first line.
@@ -81,7 +81,7 @@ fn put(mesh: &mut Mesh, line: &Said) -> Result<(), String> {
     match line.word {
         "material" => {
             let [data1, data2] = line.rest[..] else {
-                return Err(format!("{} words behind material; expected two", line.rest.len()));
+                return Err(format!("{} behind material; expected two", counted(line.rest.len(), "word")));
             };
             geometry.materials.push(BoundMaterial { data1: bits(data1)?, data2: bits(data2)? });
             mesh.origin.materials.push(line.line);
@@ -132,13 +132,13 @@ fn polygon(line: &Said) -> Result<Polygon, String> {
     };
     match (line.word, &line.rest[..]) {
         ("triangle", &[m, a, b, c]) => triangle(m, [a, b, c], 0.0),
-        ("triangle", &[m, a, b, c, "area", area]) => triangle(m, [a, b, c], float(area)?),
-        ("sphere", &[m, a, r]) => Ok(Polygon::Sphere { material: material(m)?, index: vertex(a)?, radius: float(r)? }),
+        ("triangle", &[m, a, b, c, "area", area]) => triangle(m, [a, b, c], number(area)?),
+        ("sphere", &[m, a, r]) => Ok(Polygon::Sphere { material: material(m)?, index: vertex(a)?, radius: number(r)? }),
         ("capsule", &[m, a, b, r]) => {
-            Ok(Polygon::Capsule { material: material(m)?, i1: vertex(a)?, i2: vertex(b)?, radius: float(r)? })
+            Ok(Polygon::Capsule { material: material(m)?, i1: vertex(a)?, i2: vertex(b)?, radius: number(r)? })
         }
         ("cylinder", &[m, a, b, r]) => {
-            Ok(Polygon::Cylinder { material: material(m)?, i1: vertex(a)?, i2: vertex(b)?, radius: float(r)? })
+            Ok(Polygon::Cylinder { material: material(m)?, i1: vertex(a)?, i2: vertex(b)?, radius: number(r)? })
         }
         ("box", &[m, a, b, c, d]) => {
             Ok(Polygon::Box { material: material(m)?, i: [corner(a)?, corner(b)?, corner(c)?, corner(d)?] })

@@ -97,6 +97,7 @@ impl Queried {
             let how = match handed.meets {
                 Some(true) => "its box meets",
                 Some(false) => "handed out, its box does not meet as floats",
+                None if self.known => "handed out, but order.bin leads to no polygon of the input",
                 None => "handed out; whether its box meets is not known without mesh.txt",
             };
             text += &format!("  {} {how}\n", handed.name());
