@@ -14,7 +14,7 @@ pub fn command() -> Command {
         name: "explain",
         does: "tells the chain of rules from the input's bytes to a field, or why an item is handed out",
         options: &["--threshold", "--text", "--records", "--kind", "--margin"],
-        words: (3, 6),
+        words: (2, 6),
         run,
         help: HELP,
     }
@@ -43,7 +43,7 @@ fn run(line: &Line) -> Result<Answer, Failure> {
     let account = account(&dump)?;
     let boxes = dump.input()?;
     let trace = traced(&dump, &account)?;
-    let explainer = Explainer { boxes, trace: &trace, records: &account.rebuilt };
+    let explainer = Explainer { boxes, trace: &trace, records: &account.rebuilt, mesh: None };
     let explanation = explanation(&dump, &account, &explainer, &line.words[1..])?;
     if line.json() {
         return Ok(Answer::of(format!("{}\n", json(&dump, &account, &explanation))));

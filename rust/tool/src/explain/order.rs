@@ -29,8 +29,10 @@ impl Explainer<'_> {
         let mut steps = self.path_steps(leaf);
         let nth = k - node.first;
         let text = format!(
-            "the leaves before node {leaf} hold {}; of its {} this is number {nth}: box {place}",
-            node.first, node.items
+            "the leaves before node {leaf} hold {}; of its {} this is number {nth}: {}",
+            node.first,
+            node.items,
+            self.named(place)
         );
         steps.push(Step::new(&[R13, R16], text));
         steps
