@@ -8,6 +8,8 @@ mod shrink;
 mod standing;
 mod vertex;
 
+pub use shrink::why;
+
 use super::query::Asked;
 use super::{Explainer, Explanation, Step};
 use crate::boxes::Boxes;
