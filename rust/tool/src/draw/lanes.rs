@@ -51,8 +51,10 @@ impl Picture<'_> {
     fn label(&self, svg: &mut Svg, node: usize, y: f64) {
         let depth = self.trace.path(node).len() - 1;
         let got = self.trace.got(node);
-        let named = some(&got);
-        let boxes = if got.is_empty() || named.len() > 14 { counted(got.len(), "box") } else { format!("box {named}") };
+        let boxes = match format!("{} {}", self.noun, some(&got)) {
+            named if !got.is_empty() && named.len() <= 18 => named,
+            _ => counted(got.len(), self.noun),
+        };
         let (colour, said) = match (self.query, self.read[node]) {
             (None, _) => (INK, ""),
             (_, Some(true)) => (INK, ", meets"),

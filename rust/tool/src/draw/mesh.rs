@@ -20,6 +20,7 @@ const NAMED: usize = 60;
 const MANY: usize = 1_000;
 
 const BLUE: &str = "#1f4e8c";
+const ORANGE: &str = "#e6550d";
 
 /// What a mesh's picture is made from.
 pub struct MeshPicture<'a> {
@@ -63,7 +64,7 @@ pub fn draw(folder: &MeshFolder, accounted: &MeshAccount, query: Option<Query>) 
     };
     let boxes = account(dump)?;
     let trace = traced(dump, &boxes)?;
-    let rows = Picture::of(dump, &trace, &boxes, query);
+    let rows = Picture { noun: "polygon", ..Picture::of(dump, &trace, &boxes, query) };
     let y = picture.rows_title(&mut svg, &rows, y + 40.0);
     let y = rows.lanes(&mut svg, y);
     let y = picture.legend(&mut svg, y + 44.0);
@@ -141,7 +142,7 @@ impl<'a> MeshPicture<'a> {
         self.marked(svg, &paper);
         if let Some(query) = self.query {
             let at = paper.rect((query.min.x as f64, query.max.x as f64), (query.min.y as f64, query.max.y as f64));
-            svg.rect(at, "fill=\"#1f77b4\" fill-opacity=\"0.2\" stroke=\"#1f77b4\" stroke-width=\"1.5\"");
+            svg.rect(at, &format!("fill=\"none\" stroke=\"{ORANGE}\" stroke-width=\"2\""));
         }
         if self.geometry.polygons.len() <= NAMED {
             self.names(svg, &paper);
@@ -231,6 +232,7 @@ impl<'a> MeshPicture<'a> {
             );
         }
         if self.query.is_some() {
+            entry(&format!("fill=\"none\" stroke=\"{ORANGE}\" stroke-width=\"2\""), "the query from above");
             entry(&format!("fill=\"{BLUE}\" fill-opacity=\"0.6\""), "handed out, its box meets");
             entry(&format!("fill=\"{BLUE}\" fill-opacity=\"0.25\""), "handed out, does not meet");
             entry(&format!("fill=\"{RED}\" fill-opacity=\"0.6\""), "meets, missed");
@@ -239,9 +241,15 @@ impl<'a> MeshPicture<'a> {
     }
 }
 
-/// Corners as a closed shape of a path.
+/// Corners as a closed shape of a path, all turned the same way: of two shapes that turn against one another a path leaves out
+/// what they share.
 fn shape(corners: &[(f64, f64)]) -> String {
-    let points: Vec<String> = corners.iter().map(|(x, y)| format!("{x:.1} {y:.1}")).collect();
+    let next = corners.iter().cycle().skip(1);
+    let area: f64 = corners.iter().zip(next).map(|((a, b), (c, d))| a * d - b * c).sum();
+    let mut points: Vec<String> = corners.iter().map(|(x, y)| format!("{x:.1} {y:.1}")).collect();
+    if area < 0.0 {
+        points.reverse();
+    }
     format!("M{}Z", points.join("L"))
 }
 

@@ -31,8 +31,7 @@ const EXPECTED: &str = "v, f, o, g, usemtl, or one of those that are passed over
 
 /// Whether a file that begins with this word looks like an .obj.
 pub fn begins(word: &[u8]) -> bool {
-    let known = |name: &&str| name.as_bytes() == word;
-    ["v", "f", "o", "g", "usemtl"].iter().any(|name| known(name)) || PASSED.iter().any(|name| known(name))
+    ["v", "f", "o", "g", "usemtl"].iter().chain(&PASSED).any(|name| name.as_bytes() == word)
 }
 
 /// A face's corners by their vertices' numbers from 0, its line and its material's number.
