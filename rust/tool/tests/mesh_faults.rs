@@ -76,6 +76,8 @@ fn bad_meshes() {
         "query a.bin --kind 8 0,0,0 1,1,1",
         "dump terrain.obj --threshold 2",
         "diff a.bin terrain.obj",
+        "build terrain.obj",
+        "prepare six.txt",
         "prepare terrain.obj --out no/such/folder",
         "prepare terrain.obj --out six.txt",
     ];

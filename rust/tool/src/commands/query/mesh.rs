@@ -103,8 +103,9 @@ impl Queried {
             text += &format!("  {} {how}\n", handed.name());
         }
         for missed in &self.missed {
-            let see = format!("bounds explain {} query {min} {max} item {}", folder.name, missed.place);
-            text += &format!("  {} MISSED: its box meets as floats, not handed out; see {see}\n", missed.name());
+            let see = |position| format!("; see bounds explain {} query {min} {max} item {position}", folder.name);
+            let see = missed.position.map_or(String::new(), see);
+            text += &format!("  {} MISSED: its box meets as floats, not handed out{see}\n", missed.name());
         }
         let (handed, reads) = (self.handed.len(), counted(self.reads, "record"));
         let known = match self.known {
