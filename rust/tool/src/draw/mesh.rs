@@ -32,7 +32,9 @@ pub struct MeshPicture<'a> {
     items: Vec<BvhItem>,
     /// By the numbers of the input: a colour's number, if there is one.
     groups: Vec<Option<usize>>,
-    /// Of a query: whether a polygon was handed out, and whether its box meets.
+    /// By the numbers of the input: whether a query at a polygon's place does not hand it out.
+    lost: Vec<bool>,
+    /// Whether the query handed a polygon out.
     handed: Vec<bool>,
     query: Option<Query>,
     captions: Vec<String>,
@@ -89,13 +91,25 @@ impl<'a> MeshPicture<'a> {
                 handed.get_mut(place).into_iter().for_each(|at| *at = true);
             }
         }
+        let broken = premises(folder)?.and_then(|premises| premises.broken);
+        let differs = !accounted.differing.is_empty();
+        // Within the premises, over records that are what the input gives, none is: that is proved.
+        let doubtful = tree.filter(|_| broken.is_some() || differs);
+        let lost = doubtful.map_or(vec![false; n], |dump| lost(dump, &items));
         let mut captions = Vec::new();
-        if let Some(broken) = premises(folder)?.and_then(|premises| premises.broken) {
+        if let Some(broken) = broken {
             captions.push(format!("outside the premises, {}: polygons may be missed", broken_words(broken)));
         }
-        if !accounted.differing.is_empty() {
+        if differs {
             let fields = counted(accounted.differing.len(), "field");
             captions.push(format!("{fields} of the folder not as its input gives"));
+        }
+        if doubtful.is_some() {
+            let many = lost.iter().filter(|&&lost| lost).count();
+            captions.push(format!(
+                "{many} of {} LOST: a query at their place does not hand them out",
+                counted(n, "polygon")
+            ));
         }
         let rulers = [0, 1].map(|axis| {
             let pick = move |v: Vec3| [v.x, v.y][axis] as f64;
@@ -104,7 +118,7 @@ impl<'a> MeshPicture<'a> {
             Ruler::over(boxes.chain(asked), 0.0, 1.0)
         });
         let groups = tree.map_or_else(|| materials(folder), |dump| ranges(dump, n));
-        Ok(MeshPicture { folder, geometry, points, items, groups, handed, query, captions, rulers })
+        Ok(MeshPicture { folder, geometry, points, items, groups, lost, handed, query, captions, rulers })
     }
 
     fn title(&self, svg: &mut Svg) -> f64 {
@@ -160,6 +174,8 @@ impl<'a> MeshPicture<'a> {
             let colour = group.map_or(GREY, |group| COLOURS[group % COLOURS.len()]);
             svg.path(&shape, &format!("fill=\"{colour}\" stroke=\"{INK}\" stroke-width=\"{width}\""));
         }
+        let lost: String = (0..self.items.len()).filter(|&k| self.lost[k]).map(|k| self.outline(paper, k)).collect();
+        svg.path(&lost, &format!("fill=\"{RED}\" fill-opacity=\"0.55\" stroke=\"none\""));
         let odd = (0..self.items.len()).filter(|&k| !self.is_finite(k));
         let shape: String = odd.map(|k| self.box_outline(paper, k)).collect();
         svg.path(&shape, &format!("fill=\"none\" stroke=\"{RED}\" stroke-dasharray=\"4 3\""));
@@ -175,7 +191,7 @@ impl<'a> MeshPicture<'a> {
         };
         svg.path(&shape(false, true), &format!("fill=\"{BLUE}\" fill-opacity=\"0.25\" stroke=\"{BLUE}\""));
         svg.path(&shape(true, true), &format!("fill=\"{BLUE}\" fill-opacity=\"0.6\" stroke=\"{BLUE}\""));
-        svg.path(&shape(true, false), &format!("fill=\"{RED}\" fill-opacity=\"0.6\" stroke=\"{RED}\""));
+        svg.path(&shape(true, false), &format!("fill=\"{RED}\" fill-opacity=\"0.9\" stroke=\"{RED}\""));
     }
 
     fn names(&self, svg: &mut Svg, paper: &Paper) {
@@ -189,9 +205,12 @@ impl<'a> MeshPicture<'a> {
         }
     }
 
+    /// Whether a polygon is somewhere: its box, and of a triangle each corner.
     fn is_finite(&self, k: usize) -> bool {
         let item = &self.items[k];
-        [item.min.x, item.min.y, item.max.x, item.max.y].iter().all(|x| x.is_finite())
+        let place = |v: Vec3| v.x.is_finite() && v.y.is_finite();
+        let corner = |k: usize| self.points.get(k).is_none_or(|&v| place(v));
+        place(item.min) && place(item.max) && corners(&self.geometry.polygons[k]).into_iter().all(corner)
     }
 
     /// A triangle by its corners; what is round or a box by its box. A polygon that is nowhere has none.
@@ -217,28 +236,43 @@ impl<'a> MeshPicture<'a> {
     }
 
     fn legend(&self, svg: &mut Svg, y: f64) -> f64 {
-        let mut x = MARGIN;
-        let mut entry = |look: &str, text: &str| {
-            svg.rect(Rect { x, y: y - 10.0, w: 18.0, h: 12.0 }, look);
-            svg.text((x + 24.0, y), &format!("fill=\"{INK}\""), text);
-            x += 40.0 + 7.2 * text.chars().count() as f64;
-        };
         let whose = if self.folder.parts.tree.is_some() { "range" } else { "material" };
-        entry(&format!("fill=\"{}\" stroke=\"{INK}\"", COLOURS[0]), &format!("a polygon, a colour a {whose}"));
+        let mut entries =
+            vec![(format!("fill=\"{}\" stroke=\"{INK}\"", COLOURS[0]), format!("a polygon, a colour a {whose}"))];
+        let mut entry = |look: String, text: &str| entries.push((look, text.into()));
+        if self.lost.contains(&true) {
+            entry(format!("fill=\"{RED}\" fill-opacity=\"0.55\""), "LOST: a query at its place does not find it");
+        }
         if (0..self.items.len()).any(|k| !self.is_finite(k)) {
-            entry(
-                &format!("fill=\"none\" stroke=\"{RED}\" stroke-dasharray=\"4 3\""),
-                "a polygon with a value that is no place",
-            );
+            entry(format!("fill=\"none\" stroke=\"{RED}\" stroke-dasharray=\"4 3\""), "the box of one that is nowhere");
         }
         if self.query.is_some() {
-            entry(&format!("fill=\"none\" stroke=\"{ORANGE}\" stroke-width=\"2\""), "the query from above");
-            entry(&format!("fill=\"{BLUE}\" fill-opacity=\"0.6\""), "handed out, its box meets");
-            entry(&format!("fill=\"{BLUE}\" fill-opacity=\"0.25\""), "handed out, does not meet");
-            entry(&format!("fill=\"{RED}\" fill-opacity=\"0.6\""), "meets, missed");
+            entry(format!("fill=\"none\" stroke=\"{ORANGE}\" stroke-width=\"2\""), "the query from above");
+            entry(format!("fill=\"{BLUE}\" fill-opacity=\"0.6\""), "handed out, its box meets");
+            entry(format!("fill=\"{BLUE}\" fill-opacity=\"0.25\""), "handed out, does not meet");
+            entry(format!("fill=\"{RED}\" fill-opacity=\"0.9\""), "meets, missed");
+        }
+        let (mut x, mut y) = (MARGIN, y);
+        for (look, text) in entries {
+            let width = 40.0 + 7.2 * text.chars().count() as f64;
+            if x + width > WIDTH {
+                (x, y) = (MARGIN, y + 20.0);
+            }
+            svg.rect(Rect { x, y: y - 10.0, w: 18.0, h: 12.0 }, &look);
+            svg.text((x + 24.0, y), &format!("fill=\"{INK}\""), &text);
+            x += width;
         }
         y
     }
+}
+
+/// For each polygon of the input whether a query at its own box, which meets it, does not hand it out, or is refused.
+fn lost(dump: &Dump, items: &[BvhItem]) -> Vec<bool> {
+    let found = |k: usize, item: &BvhItem| {
+        let walk = dump.walk(item.min, item.max);
+        walk.is_ok_and(|found| found.positions.iter().any(|&at| dump.place(at as usize) == Some(k)))
+    };
+    items.iter().enumerate().map(|(k, item)| item.meets(item.min, item.max) && !found(k, item)).collect()
 }
 
 /// Corners as a closed shape of a path, all turned the same way: of two shapes that turn against one another a path leaves out
