@@ -24,9 +24,14 @@ and of each box whether a query at its place finds it. Nodes are matched by thei
 node that has other boxes counts for the first split above it that differs, one of the same boxes for their own values or
 for the scale. A dump whose bytes are not what its input gives is named. Exit status 0 whether or not they differ.
 
+Two prepared meshes likewise: polygons are matched by the numbers that they were given, not by their places in the order of
+the leaves; a link that leads to another polygon, a vertex in another unit, a shrunk vertex and an octant each have their
+first cause; and of each polygon whether a query at its box finds it.
+
 examples
   bounds diff yesterday today
   bounds diff a.bin b.bin
+  bounds diff road.txt split.txt --kind 4
 ";
 
 fn run(line: &Line) -> Result<Answer, Failure> {

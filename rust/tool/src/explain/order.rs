@@ -12,7 +12,8 @@ impl Explainer<'_> {
             _ => self.leaf_after_leaf(k, place),
         };
         let word = bytes(&(place as u16).to_le_bytes());
-        steps.push(Step::new(&[R1, R13], format!("bytes {word}")).note(self.boxes.origin.entry(place)));
+        let origin = self.mesh.map_or_else(|| self.boxes.origin.entry(place), |mesh| mesh.origin.polygon(place));
+        steps.push(Step::new(&[R1, R13], format!("bytes {word}")).note(origin));
         steps
     }
 

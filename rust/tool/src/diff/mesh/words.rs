@@ -4,6 +4,7 @@ use super::causes::{MeshCause, MeshFinder};
 use super::input::{Change, Given};
 use super::MeshSide;
 use crate::diff::input as boxes;
+use crate::explain::mesh::why;
 use crate::field::mesh::{on, InPolygon, MeshField};
 use crate::field::AXES;
 use crate::number::{float, some};
@@ -118,10 +119,12 @@ fn doubles(sides: &[MeshSide; 2], from: Edge) -> Vec<String> {
 fn margin_line(of: &Shrinking, name: &str) -> String {
     let start = format!("{name}: margin {}, to begin with {}", float(of.given), float(of.start));
     let failed = of.trials.iter().filter(|trial| trial.failed.is_some()).count();
+    let first = of.trials.first().map_or(String::new(), why);
     match of.passed {
-        Some(margin) if failed == 0 => format!("{start}: it passes ({} for all)", float(margin)),
-        Some(margin) => format!("{start}; {failed} failed, {} passes", float(margin)),
-        None => format!("{start}; {failed} tried and none passes: by the vertices' normals"),
+        Some(margin) if failed == 0 => format!("{start}: {} passes", float(margin)),
+        Some(margin) => format!("{start}, fails: {first}; after {failed} such {} passes", float(margin)),
+        None if failed == 0 => format!("{start}, is not tried: by the vertices' normals"),
+        None => format!("{start}, fails: {first}; {failed} tried and none passes: by the vertices' normals"),
     }
 }
 

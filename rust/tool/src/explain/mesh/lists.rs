@@ -29,7 +29,7 @@ impl MeshExplainer<'_> {
         };
         let before = match materials.firsts[..k] {
             [] => "no other appears before it".to_string(),
-            ref firsts => format!("before it {} appear first at polygon {}", counted(k, "other"), some(firsts)),
+            ref firsts => format!("before it come those of polygon {}", some(firsts)),
         };
         let text = format!("{before}; this appears first at polygon {first}");
         vec![Step::new(&[M2], text), self.which(first), self.number(first)]

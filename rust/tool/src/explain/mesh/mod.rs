@@ -8,6 +8,8 @@ mod shrink;
 mod standing;
 mod vertex;
 
+pub use shrink::why;
+
 use super::query::Asked;
 use super::{Explainer, Explanation, Step};
 use crate::boxes::Boxes;
@@ -15,6 +17,7 @@ use crate::cli::{corner, Answer};
 use crate::dump::Dump;
 use crate::failure::Failure;
 use crate::field::mesh::{Derived, MeshField};
+use crate::field::Field;
 use crate::json::Json;
 use crate::mesh::{account, MeshAccount, MeshFolder, Origin};
 use crate::number;
@@ -207,6 +210,11 @@ impl<'a> MeshExplainer<'a> {
         let n = self.trace.order.len();
         let wrong = || Failure::Usage(format!("item '{}': expected a polygon's number below {n}", words[2]));
         let k = words[2].parse().ok().filter(|&k: &usize| k < n).ok_or_else(wrong)?;
+        let order = |field: &&MeshField| matches!(field, MeshField::Tree(Field::Order(_)));
+        if let Some(&field) = account.differing.iter().find(order) {
+            let words = account.difference(folder, field);
+            return Err(Failure::Refused(format!("{}: {words}; which polygon is which is not known", folder.name)));
+        }
         let found = dump.walk(min, max)?;
         let asked = Asked { dump, min, max, item: self.trace.order[k] };
         let (explanation, reads) = tree.query(&asked, &|field| !account.differs(MeshField::Tree(field)));

@@ -90,7 +90,7 @@ impl MeshExplainer<'_> {
         let (name, inset) = (AXES[axis], float(margin.max(FLOOR)));
         let how = if from.to_bits() == to.to_bits() { "stays" } else { "becomes" };
         let text = format!(
-            "{name} {} {how} {}: within the box less {inset}, {}..{}",
+            "{name} {} {how} {}: the box less {inset}, about the centre: {}..{}",
             float(from),
             float(to),
             float(low),
@@ -127,7 +127,8 @@ impl MeshExplainer<'_> {
     }
 }
 
-fn why(trial: &Trial) -> String {
+/// Why a margin failed.
+pub fn why(trial: &Trial) -> String {
     match trial.failed {
         Some(Failed::Missing { vertex, polygon }) => {
             format!("vertex {vertex} moves, and polygon {polygon} has a corner that is missing")

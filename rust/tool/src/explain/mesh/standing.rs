@@ -42,7 +42,7 @@ impl MeshExplainer<'_> {
         let terms = (0..3).map(|row| format!("{} * {}", float(m(row)), float(about[row]))).collect::<Vec<_>>();
         let stands = float(self.trace.standing.points[vertex][axis]);
         let text = format!(
-            "vertex {vertex} {} about the centre {}: {} = {} + {} = {stands}",
+            "vertex {vertex} {}, with the centre {}: {} = {} + {} = {stands}",
             point_words(point(v)),
             point_words(about),
             AXES[axis],

@@ -11,7 +11,7 @@ impl MeshExplainer<'_> {
     pub fn vertex(&self, k: usize, axis: Axis) -> Vec<Step> {
         let v = on(self.trace.of.vertices[k], axis);
         let text = format!("vertex {k} {axis} as it was given: {}", both(v.to_bits()));
-        let mut steps = vec![Step::new(&[K5], text).note(self.origin.coordinate(k, axis))];
+        let mut steps = vec![Step::new(&[Q4], text).note(self.origin.coordinate(k, axis))];
         steps.extend(self.stored_steps(v, axis, short(&self.trace.prepared.vertices, k, axis)));
         steps
     }
@@ -49,7 +49,7 @@ impl MeshExplainer<'_> {
         };
         vec![
             self.quantum_step(axis),
-            Step::new(&[Q4, Q2], format!("{} / {} = {}", float(v), float(quantum), float(parts))),
+            Step::new(&[Q2, F13], format!("{} / {} = {}", float(v), float(quantum), float(parts))),
             Step::new(&[F9], how),
         ]
     }
