@@ -28,6 +28,7 @@ pub mod math;
 pub mod octants;
 pub mod premises;
 pub mod prepare;
+mod prepared;
 pub mod refusal;
 pub mod shrink;
 pub mod tree;

@@ -1,7 +1,7 @@
 //! Prepare: from a mesh to all that a file holds of it.
 //!
 //! ```
-//! use bounds::walk::{walk, Records};
+//! use bounds::prepare::PolygonPlace;
 //! use bounds::{BoundMaterial, Geometry, Polygon, Vec3};
 //!
 //! // A pyramid: four vertices and four triangles.
@@ -15,29 +15,13 @@
 //! let prepared = geometry.prepare()?;
 //! assert_eq!((prepared.box_min, prepared.box_max), (at(-1.0, -1.0, 0.0), at(1.0, 1.0, 1.0)));
 //! assert_eq!((prepared.materials_count, prepared.materials.len()), (1, 4));
-//! let Polygon::Triangle { edges, .. } = Polygon::read(&prepared.polygons)? else { unreachable!("a triangle") };
-//! assert_eq!(edges, [3, 2, 1]); // the other three, by their place in `prepared.polygons`
+//! assert_eq!(prepared.links(PolygonPlace(0)), [3, 2, 1].map(|k| Some(PolygonPlace(k)))); // the other three
 //!
 //! // Which triangles may the box from (0, 0, 0.5) to (1, 1, 1) meet?
-//! let tree = prepared.bvh.expect("kind 8 with polygons");
-//! let records = Records {
-//!     node_bytes: &tree.node_bytes,
-//!     nodes_count: tree.built.nodes_count as usize,
-//!     tree_bytes: &tree.tree_bytes,
-//!     trees_count: tree.built.trees_count as usize,
-//!     items_count: prepared.polygon_material_indices.len(),
-//! };
-//! let mut found = [0; 4];
-//! let counts = walk(
-//!     at(0.0, 0.0, 0.5),
-//!     at(1.0, 1.0, 1.0),
-//!     tree.built.bb_center,
-//!     tree.built.quantum_inverse,
-//!     &records,
-//!     &mut found,
-//! );
-//! assert_eq!(counts.map(|counts| counts.handed), Ok(4)); // one leaf holds all: places in `prepared.polygons`
-//! # Ok::<(), bounds::Refusal>(())
+//! let tree = prepared.bvh.as_ref().expect("kind 8 with polygons");
+//! let found = tree.candidates(at(0.0, 0.0, 0.5), at(1.0, 1.0, 1.0))?;
+//! assert_eq!(found.polygons.len(), 4); // one leaf holds all
+//! # Ok::<(), Box<dyn std::error::Error>>(())
 //! ```
 
 use crate::bvh::{built, parts, records_len, BuiltTree, RECORD};
@@ -46,10 +30,18 @@ use crate::octants::{lists_len, VERTICES};
 use crate::shrink::POLYGONS;
 use crate::{ffi, BoundMaterial, BoundVertex, Mat4, Octants, Polygon, Refusal, Vec3};
 
-/// Most materials.
+pub use crate::prepared::{GivenPolygon, PolygonCandidates, PolygonPlace};
+
+/// Most materials. Of 256 different ones that are used the polygons are refused ([`Refusal::TooManyMaterials`]).
 pub const MATERIALS: usize = 256;
 
 /// A geometry as it is modelled, by the source's names. Any floats will do.
+///
+/// ```
+/// # use bounds::{Geometry, Vec3};
+/// let geometry = Geometry { margin: 0.04, vertices: vec![Vec3::ZERO], ..Geometry::new(Geometry::PLAIN) };
+/// assert!(format!("{geometry:?}").starts_with("Geometry { kind: 4, box_min: Vec3 { x: 0.0, y: 0.0, z: 0.0 }"));
+/// ```
 #[derive(Clone, Debug, PartialEq)]
 #[allow(missing_docs)]
 pub struct Geometry {
@@ -70,7 +62,17 @@ pub struct Geometry {
     pub materials: Vec<BoundMaterial>,
 }
 
-/// What is derived of a geometry, by the source's names.
+/// What is derived of a geometry, by the source's names. [`Prepared::polygon`], [`Prepared::links`], [`Prepared::given`] and
+/// [`PreparedTree::candidates`] take and give places of polygons by their own type.
+///
+/// ```
+/// # use bounds::{Geometry, Vec3};
+/// let one = Vec3::new(1.0, 1.0, 1.0);
+/// let geometry = Geometry { box_min: -one, box_max: one, vertices: vec![one], ..Geometry::new(Geometry::BVH) };
+/// let prepared = geometry.prepare()?;
+/// assert_eq!((prepared.box_max, prepared.vertices.stored[0].0), (one, 32_767));
+/// # Ok::<(), bounds::Refusal>(())
+/// ```
 #[derive(Clone, Debug, PartialEq)]
 #[allow(missing_docs)]
 pub struct Prepared {
@@ -99,6 +101,15 @@ pub struct Prepared {
 }
 
 /// Vertices as they are stored, and the points that these stand for.
+///
+/// ```
+/// # use bounds::{Geometry, Vec3};
+/// let (one, half) = (Vec3::new(1.0, 1.0, 1.0), Vec3::new(0.5, 0.0, 0.0));
+/// let geometry = Geometry { box_min: -one, box_max: one, vertices: vec![half], ..Geometry::new(Geometry::BVH) };
+/// let quantised = geometry.prepare()?.vertices;
+/// assert_eq!((quantised.stored[0].0, quantised.floats[0].x < 0.5), (16_383, true)); // toward zero
+/// # Ok::<(), bounds::Refusal>(())
+/// ```
 #[derive(Clone, Debug, Default, PartialEq)]
 #[allow(missing_docs)]
 pub struct Quantised {
@@ -107,6 +118,16 @@ pub struct Quantised {
 }
 
 /// The tree over a geometry's polygons, at threshold 4. Its positions are places in [`Prepared::polygons`].
+///
+/// ```
+/// # use bounds::{Geometry, Polygon};
+/// let mut geometry = Geometry::new(Geometry::BVH);
+/// assert_eq!(geometry.prepare()?.bvh, None);
+/// geometry.polygons = vec![Polygon::Box { material: 0, i: [0; 4] }; 5];
+/// let tree = geometry.prepare()?.bvh.expect("a tree");
+/// assert_eq!((tree.built.nodes_count, tree.node_bytes.len(), tree.order.len()), (3, 48, 5));
+/// # Ok::<(), bounds::Refusal>(())
+/// ```
 #[derive(Clone, Debug, PartialEq)]
 #[allow(missing_docs)]
 pub struct PreparedTree {
@@ -201,6 +222,12 @@ impl Geometry {
 }
 
 /// What a geometry has beside its lists. It is given to the library as it lies in memory, as `bounds_bound` of the C interface.
+///
+/// ```
+/// # use bounds::prepare::Bound;
+/// let bound = Bound { kind: 8, margin: 0.04, ..Bound::default() };
+/// assert_eq!(std::mem::size_of_val(&bound), 4 * (1 + 3 * 4 + 2 + 3 + 16));
+/// ```
 #[derive(Clone, Copy, Debug, PartialEq)]
 #[allow(missing_docs)]
 #[repr(C)]
@@ -250,6 +277,11 @@ impl Bound {
 }
 
 /// A box, its centre, and a sphere.
+///
+/// ```
+/// # use bounds::{prepare::Frame, Vec3};
+/// assert_eq!(Frame::default().box_max, Vec3::ZERO);
+/// ```
 #[derive(Clone, Copy, Debug, Default, PartialEq)]
 #[allow(missing_docs)]
 #[repr(C)]
@@ -262,6 +294,13 @@ pub struct Frame {
 }
 
 /// What is lent to be prepared: so many polygons, in records of 16 bytes, with the numbers of their materials.
+///
+/// ```
+/// # use bounds::prepare::{Bound, Mesh};
+/// let bound = Bound { kind: 4, ..Bound::default() };
+/// let mesh = Mesh { bound, polygon_count: 1, polygons: &[1; 16], numbers: &[0], materials: &[], vertices: &[] };
+/// assert_eq!(mesh.polygons.len(), 16 * mesh.polygon_count); // see `prepare`
+/// ```
 #[derive(Clone, Copy, Debug)]
 #[allow(missing_docs)]
 pub struct Mesh<'a> {
@@ -304,6 +343,11 @@ pub struct Buffers<'a> {
 }
 
 /// The least lengths of [`Buffers`].
+///
+/// ```
+/// # use bounds::prepare::Lengths;
+/// assert_eq!(Lengths::of(0, 0).materials, 2048);
+/// ```
 #[derive(Clone, Copy, Debug, PartialEq, Eq)]
 #[allow(missing_docs)]
 pub struct Lengths {
@@ -361,6 +405,13 @@ pub fn work_len(polygons: usize, vertices: usize) -> usize {
 }
 
 /// What [`prepare()`] answers beside what it writes.
+///
+/// ```
+/// # use bounds::{prepare::{Frame, Values}, Vec3};
+/// let frame = Frame::default();
+/// let none = Values { frame, quantum: Vec3::ZERO, materials_count: 0, octants: [0; 8], built: None };
+/// assert!(format!("{none:?}").contains("materials_count: 0"));
+/// ```
 #[derive(Clone, Copy, Debug, PartialEq)]
 #[allow(missing_docs)]
 pub struct Values {

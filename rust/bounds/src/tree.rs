@@ -380,6 +380,6 @@ impl Tree {
 }
 
 /// Bytes as whole records.
-fn records(bytes: &[u8]) -> impl ExactSizeIterator<Item = &[u8; RECORD]> {
+pub(crate) fn records(bytes: &[u8]) -> impl ExactSizeIterator<Item = &[u8; RECORD]> {
     bytes.chunks_exact(RECORD).map(|record| record.try_into().expect("a chunk has a record's length"))
 }

@@ -25,7 +25,7 @@ pub fn account(dump: &Dump) -> Result<Account, Failure> {
         rebuilt.header[field.bytes()].copy_from_slice(&dump.records.header[field.bytes()]);
     }
     let differing = differing(&rebuilt, &dump.records);
-    Ok(Account { set: differing.iter().copied().collect(), differing, rebuilt })
+    Ok(Account::of(rebuilt, differing))
 }
 
 /// The build of a dump's input, step by step, which must come to the library's bytes in every field.
@@ -55,6 +55,11 @@ pub fn differing(a: &Records, b: &Records) -> Vec<Field> {
 }
 
 impl Account {
+    /// What the library makes of an input, and the fields in which a dump has something else.
+    pub fn of(rebuilt: Records, differing: Vec<Field>) -> Account {
+        Account { set: differing.iter().copied().collect(), differing, rebuilt }
+    }
+
     /// Whether the dump has something else in a field than its input gives.
     pub fn differs(&self, field: Field) -> bool {
         self.set.contains(&field)

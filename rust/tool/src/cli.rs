@@ -1,11 +1,12 @@
 //! The command line: which command, its words and its options.
 
-use crate::boxes::{point, Form};
+use crate::boxes::{number, point, Form};
 use crate::commands;
 use crate::dump::Loading;
 use crate::failure::Failure;
+use crate::mesh::Given;
 use crate::{help, output};
-use bounds::Vec3;
+use bounds::{Geometry, Vec3};
 
 /// A command: its name, what it does in a line, the options that it takes, and how many words at least and at most.
 pub struct Command {
@@ -38,7 +39,7 @@ pub struct Line {
 }
 
 /// Options that are followed by a word.
-const WITH_VALUE: [&str; 5] = ["--threshold", "--out", "-o", "--all", "--query"];
+const WITH_VALUE: [&str; 7] = ["--threshold", "--kind", "--margin", "--out", "-o", "--all", "--query"];
 
 /// Options that are not.
 const ALONE: [&str; 4] = ["--json", "--text", "--records", "--help"];
@@ -86,6 +87,20 @@ impl Line {
         self.option("--threshold").map(parse).transpose()
     }
 
+    /// The kind and the margin of a mesh.
+    pub fn mesh(&self) -> Result<Given, Failure> {
+        let kind = |word: &str| match word {
+            "4" => Ok(Geometry::PLAIN),
+            "8" => Ok(Geometry::BVH),
+            _ => Err(Failure::Usage(format!("--kind '{word}': expected 4 or 8"))),
+        };
+        let margin = |word: &str| number(word).map_err(|words| Failure::Usage(format!("--margin: {words}")));
+        Ok(Given {
+            kind: self.option("--kind").map(kind).transpose()?,
+            margin: self.option("--margin").map(margin).transpose()?,
+        })
+    }
+
     pub fn form(&self) -> Option<Form> {
         let given = |name: &str, form: Form| self.option(name).map(|_| form);
         given("--text", Form::Text).or(given("--records", Form::Children))
@@ -93,7 +108,7 @@ impl Line {
 
     /// How the dump that a command names is to be found.
     pub fn loading(&self) -> Result<Loading, Failure> {
-        Ok(Loading { threshold: self.threshold()?, form: self.form() })
+        Ok(Loading { threshold: self.threshold()?, form: self.form(), mesh: self.mesh()? })
     }
 }
 

@@ -1,4 +1,7 @@
-//! The fields of header, node records, tree records and order list: their names, bytes, values and rules.
+//! The fields of header, node records, tree records and order list: their names, bytes, values and rules. Those of a
+//! prepared mesh are in [`mesh`].
+
+pub mod mesh;
 
 use crate::dump::Records;
 use crate::number;
@@ -62,7 +65,15 @@ pub enum Value {
     Number(u32),
     Short(i16),
     Word(u32),
+    /// A polygon's kind.
+    Kind(u8),
+    /// A polygon's vertex; of a triangle's bit 15 is a flag.
+    Corner(u16),
+    Material(u32, u32),
 }
+
+/// The kinds of polygons by their numbers.
+pub const KINDS: [&str; 5] = ["triangle", "sphere", "capsule", "box", "cylinder"];
 
 impl InHeader {
     /// Every field, in the order of its bytes.
@@ -280,6 +291,10 @@ impl fmt::Display for Value {
             Value::Number(number) => f.pad(&number.to_string()),
             Value::Short(short) => f.pad(&short.to_string()),
             Value::Word(word) => f.pad(&number::both(*word)),
+            Value::Kind(kind) => f.pad(&format!("{kind} ({})", KINDS.get(*kind as usize).unwrap_or(&"none"))),
+            Value::Corner(corner) if *corner > 0x7FFF => f.pad(&format!("{} + {}", corner & 0x7FFF, 0x8000)),
+            Value::Corner(corner) => f.pad(&corner.to_string()),
+            Value::Material(first, second) => f.pad(&format!("({first:08X}, {second:08X})")),
         }
     }
 }

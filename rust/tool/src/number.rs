@@ -34,8 +34,19 @@ pub fn bytes(bytes: &[u8]) -> String {
 
 /// A count with its noun: `1 node`, `2 nodes`, `3 boxes`.
 pub fn counted(n: usize, noun: &str) -> String {
-    let plural = if noun.ends_with('x') { "es" } else { "s" };
-    format!("{n} {noun}{}", if n == 1 { "" } else { plural })
+    match n {
+        1 => format!("1 {noun}"),
+        _ => format!("{n} {}", plural(noun)),
+    }
+}
+
+/// `nodes`, `boxes`, `vertices`.
+pub fn plural(noun: &str) -> String {
+    match noun.strip_suffix("ex") {
+        Some(stem) => format!("{stem}ices"),
+        None if noun.ends_with('x') => format!("{noun}es"),
+        None => format!("{noun}s"),
+    }
 }
 
 /// A verb behind a count: `1 field differs`, `2 fields differ`.

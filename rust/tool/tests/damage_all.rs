@@ -55,7 +55,7 @@ fn damaged_records_are_told_as_such() {
         let account = account(&broken).expect("its input can be built");
         let trace = traced(&broken, &account).expect("the trace is of the input");
         let boxes = broken.input().expect("its input");
-        let explainer = Explainer { boxes, trace: &trace, records: &account.rebuilt };
+        let explainer = Explainer { boxes, trace: &trace, records: &account.rebuilt, mesh: None };
         damaged += (!account.differing.is_empty()) as usize;
         for field in Field::all(&broken.records).into_iter().filter(|&field| !account.differs(field)) {
             let told = explainer.field(field);

@@ -68,7 +68,7 @@ fn about_a_ranges_limit(random: &mut Random, n: usize) -> (Vec<BvhItem>, u32) {
 
 fn each_field(boxes: &Boxes, threshold: u32, records: &Records, met: &mut Met) {
     let trace = Trace::of(&boxes.items, threshold as usize);
-    let explainer = Explainer { boxes, trace: &trace, records };
+    let explainer = Explainer { boxes, trace: &trace, records, mesh: None };
     met.empty += trace.present.is_empty() as usize;
     met.ranges += (trace.ranges.len() > 1) as usize;
     met.padding += records.capacity() - records.node_count();
@@ -106,7 +106,8 @@ fn every_item_of_random_queries() {
         let boxes = Boxes { items: items.clone(), origin: Origin::Children { file: "random.bin".into() } };
         let (dump, _) = Dump::build("random.bin", boxes, threshold).expect("within the limits");
         let trace = Trace::of(&items, threshold as usize);
-        let explainer = Explainer { boxes: dump.input().expect("its input"), trace: &trace, records: &dump.records };
+        let explainer =
+            Explainer { boxes: dump.input().expect("its input"), trace: &trace, records: &dump.records, mesh: None };
         let other = list(&mut random, 1)[0];
         let query = if round % 2 == 0 { items[random.below(n)] } else { other };
         let found = dump.walk(query.min, query.max).expect("a build's records");

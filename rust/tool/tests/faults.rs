@@ -86,7 +86,7 @@ fn damaged_dumps() {
     copy("large", "header.bin", &|bytes| bytes[15] = 0xFF);
     copy("order", "order.bin", &|bytes| bytes.push(0));
     copy("entries", "boxes.bin", &|bytes| bytes.truncate(28));
-    copy("kind", "dump.txt", &|bytes| *bytes = b"bounds dump 1\nkind mesh\n".to_vec());
+    copy("kind", "dump.txt", &|bytes| *bytes = b"bounds dump 1\nkind forest\n".to_vec());
     copy("version", "dump.txt", &|bytes| *bytes = b"bounds dump 2\n".to_vec());
     copy("lines", "dump.txt", &|bytes| *bytes = b"bounds dump 1\nkind boxes\nthreshold 1\n".to_vec());
     copy("records", "dump.txt", &|_| ());

@@ -65,6 +65,16 @@ fn every_command_answers_json() {
         "diff a.bin a.bin",
         "draw b",
         "draw b -o b.svg",
+        "prepare terrain.obj",
+        "prepare terrain.obj --out terrain",
+        "prepare kinds.txt --kind 4 --out plain",
+        "check terrain.obj",
+        "check kinds.txt --kind 4",
+        "query terrain 110,-190,-50 113,-187,50",
+        "dump terrain",
+        "dump plain",
+        "draw terrain",
+        "draw plain -o plain.svg",
     ];
     for line in lines {
         let output = folder.run(&format!("{line} --json"));

@@ -86,7 +86,8 @@ fn six_boxes_and_a_nan() {
 
 #[test]
 fn help() {
-    let each = ["build", "check", "query", "dump", "explain", "diff", "draw"].map(|name| format!("{name} --help"));
+    let each =
+        ["prepare", "build", "check", "query", "dump", "explain", "diff", "draw"].map(|name| format!("{name} --help"));
     let mut lines = vec!["--help"];
     lines.extend(each.iter().map(String::as_str));
     logged("help", &lines);

@@ -2,7 +2,9 @@
 
 use std::collections::BTreeSet;
 use std::path::Path;
+use tool::field::mesh::{InPolygon, MeshField};
 use tool::field::{Field, InHeader, InRecord};
+use tool::mesh::{place_of, rules_of, Given, Mesh, MeshFolder};
 use tool::rules::Rule;
 
 fn page() -> String {
@@ -75,6 +77,74 @@ fn the_rules_of_a_field_are_the_tables() {
     held_to("### Fields of a node record", InRecord::all().into_iter().map(|f| Field::Node(0, f)).collect());
     held_to("### Fields of a tree record", InRecord::all().into_iter().map(|f| Field::Tree(0, f)).collect());
     held_to("### Fields of the header", InHeader::all().into_iter().map(Field::Header).collect());
+}
+
+/// A mesh of every kind of polygon, prepared.
+fn kinds(kind: u8) -> MeshFolder {
+    let path = Path::new(env!("CARGO_MANIFEST_DIR")).join("tests/inputs/kinds.txt");
+    let mesh = Mesh::read(&path.to_string_lossy(), Given { kind: Some(kind), margin: None }).expect("a mesh");
+    MeshFolder::prepare("kinds", mesh).expect("it can be prepared")
+}
+
+/// What the polygons' table says of a polygon's bytes holds of each field's rules that are of records.
+#[test]
+fn the_rules_of_a_polygons_record_are_the_tables() {
+    let rows = rows(&page(), "### Fields of a polygon record");
+    let mut held = 0;
+    for folder in [4, 8].map(kinds) {
+        let derived = folder.derived();
+        for field in MeshField::all(&derived) {
+            let (MeshField::Polygon(_, at), Some(bytes)) = (field, place_of(field, &derived)) else { continue };
+            if at == InPolygon::Kind {
+                continue; // bits of a byte, which the table says in words
+            }
+            let covers = |(first, last): &(usize, usize)| *first < bytes.end && bytes.start <= *last;
+            let said: BTreeSet<String> =
+                rows.iter().filter(|(ranges, _)| ranges.iter().any(covers)).flat_map(|row| row.1.clone()).collect();
+            let records = field.rules(&derived).iter().filter(|rule| rule.name().starts_with('G'));
+            for rule in records {
+                assert!(said.contains(rule.name()), "{field}: {rule} is not in the table's rows {said:?}");
+                held += 1;
+            }
+        }
+    }
+    assert!(held > 100, "{held}");
+}
+
+/// Each field of a prepared mesh names a rule of its output's row, in the column of its kind.
+#[test]
+fn the_rules_of_an_output_are_the_tables() {
+    let page = page();
+    let from = page.find("| output | kind 4 |").expect("the table of outputs");
+    let table: Vec<Vec<&str>> = page[from..]
+        .lines()
+        .take_while(|line| line.starts_with('|'))
+        .map(|line| line.trim_matches('|').split('|').map(str::trim).collect())
+        .collect();
+    let row = |name: &str, column: usize| -> BTreeSet<String> {
+        let row = table.iter().find(|cells| cells[0].starts_with(name)).expect(name);
+        let same = row[column] == "the same" || row[column].starts_with("the same,");
+        rules_in(if same { row[column - 1] } else { row[column] })
+    };
+    for (column, kind) in [(1, 4), (2, 8)] {
+        let folder = kinds(kind);
+        let derived = folder.derived();
+        for field in MeshField::all(&derived) {
+            let output = match field {
+                MeshField::Polygon(..) => "polygon bytes",
+                MeshField::MaterialCount | MeshField::Material(_) => "materials",
+                MeshField::MaterialIndex(_) => "indices",
+                MeshField::Quantum(_) => "quantum",
+                MeshField::Vertex(..) | MeshField::VertexFloat(..) => "vertices",
+                MeshField::Shrunk(..) | MeshField::ShrunkFloat(..) => "shrunk",
+                MeshField::Octant(..) | MeshField::OctantCount(_) => "octants",
+                // Given words, or the tree's: the other tables have these.
+                MeshField::Box(..) | MeshField::Centre(..) | MeshField::Radius | MeshField::Tree(_) => continue,
+            };
+            let (said, rules) = (row(output, column), rules_of(field, &derived));
+            assert!(rules.iter().any(|rule| said.contains(rule.name())), "kind {kind}, {field}: {rules:?}, {said:?}");
+        }
+    }
 }
 
 /// Texts name rules through the type, so that the test above sees all of them: no string has one written out.

@@ -3,6 +3,8 @@
 mod children;
 mod text;
 
+pub use text::number;
+
 use crate::failure::Failure;
 use bounds::premises::{Axis, Corner};
 use bounds::BvhItem;
@@ -27,6 +29,8 @@ pub enum Origin {
     Children { file: String },
     /// The entries of a dump, 28 bytes each.
     Entries { file: String },
+    /// The boxes of a mesh's polygons, by the line of each.
+    Polygons { file: String, lines: Vec<usize> },
 }
 
 /// How a file's boxes are written.
@@ -81,7 +85,9 @@ pub fn read_file(path: &str) -> Result<Vec<u8>, Failure> {
         std::fs::File::open(path).map_err(failed)?.take(MOST_BYTES + 1).read_to_end(&mut bytes).map_err(failed)?;
     }
     if bytes.len() as u64 > MOST_BYTES {
-        return Err(Failure::File(format!("{path}: over {MOST_BYTES} bytes; expected a list of at most 32,767 boxes")));
+        return Err(Failure::File(format!(
+            "{path}: over {MOST_BYTES} bytes; expected a list of at most 32,767 boxes or polygons"
+        )));
     }
     Ok(bytes)
 }
@@ -93,6 +99,9 @@ impl Origin {
             Origin::Text { file, lines } => format!("{file} line {}", lines.get(place).copied().unwrap_or(0)),
             Origin::Children { file } => format!("{file} bytes {}-{}", 32 * place, 32 * place + 31),
             Origin::Entries { file } => format!("{file} bytes {}-{}", 28 * place, 28 * place + 27),
+            Origin::Polygons { file, lines } => {
+                format!("the box of the polygon in {file} line {}", lines.get(place).copied().unwrap_or(0))
+            }
         }
     }
 
@@ -108,6 +117,7 @@ impl Origin {
                 format!("{file} {}", bytes(32 * place + 16 * corner as usize + 4 * axis as usize))
             }
             Origin::Entries { file } => format!("{file} {}", bytes(28 * place + 4 + 4 * nth)),
+            Origin::Polygons { .. } => self.entry(place),
         }
     }
 }

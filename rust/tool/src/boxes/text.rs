@@ -8,25 +8,30 @@ use bounds::BvhItem;
 /// A float: decimal, `nan`, `inf`, or `0x` and the eight digits of its word. One that only overflows to an infinity is
 /// refused: who means one writes `inf`.
 pub fn number(word: &str) -> Result<f32, String> {
+    number_or(word, "a decimal, inf, nan or 0x and eight digits")
+}
+
+/// [`number`], where something else may stand as well.
+fn number_or(word: &str, expected: &str) -> Result<f32, String> {
+    let shown = word.escape_debug();
     if let Some(digits) = word.strip_prefix("0x") {
         let bits = u32::from_str_radix(digits, 16).ok().filter(|_| digits.len() == 8);
         return bits
             .map(f32::from_bits)
-            .ok_or(format!("'{word}' is no word: expected 0x and eight hexadecimal digits"));
+            .ok_or(format!("'{shown}' is no word: expected 0x and eight hexadecimal digits"));
     }
-    let value: f32 = word
-        .parse()
-        .map_err(|_| format!("'{word}' is no number: expected a decimal, inf, nan, 0x.. or `absent` alone"))?;
+    let value: f32 = word.parse().map_err(|_| format!("'{shown}' is no number: expected {expected}"))?;
     if value.is_infinite() && word.contains(|c: char| c.is_ascii_digit()) {
-        return Err(format!("'{word}' is above every f32: write inf if that is meant"));
+        return Err(format!("'{shown}' is above every f32: write inf if that is meant"));
     }
     Ok(value)
 }
 
 /// The six numbers of a line.
 fn six(line: &str) -> Result<[f32; 6], String> {
+    let one = |word: &str| number_or(word, "a decimal, inf, nan, 0x.. or `absent` alone");
     let numbers: Vec<f32> =
-        line.split([' ', '\t', ',']).filter(|w| !w.is_empty()).map(number).collect::<Result<_, _>>()?;
+        line.split([' ', '\t', ',']).filter(|w| !w.is_empty()).map(one).collect::<Result<_, _>>()?;
     let found = numbers.len();
     numbers.try_into().map_err(|_| format!("{found} numbers; expected six: min x y z, max x y z"))
 }

@@ -1,10 +1,11 @@
 //! `bounds build`: a list of boxes to a tree's bytes.
 
-use crate::boxes::Boxes;
+use crate::boxes::{read_file, Boxes};
 use crate::cli::{Answer, Command, Line};
 use crate::dump::Dump;
 use crate::failure::Failure;
 use crate::json::Json;
+use crate::mesh;
 use crate::number::counted;
 use bounds::Tree;
 
@@ -32,7 +33,12 @@ examples
 ";
 
 fn run(line: &Line) -> Result<Answer, Failure> {
-    let boxes = Boxes::read(&line.words[0], line.form())?;
+    let (path, form) = (&line.words[0], line.form());
+    let bytes = read_file(path)?;
+    if form.is_none() && mesh::form(path, &bytes).is_some() {
+        return Err(Failure::Usage(format!("{path} is a mesh: expected boxes; `bounds prepare` takes it")));
+    }
+    let boxes = Boxes::of_bytes(path, &bytes, form)?;
     let (dump, tree) = Dump::build(&line.words[0], boxes, line.threshold()?.unwrap_or(1))?;
     if let Some(path) = line.option("--out") {
         dump.write(path)?;

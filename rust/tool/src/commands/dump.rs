@@ -1,8 +1,10 @@
 //! `bounds dump`: every field, its bytes, its value and its rules. The text is stable, so that people can compare it.
 
+mod mesh;
+
 use crate::account::account;
 use crate::cli::{Answer, Command, Line};
-use crate::dump::Dump;
+use crate::dump::{Dump, Opened, Records};
 use crate::failure::Failure;
 use crate::field::{Field, InRecord, Value};
 use crate::json::Json;
@@ -13,7 +15,7 @@ pub fn command() -> Command {
     Command {
         name: "dump",
         does: "shows every field of a dump with the rules that made it",
-        options: &["--threshold", "--text", "--records"],
+        options: &["--threshold", "--text", "--records", "--kind", "--margin"],
         words: (1, 1),
         run,
         help: HELP,
@@ -30,13 +32,22 @@ Records that another builder made are a dump too: put its bytes into header.bin,
 beside them dump.txt with four lines: `bounds dump 1`, `kind boxes`, `threshold N`, `entries N`. Without boxes.bin (28 bytes
 an entry: a mark, min x y z, max x y z) they can be dumped, queried and compared, but not explained or drawn.
 
+Of a prepared mesh: quantum, box, centres and radius, polygons, materials, their indices, vertices and the floats that they
+stand for, shrunk ones and octants or header, nodes, trees and order. Another builder's are a dump too: dump.txt is then
+`bounds dump 1`, `kind mesh`, `bound 8`, `polygons N`, `vertices N`, `materials N` (before they are filled up to four), and
+the other files are those that `bounds prepare` writes.
+
 examples
+  bounds dump terrain
   bounds dump six
   bounds dump six.txt --threshold 4
 ";
 
 fn run(line: &Line) -> Result<Answer, Failure> {
-    let dump = Dump::load(&line.words[0], line.loading()?)?;
+    let dump = match Opened::load(&line.words[0], line.loading()?)? {
+        Opened::Boxes(dump) => dump,
+        Opened::Mesh(folder) => return mesh::answer(&folder, line.json()),
+    };
     let fields = Field::all(&dump.records);
     if line.json() {
         let list = Json::list(fields.iter().map(|&field| json(&dump, field)));
@@ -64,10 +75,14 @@ fn heading(dump: &Dump) -> Result<String, Failure> {
 
 /// What a record's value stands for.
 fn meaning(dump: &Dump, field: Field) -> Option<String> {
-    match (field, field.value(&dump.records)?) {
-        (Field::Node(k, _), _) if k >= dump.records.node_count() => None,
+    tree_meaning(&dump.records, field)
+}
+
+fn tree_meaning(records: &Records, field: Field) -> Option<String> {
+    match (field, field.value(records)?) {
+        (Field::Node(k, _), _) if k >= records.node_count() => None,
         (Field::Node(_, InRecord::Box(_, axis)) | Field::Tree(_, InRecord::Box(_, axis)), Value::Short(value)) => {
-            Some(place(dump.records.stands_for(axis as usize, value)))
+            Some(place(records.stands_for(axis as usize, value)))
         }
         _ => None,
     }

@@ -2,9 +2,9 @@
 
 use crate::account::{account, traced, Account};
 use crate::cli::{corner, Answer, Command, Line};
-use crate::dump::Dump;
+use crate::dump::{Dump, Opened};
 use crate::explain::query::Asked;
-use crate::explain::{Explainer, Explanation};
+use crate::explain::{mesh, Explainer, Explanation};
 use crate::failure::Failure;
 use crate::field::Field;
 use crate::json::Json;
@@ -13,8 +13,8 @@ pub fn command() -> Command {
     Command {
         name: "explain",
         does: "tells the chain of rules from the input's bytes to a field, or why an item is handed out",
-        options: &["--threshold", "--text", "--records"],
-        words: (3, 6),
+        options: &["--threshold", "--text", "--records", "--kind", "--margin"],
+        words: (2, 6),
         run,
         help: HELP,
     }
@@ -24,23 +24,30 @@ const HELP: &str = "bounds explain DUMP FIELD [--json]
        bounds explain DUMP node N split
        bounds explain DUMP query MIN MAX item N
 
-FIELD is one of those that `bounds dump` shows: `node 9 min.x`, `node 2 id`, `tree 0 last`, `header cen.x`, `order 5`.
+FIELD is one of those that `bounds dump` shows: `node 9 min.x`, `node 2 id`, `tree 0 last`, `header cen.x`, `order 5`; of a
+prepared mesh also `polygon 3 link 1`, `polygon 3 vertex 0`, `polygon 3 area`, `vertex 7 y`, `vertex_float 7 y`, `shrunk 7 y`,
+`material 2`, `material_index 5`, `octant 3 index 0`, `quantum x`, `box min.x`, `center sphere.x`, `radius`.
 Each step has the rules of docs/RULES.md by which it was made, its values, and where they stand in the input. `split`
-tells how a node's boxes were divided; `query` which records were read on the way to box N. A field whose bytes are not
-what the dump's input gives is not explained: exit status 1.
+tells how a node's boxes were divided; `query` which records were read on the way to box N, of a mesh to polygon N of the
+prepared list. The tree of a mesh names polygons by the numbers that they were given, `given polygon 4`: their places in the
+prepared list follow from it. A field whose bytes are not what the dump's input gives is not explained: exit status 1.
 
 examples
   bounds explain six node 9 min.x
   bounds explain six node 0 split
   bounds explain six query 6,0,0 7,1,1 item 3
+  bounds explain road polygon 7 link 0
 ";
 
 fn run(line: &Line) -> Result<Answer, Failure> {
-    let dump = Dump::load(&line.words[0], line.loading()?)?;
+    let dump = match Opened::load(&line.words[0], line.loading()?)? {
+        Opened::Boxes(dump) => dump,
+        Opened::Mesh(folder) => return mesh::answer(&folder, &line.words[1..], line.json()),
+    };
     let account = account(&dump)?;
     let boxes = dump.input()?;
     let trace = traced(&dump, &account)?;
-    let explainer = Explainer { boxes, trace: &trace, records: &account.rebuilt };
+    let explainer = Explainer { boxes, trace: &trace, records: &account.rebuilt, mesh: None };
     let explanation = explanation(&dump, &account, &explainer, &line.words[1..])?;
     if line.json() {
         return Ok(Answer::of(format!("{}\n", json(&dump, &account, &explanation))));

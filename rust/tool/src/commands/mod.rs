@@ -1,4 +1,4 @@
-//! The commands, one a file. A mesh's `prepare` will stand beside `build`.
+//! The commands, one a file.
 
 mod build;
 mod check;
@@ -6,13 +6,15 @@ mod diff;
 mod draw;
 mod dump;
 mod explain;
+mod prepare;
 mod query;
 
 use crate::cli::Command;
 
 /// Every command, in the order in which the help shows them.
-pub fn table() -> [Command; 7] {
+pub fn table() -> [Command; 8] {
     [
+        prepare::command(),
         build::command(),
         check::command(),
         query::command(),

@@ -1,8 +1,10 @@
 //! `bounds query`: which boxes a query meets, by a dump's records.
 
+mod mesh;
+
 use crate::boxes;
 use crate::cli::{corner, Answer, Command, Line};
-use crate::dump::Dump;
+use crate::dump::{Dump, Opened};
 use crate::explain::query::span_words;
 use crate::failure::Failure;
 use crate::json::Json;
@@ -13,8 +15,8 @@ use bounds::Vec3;
 pub fn command() -> Command {
     Command {
         name: "query",
-        does: "walks over a dump's records and says which boxes meet a query",
-        options: &["--all", "--threshold", "--text", "--records"],
+        does: "walks over a dump's records and says which polygons or boxes meet a query",
+        options: &["--all", "--threshold", "--text", "--records", "--kind", "--margin"],
         words: (1, 3),
         run,
         help: HELP,
@@ -28,7 +30,11 @@ Walks over the records of DUMP with the query from MIN to MAX, each three number
 FILE, six numbers a line. Prints the boxes that are handed out, by their places in the list, whether each meets the query
 as floats, and the records read. Where the input is at hand, boxes that meet and are not handed out are named: MISSED.
 
+Of a mesh prepared as kind 8 these are polygons, by their numbers among the prepared ones and, behind `given`, among those
+of the input; what is compared as floats is a polygon's box.
+
 examples
+  bounds query terrain 10,20,-5 11,21,5
   bounds query six 6,0,0 7,1,1
   bounds query six -inf,0,0 inf,1,1
   bounds query six --all queries.txt
@@ -48,7 +54,10 @@ struct Queried {
 }
 
 fn run(line: &Line) -> Result<Answer, Failure> {
-    let dump = Dump::load(&line.words[0], line.loading()?)?;
+    let dump = match Opened::load(&line.words[0], line.loading()?)? {
+        Opened::Boxes(dump) => dump,
+        Opened::Mesh(folder) => return mesh::answer(&folder, line),
+    };
     let queries = queries(line)?;
     let answers = queries.iter().map(|&(min, max)| queried(&dump, min, max)).collect::<Result<Vec<_>, _>>()?;
     if line.json() {

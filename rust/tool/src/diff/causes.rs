@@ -3,7 +3,9 @@
 use super::input::Change;
 use super::matching::Matching;
 use super::{words, Side};
+use crate::dump::Dump;
 use crate::field::{Field, InHeader, InRecord, AXES};
+use crate::number::plural;
 use crate::rules::Rule::{self, *};
 use bounds::premises::Axis;
 use std::collections::BTreeMap;
@@ -43,28 +45,43 @@ pub struct Caused {
 
 /// The causes of the fields that differ, in their order.
 pub fn causes(sides: &[Side; 2], fields: &[Field], changes: &[Change]) -> Vec<Caused> {
-    let matching = Matching::of(&sides[0].trace, &sides[1].trace);
-    let finder = Finder { sides, first_of_all: matching.first_of_all(), matching };
+    let finder = Finder::of(sides);
     let mut grouped: BTreeMap<Cause, Vec<Field>> = BTreeMap::new();
     for &field in fields {
         grouped.entry(finder.cause(field)).or_default().push(field);
     }
     let told = grouped.into_iter().enumerate().map(|(at, (cause, fields))| {
         // Each split is gone to from the root: of thousands only the first are.
-        let lines = if at < TOLD { words::lines(sides, &finder.matching, changes, cause) } else { Vec::new() };
-        Caused { cause, title: cause.title(), rules: cause.rules(), fields, lines }
+        let lines = if at < TOLD { finder.lines(changes, cause) } else { Vec::new() };
+        Caused { cause, title: cause.title("box"), rules: cause.rules(), fields, lines }
     });
     told.collect()
 }
 
-struct Finder<'a> {
+/// Finds the cause of a field.
+pub struct Finder<'a> {
     sides: &'a [Side<'a>; 2],
     matching: Matching,
     first_of_all: Option<usize>,
 }
 
-impl Finder<'_> {
-    fn cause(&self, field: Field) -> Cause {
+impl<'a> Finder<'a> {
+    pub fn of(sides: &'a [Side<'a>; 2]) -> Finder<'a> {
+        let matching = Matching::of(&sides[0].trace, &sides[1].trace);
+        Finder { sides, first_of_all: matching.first_of_all(), matching }
+    }
+
+    /// The dumps that are compared.
+    pub fn dumps(&self) -> [&'a Dump; 2] {
+        [self.sides[0].dump, self.sides[1].dump]
+    }
+
+    /// A cause in words.
+    pub fn lines(&self, changes: &[Change], cause: Cause) -> Vec<String> {
+        words::lines(self.sides, &self.matching, changes, cause)
+    }
+
+    pub fn cause(&self, field: Field) -> Cause {
         if self.sides.iter().any(|side| side.account.differs(field)) {
             return Cause::Bytes;
         }
@@ -150,15 +167,16 @@ impl Cause {
     }
 
     /// What it is, in words.
-    pub fn title(self) -> String {
+    pub fn title(self, noun: &str) -> String {
+        let nouns = plural(noun);
         match self {
             Cause::Bytes => "bytes that are not what their input gives".into(),
             Cause::Threshold => "the threshold".into(),
-            Cause::List => "which boxes the list has".into(),
+            Cause::List => format!("which {nouns} the list has"),
             Cause::Scale(axis) => format!("the box of all, axis {}", AXES[axis]),
             Cause::Split(node) => format!("the split at node {node}"),
-            Cause::Own(value) => format!("the boxes' own {}", crate::explain::value_name(value)),
-            Cause::Order => "the same boxes of a leaf in another order".into(),
+            Cause::Own(value) => format!("the {nouns}' own {}", crate::explain::value_name(value)),
+            Cause::Order => format!("the same {nouns} of a leaf in another order"),
             Cause::Unknown => "no cause is known".into(),
         }
     }

@@ -156,7 +156,7 @@ fn with_it(side: &Side, asked: Option<(Vec3, Vec3)>, place: usize, handed: &Opti
     let with: Vec<usize> = handed.iter().flatten().filter(stray).copied().collect();
     match with.is_empty() {
         true => String::new(),
-        false => format!("and box {} with it", crate::number::some(&with)),
+        false => format!("and {} {} with it", side.noun, crate::number::some(&with)),
     }
 }
 

@@ -5,6 +5,7 @@ mod causes;
 mod found;
 mod input;
 mod matching;
+pub mod mesh;
 mod report;
 mod words;
 
@@ -25,6 +26,8 @@ pub struct Side<'a> {
     pub account: Account,
     pub trace: Trace<'a>,
     pub broken: Option<Broken>,
+    /// What the tree is over: boxes, or a mesh's polygons by the numbers that they were given.
+    pub noun: &'static str,
 }
 
 /// All that is to be said of two dumps.
@@ -52,7 +55,7 @@ impl<'a> Side<'a> {
     fn of(dump: &'a Dump) -> Result<Side<'a>, Failure> {
         let account = account(dump)?;
         let trace = traced(dump, &account)?;
-        Ok(Side { dump, broken: ordinary(trace.items).err(), account, trace })
+        Ok(Side { dump, broken: ordinary(trace.items).err(), account, trace, noun: "box" })
     }
 }
 
@@ -77,7 +80,7 @@ fn known<'a>(a: &'a Dump, b: &'a Dump, fields: &[Field]) -> Result<Known<'a>, Fa
 }
 
 /// Record values of equal bytes, other than padding, that stand for other places.
-fn elsewhere(a: &Dump, b: &Dump) -> Vec<(Field, String, String)> {
+pub(crate) fn elsewhere(a: &Dump, b: &Dump) -> Vec<(Field, String, String)> {
     let nodes = a.records.node_count().min(b.records.node_count());
     let meaning = |dump: &Dump, field: Field| match (field, field.value(&dump.records)) {
         (Field::Node(k, _), _) if k >= nodes => None,

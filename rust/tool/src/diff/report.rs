@@ -7,7 +7,7 @@ use crate::dump::Dump;
 use crate::field::{Field, AXES};
 use crate::json::Json;
 use crate::number::{both, counted, verb};
-use crate::rules::{self, Rule::*};
+use crate::rules::{self, Rule, Rule::*};
 use bounds::premises::Broken;
 
 /// Longer lists are cut, and say so.
@@ -139,31 +139,9 @@ impl Known<'_> {
         }
     }
 
-    fn count(&self, verdict: Verdict) -> usize {
-        self.rows.iter().filter(|row| row.verdict == verdict).count()
-    }
-
     fn lost_words(&self) -> String {
-        let told = [
-            (Verdict::Lost, "LOST in b"),
-            (Verdict::Gained, "gained in b"),
-            (Verdict::Missed, "found in neither"),
-            (Verdict::Refused('a'), "where a's walk is refused"),
-            (Verdict::Refused('b'), "where b's walk is refused"),
-            (Verdict::OnlyIn('a'), "only in a"),
-            (Verdict::OnlyIn('b'), "only in b"),
-        ];
-        let counts =
-            told.map(|(verdict, what)| (self.count(verdict), what)).into_iter().filter(|(count, _)| *count > 0);
-        let counts: Vec<String> = counts.map(|(count, what)| format!("{count} {what}")).collect();
-        match counts.is_empty() {
-            true => "a query at each box finds it in both".into(),
-            false => {
-                format!("of {}, each asked for at its place, {}", counted(self.rows.len(), "box"), counts.join(", "))
-            }
-        }
+        lost_words(&self.rows, "box")
     }
-
     fn elsewhere_lines(&self) -> String {
         let n = self.elsewhere.len();
         if n == 0 {
@@ -179,35 +157,59 @@ impl Known<'_> {
         )
     }
 
-    /// The boxes: all of a short list, else those that are not simply found in both.
     fn table(&self) -> String {
-        let all = self.rows.len() <= ROWS_SHOWN;
-        let told: Vec<&Row> = self.rows.iter().filter(|row| all || row.verdict != Verdict::Found).collect();
-        if told.is_empty() {
-            return String::new();
-        }
-        let axis = AXES[self.rows[0].axis];
-        let in_record = format!("{axis} in b's record");
-        let head = format!(
-            "\n{:>5}  {:<12} {in_record:<17} {:<19} {:<14} query at the box\n",
-            "box", "leaf", "stands for", "box is"
-        );
-        let mut text = head;
-        told.iter().take(ROWS_SHOWN).for_each(|row| text += &row_line(row));
-        if told.len() > ROWS_SHOWN {
-            text += &format!("       and {} more\n", told.len() - ROWS_SHOWN);
-        }
-        text
+        table(&self.rows, "box")
     }
 }
 
+/// What is lost or gained, in one line.
+pub fn lost_words(rows: &[Row], noun: &str) -> String {
+    let count = |verdict: Verdict| rows.iter().filter(|row| row.verdict == verdict).count();
+    let told = [
+        (Verdict::Lost, "LOST in b"),
+        (Verdict::Gained, "gained in b"),
+        (Verdict::Missed, "found in neither"),
+        (Verdict::Refused('a'), "where a's walk is refused"),
+        (Verdict::Refused('b'), "where b's walk is refused"),
+        (Verdict::OnlyIn('a'), "only in a"),
+        (Verdict::OnlyIn('b'), "only in b"),
+    ];
+    let counts = told.map(|(verdict, what)| (count(verdict), what)).into_iter().filter(|(count, _)| *count > 0);
+    let counts: Vec<String> = counts.map(|(count, what)| format!("{count} {what}")).collect();
+    match counts.is_empty() {
+        true => format!("a query at each {noun} finds it in both"),
+        false => {
+            format!("of {}, each asked for at its place, {}", counted(rows.len(), noun), counts.join(", "))
+        }
+    }
+}
+
+/// The boxes: all of a short list, else those that are not simply found in both.
+pub fn table(rows: &[Row], noun: &str) -> String {
+    let all = rows.len() <= ROWS_SHOWN;
+    let told: Vec<&Row> = rows.iter().filter(|row| all || row.verdict != Verdict::Found).collect();
+    if told.is_empty() {
+        return String::new();
+    }
+    let axis = AXES[rows[0].axis];
+    let in_record = format!("{axis} in b's record");
+    let head =
+        format!("\n{noun:>5}  {:<12} {in_record:<17} {:<19} {:<14} query at the box\n", "leaf", "stands for", "box is");
+    let mut text = head;
+    told.iter().take(ROWS_SHOWN).for_each(|row| text += &row_line(row));
+    if told.len() > ROWS_SHOWN {
+        text += &format!("       and {} more\n", told.len() - ROWS_SHOWN);
+    }
+    text
+}
+
 /// `within`, or what breaks them.
-fn premises_words(side: &Side) -> String {
+pub fn premises_words(side: &Side) -> String {
     let Some(broken) = side.broken else { return "within.".into() };
     let what = match broken {
         Broken::Size { place, corner, axis } => {
             let word = words(&side.trace.items[place])[3 * corner as usize + axis as usize];
-            format!("box {place} {corner}.{axis} is {}", both(word))
+            format!("{} {place} {corner}.{axis} is {}", side.noun, both(word))
         }
         other => other.to_string(),
     };
@@ -215,10 +217,14 @@ fn premises_words(side: &Side) -> String {
 }
 
 fn cause_lines(cause: &Caused, number: usize) -> String {
-    let fields = counted(cause.fields.len(), "field");
-    let title = format!("{}: {fields}", cause.title);
-    let mut text = format!("\ncause {number}  {}\n", format!("{title:<52} {}", rules::list(&cause.rules)).trim_end());
-    for line in &cause.lines {
+    cause_text(&cause.title, cause.fields.len(), &cause.rules, &cause.lines, number)
+}
+
+/// A cause as people read it.
+pub fn cause_text(title: &str, fields: usize, rules: &[Rule], lines: &[String], number: usize) -> String {
+    let title = format!("{title}: {}", counted(fields, "field"));
+    let mut text = format!("\ncause {number}  {}\n", format!("{title:<52} {}", rules::list(rules)).trim_end());
+    for line in lines {
         text += &format!("         {line}\n");
     }
     text
@@ -235,7 +241,7 @@ fn row_line(row: &Row) -> String {
     format!("{}\n", line.trim_end())
 }
 
-fn verdict_words(verdict: Verdict) -> String {
+pub fn verdict_words(verdict: Verdict) -> String {
     match verdict {
         Verdict::Found => "found".into(),
         Verdict::Lost => "LOST".into(),
@@ -255,7 +261,7 @@ fn cause_json(cause: &Caused) -> Json {
     ])
 }
 
-fn row_json(row: &Row) -> Json {
+pub fn row_json(row: &Row) -> Json {
     Json::Object(vec![
         ("box", row.place.into()),
         ("leaf_a", row.leaves[0].into()),

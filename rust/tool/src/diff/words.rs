@@ -7,7 +7,7 @@ use super::Side;
 use crate::boxes::words;
 use crate::explain::value_name;
 use crate::field::{AXES, CORNERS};
-use crate::number::{counted, float, place, some};
+use crate::number::{counted, float, place, plural, some};
 use crate::rules::Rule::*;
 use crate::trace::fold;
 use crate::trace::scale::Scale;
@@ -21,7 +21,7 @@ const SHOWN: usize = 10;
 pub fn lines(sides: &[Side; 2], matching: &Matching, changes: &[Change], cause: Cause) -> Vec<String> {
     match cause {
         Cause::Bytes => vec!["the line `bytes` above names them; what stands there is not explained".into()],
-        Cause::Threshold | Cause::List => listed(changes, |change| !matches!(change, Change::Word { .. })),
+        Cause::Threshold | Cause::List => listed(sides, changes, |change| !matches!(change, Change::Word { .. })),
         Cause::Scale(axis) => scale(sides, axis),
         Cause::Split(node) => split(sides, matching, node),
         Cause::Own(value) => own(sides, changes, value),
@@ -30,8 +30,12 @@ pub fn lines(sides: &[Side; 2], matching: &Matching, changes: &[Change], cause: 
     }
 }
 
-fn listed(changes: &[Change], which: impl Fn(&Change) -> bool) -> Vec<String> {
-    let all: Vec<String> = changes.iter().filter(|change| which(change)).map(Change::to_string).collect();
+fn listed(sides: &[Side; 2], changes: &[Change], which: impl Fn(&Change) -> bool) -> Vec<String> {
+    let named = |change: &Change| match change.to_string().strip_prefix("box ") {
+        Some(rest) => format!("{} {rest}", sides[0].noun),
+        None => change.to_string(),
+    };
+    let all: Vec<String> = changes.iter().filter(|change| which(change)).map(named).collect();
     let more = all.len().saturating_sub(SHOWN);
     let mut lines: Vec<String> = all.into_iter().take(SHOWN).collect();
     if more > 0 {
@@ -82,18 +86,19 @@ fn fold_line(side: &Side, value: usize) -> String {
     let show = |of: &[u32]| of.iter().map(|&word| float(f32::from_bits(word))).collect::<Vec<_>>().join(" ");
     let nan = given.iter().rposition(|&word| f32::from_bits(word).is_nan());
     let wiped = nan.map_or(String::new(), |at| {
+        let whose = format!("{} {}", side.noun, trace.present[at]);
         let from = given
             .get(at + 1)
             .map_or("nothing follows it".into(), |&next| format!("{} starts anew", float(f32::from_bits(next))));
-        format!("   <- the NaN of box {} wipes what came before ({F3}); {from}", trace.present[at])
+        format!("   <- the NaN of {whose} wipes what came before ({F3}); {from}")
     });
     if given.len() > SHOWN {
         let whose = fold::winner(trace.items, &trace.present, value)
-            .map_or("the start".into(), |at| format!("box {}'s", trace.present[at]));
+            .map_or("the start".into(), |at| format!("{} {}'s", side.noun, trace.present[at]));
         return format!(
             "{} of {}: {}, {whose}{wiped}",
             value_name(value),
-            counted(given.len(), "box"),
+            counted(given.len(), side.noun),
             float(f32::from_bits(trace.all[value]))
         );
     }
@@ -108,7 +113,7 @@ fn split(sides: &[Side; 2], matching: &Matching, node: usize) -> Vec<String> {
     };
     let mut lines = Vec::new();
     if node != twin {
-        lines.push(format!("node {node} of a has the same boxes as node {twin} of b"));
+        lines.push(format!("node {node} of a has the same {} as node {twin} of b", plural(sides[0].noun)));
     }
     let n = a.one.len() + a.two.len();
     for (axis, name) in AXES.iter().enumerate() {
@@ -130,18 +135,18 @@ fn split(sides: &[Side; 2], matching: &Matching, node: usize) -> Vec<String> {
     ));
     lines.push(format!("a: {}", groups(&a)));
     lines.push(format!("b: {}", groups(&b)));
-    lines.extend(changed_sides(&a, &b));
+    lines.extend(changed_sides(&a, &b, sides[0].noun));
     lines.extend(sorted_below(&sides[0], 'a', node));
     lines.extend(sorted_below(&sides[1], 'b', twin));
     lines
 }
 
 /// Of long groups that differ by few boxes: those that went from one child to the other.
-fn changed_sides(a: &Split, b: &Split) -> Option<String> {
+fn changed_sides(a: &Split, b: &Split, noun: &str) -> Option<String> {
     let firsts = [a, b].map(|split| split.clone().children()[0].iter().copied().collect::<BTreeSet<usize>>());
     let moved: Vec<usize> = firsts[0].symmetric_difference(&firsts[1]).copied().collect();
     let long = firsts[0].len() > SHOWN;
-    (long && moved.len() <= SHOWN).then(|| format!("on the other side in b: box {}", some(&moved)))
+    (long && moved.len() <= SHOWN).then(|| format!("on the other side in b: {noun} {}", some(&moved)))
 }
 
 /// The children of a split that fell back to sorting: what a NaN does goes on below.
@@ -173,9 +178,9 @@ fn order(sides: &[Side; 2]) -> Vec<String> {
 
 /// Boxes whose own value changed.
 fn own(sides: &[Side; 2], changes: &[Change], value: usize) -> Vec<String> {
-    let mut lines = listed(changes, |change| matches!(change, Change::Word { value: at, .. } if *at == value));
+    let mut lines = listed(sides, changes, |change| matches!(change, Change::Word { value: at, .. } if *at == value));
     if lines.is_empty() {
-        lines.push(format!("the same boxes in another order, and a NaN among them ({F3})"));
+        lines.push(format!("the same {} in another order, and a NaN among them ({F3})", plural(sides[0].noun)));
     }
     let nan = sides.iter().any(|side| side.trace.present.iter().any(|&p| side.trace.floats(p)[value].is_nan()));
     if nan {

@@ -14,16 +14,60 @@ const LEAST_HEIGHT: f64 = 120.0;
 const MOST_HEIGHT: f64 = 420.0;
 
 /// x and y on the paper.
-struct Paper {
+pub struct Paper {
     x: Ruler,
     /// Of places turned around: the paper's y goes down.
     y: Ruler,
 }
 
 impl Paper {
-    fn rect(&self, x: (f64, f64), y: (f64, f64)) -> Rect {
+    /// Both axes in one scale where that leaves the view a readable height, at most this one. What is too high for that is
+    /// drawn as narrow as it has to be.
+    pub fn of(x: Ruler, y: Ruler, top: f64, most: f64) -> Paper {
+        let width = WIDTH - 2.0 * MARGIN - 30.0;
+        let height = width * (y.high - y.low) / (x.high - x.low);
+        let (width, height) = if !height.is_finite() {
+            (width, LEAST_HEIGHT)
+        } else if height > most {
+            ((width * most / height).max(0.3 * width), most)
+        } else {
+            (width, height.max(LEAST_HEIGHT))
+        };
+        Paper {
+            x: Ruler { left: MARGIN + 30.0, width, ..x },
+            y: Ruler { low: -y.high, high: -y.low, left: top, width: height },
+        }
+    }
+
+    /// Where a place is on the paper.
+    pub fn at(&self, x: f64, y: f64) -> (f64, f64) {
+        (self.x.at(x, 0.0), self.y.at(-y, 0.0))
+    }
+
+    /// Where the view ends.
+    pub fn bottom(&self) -> f64 {
+        self.y.left + self.y.width
+    }
+
+    pub fn rect(&self, x: (f64, f64), y: (f64, f64)) -> Rect {
         let ((a, b), (c, d)) = (self.x.span(x.0, x.1), self.y.span(-y.1, -y.0));
         Rect { x: a, y: c, w: (b - a).max(1.5), h: (d - c).max(1.5) }
+    }
+
+    /// Lines and numbers at round places.
+    pub fn grid(&self, svg: &mut Svg) {
+        let (x, y) = (&self.x, &self.y);
+        let (left, right, top, bottom) = (x.left, x.left + x.width, y.left, y.left + y.width);
+        for place in x.ticks(12) {
+            let at = x.at(place, 0.0);
+            svg.line((at, top), (at, bottom), "stroke=\"#e4e4e4\"");
+            svg.text((at, bottom + 14.0), "text-anchor=\"middle\" font-size=\"10\" fill=\"#555555\"", &tick(place));
+        }
+        for place in y.ticks(5) {
+            let at = y.at(place, 0.0);
+            svg.line((left, at), (right, at), "stroke=\"#e4e4e4\"");
+            svg.text((left - 5.0, at + 4.0), "text-anchor=\"end\" font-size=\"10\" fill=\"#555555\"", &tick(-place));
+        }
     }
 }
 
@@ -32,7 +76,7 @@ impl Picture<'_> {
     pub fn above(&self, svg: &mut Svg, top: f64) -> f64 {
         svg.text((MARGIN, top), &format!("font-weight=\"bold\" fill=\"{INK}\""), "from above: x to the right, y up");
         let paper = self.paper(top + 10.0);
-        self.paper_grid(svg, &paper);
+        paper.grid(svg);
         let leaves = (0..self.trace.nodes.len()).filter(|&node| self.trace.nodes[node].children.is_none());
         leaves.for_each(|leaf| self.leaf_fill(svg, &paper, leaf));
         for &place in &self.trace.present {
@@ -54,21 +98,6 @@ impl Picture<'_> {
         Paper {
             x: Ruler { left: MARGIN + 30.0, width, ..x },
             y: Ruler { low: -y.high, high: -y.low, left: top, width: height },
-        }
-    }
-
-    fn paper_grid(&self, svg: &mut Svg, paper: &Paper) {
-        let (x, y) = (&paper.x, &paper.y);
-        let (left, right, top, bottom) = (x.left, x.left + x.width, y.left, y.left + y.width);
-        for place in x.ticks(12) {
-            let at = x.at(place, 0.0);
-            svg.line((at, top), (at, bottom), "stroke=\"#e4e4e4\"");
-            svg.text((at, bottom + 14.0), "text-anchor=\"middle\" font-size=\"10\" fill=\"#555555\"", &tick(place));
-        }
-        for place in y.ticks(5) {
-            let at = y.at(place, 0.0);
-            svg.line((left, at), (right, at), "stroke=\"#e4e4e4\"");
-            svg.text((left - 5.0, at + 4.0), "text-anchor=\"end\" font-size=\"10\" fill=\"#555555\"", &tick(-place));
         }
     }
 

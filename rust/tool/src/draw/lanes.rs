@@ -2,7 +2,7 @@
 
 use super::axis::tick;
 use super::svg::{Rect, Svg};
-use super::{Bar, Picture, Query, GREY, INK, MARGIN, RED, ROW, WIDTH};
+use super::{Bar, Picture, Query, GREY, INK, LABELS, MARGIN, RED, ROW, WIDTH};
 use crate::field::AXES;
 use crate::number::{counted, some};
 
@@ -51,8 +51,10 @@ impl Picture<'_> {
     fn label(&self, svg: &mut Svg, node: usize, y: f64) {
         let depth = self.trace.path(node).len() - 1;
         let got = self.trace.got(node);
-        let named = some(&got);
-        let boxes = if got.is_empty() || named.len() > 14 { counted(got.len(), "box") } else { format!("box {named}") };
+        let boxes = match format!("{} {}", self.noun, some(&got)) {
+            named if !got.is_empty() && named.len() <= 18 => named,
+            _ => counted(got.len(), self.noun),
+        };
         let (colour, said) = match (self.query, self.read[node]) {
             (None, _) => (INK, ""),
             (_, Some(true)) => (INK, ", meets"),
@@ -61,7 +63,9 @@ impl Picture<'_> {
         };
         let kind = if self.trace.nodes[node].children.is_some() { "node" } else { "leaf" };
         let text = format!("{kind} {node}: {boxes}{said}");
-        let x = MARGIN + 9.0 * depth.min(8) as f64;
+        // A long label is not put so far in that it runs into the lanes.
+        let room = LABELS - MARGIN - 8.0 - 6.3 * text.chars().count() as f64;
+        let x = MARGIN + (9.0 * depth.min(8) as f64).min(room.max(0.0));
         svg.text((x, y + 14.0), &format!("font-size=\"11\" fill=\"{colour}\""), &text);
         svg.line((MARGIN, y + ROW), (WIDTH - MARGIN, y + ROW), "stroke=\"#f2f2f2\"");
     }

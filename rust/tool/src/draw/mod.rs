@@ -6,6 +6,7 @@
 mod above;
 mod axis;
 mod lanes;
+pub mod mesh;
 mod rows;
 mod svg;
 
@@ -46,6 +47,8 @@ pub struct Picture<'a> {
     pub trace: &'a Trace<'a>,
     pub account: &'a Account,
     pub query: Option<Query>,
+    /// What a row says that a node holds: `box`, or `polygon`.
+    noun: &'static str,
     /// The nodes that have a row, in preorder, and which those are.
     rows: Vec<usize>,
     shown: &'static str,
@@ -75,7 +78,7 @@ impl<'a> Picture<'a> {
         }
         let blank = Ruler { low: 0.0, high: 1.0, left: 0.0, width: 1.0 };
         let mut picture =
-            Picture { dump, trace, account, query, rows: Vec::new(), shown: "", read, rulers: [blank; 3] };
+            Picture { dump, trace, account, query, noun: "box", rows: Vec::new(), shown: "", read, rulers: [blank; 3] };
         (picture.rows, picture.shown) = picture.choose_rows();
         picture.rulers = std::array::from_fn(|axis| picture.ruler(axis));
         picture

@@ -14,9 +14,9 @@ impl Picture<'_> {
         if all <= MOST {
             return ((0..all).collect(), "");
         }
-        if self.query.is_some() {
-            let read = (0..all).filter(|&node| self.read[node].is_some());
-            return (read.take(MOST).collect(), "those that the query read first");
+        let read: Vec<usize> = (0..all).filter(|&node| self.read[node].is_some()).take(MOST).collect();
+        if !read.is_empty() {
+            return (read, "those that the query read first");
         }
         let differs = |node: &usize| (0..3).any(|axis| !self.bar(*node, axis).agrees);
         let odd: Vec<usize> = (0..all).filter(differs).take(MOST / 2).collect();

@@ -34,6 +34,13 @@ impl Svg {
         self.body += &format!("<line x1=\"{a:.1}\" y1=\"{b:.1}\" x2=\"{c:.1}\" y2=\"{d:.1}\" {look}/>\n");
     }
 
+    /// A shape of many corners, by the letters of a path; none where there are none.
+    pub fn path(&mut self, shape: &str, look: &str) {
+        if !shape.is_empty() {
+            self.body += &format!("<path d=\"{shape}\" {look}/>\n");
+        }
+    }
+
     pub fn text(&mut self, at: (f64, f64), look: &str, text: &str) {
         let (x, y) = at;
         self.body += &format!("<text x=\"{x:.1}\" y=\"{y:.1}\" {look}>{}</text>\n", escaped(text));

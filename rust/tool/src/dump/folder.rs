@@ -22,7 +22,8 @@ use crate::failure::Failure;
 use crate::output::write_folder;
 use std::path::Path;
 
-const FIRST_LINE: &str = "bounds dump 1";
+/// The first line of dump.txt.
+pub const FIRST_LINE: &str = "bounds dump 1";
 
 /// The most node records of a build: twice its entries and one.
 const MOST_NODES: usize = 65_535;
@@ -35,20 +36,24 @@ pub fn write(dump: &Dump, path: &str) -> Result<(), Failure> {
     let Dump { threshold, entries, records, .. } = dump;
     let kind = Kind::Boxes.name();
     let first = format!("{FIRST_LINE}\nkind {kind}\nthreshold {threshold}\nentries {entries}\n");
-    let order: Vec<u8> = records.order.iter().flat_map(|place| place.to_le_bytes()).collect();
-    let listing = dump.listing();
-    let mut files: Vec<(&str, Vec<u8>)> = vec![
-        ("dump.txt", first.into_bytes()),
-        ("header.bin", records.header.to_vec()),
-        ("nodes.bin", records.nodes.clone()),
-        ("trees.bin", records.trees.clone()),
-        ("order.bin", order),
-        ("listing.txt", listing.into_bytes()),
-    ];
+    let mut files: Vec<(&str, Vec<u8>)> =
+        vec![("dump.txt", first.into_bytes()), ("listing.txt", dump.listing().into_bytes())];
+    files.extend(tree_files(records));
     if let Some(boxes) = &dump.boxes {
         files.push(("boxes.bin", boxes.items.iter().flat_map(entry_bytes).collect()));
     }
     write_folder(path, &files)
+}
+
+/// The files of a tree's records.
+pub fn tree_files(records: &Records) -> [(&'static str, Vec<u8>); 4] {
+    let order = records.order.iter().flat_map(|place| place.to_le_bytes()).collect();
+    [
+        ("header.bin", records.header.to_vec()),
+        ("nodes.bin", records.nodes.clone()),
+        ("trees.bin", records.trees.clone()),
+        ("order.bin", order),
+    ]
 }
 
 fn entry_bytes(item: &bounds::BvhItem) -> Vec<u8> {
@@ -59,7 +64,19 @@ fn entry_bytes(item: &bounds::BvhItem) -> Vec<u8> {
 /// Reads a dump's files.
 pub fn read(path: &str) -> Result<Dump, Failure> {
     let file = |name: &str| Path::new(path).join(name).to_string_lossy().into_owned();
-    let (threshold, entries) = manifest(&file("dump.txt"))?;
+    let limits = [("threshold", 32_767), ("entries", 32_767)];
+    let [threshold, entries] = manifest(&file("dump.txt"), Kind::Boxes, limits)?;
+    let records = tree_records(path, entries)?;
+    let boxes = match Path::new(&file("boxes.bin")).exists() {
+        true => Some(boxes(&file("boxes.bin"), entries)?),
+        false => None,
+    };
+    Ok(Dump { name: path.into(), threshold: threshold as u32, entries, boxes, records })
+}
+
+/// The records of a tree in a folder, over so many entries.
+pub fn tree_records(path: &str, entries: usize) -> Result<Records, Failure> {
+    let file = |name: &str| Path::new(path).join(name).to_string_lossy().into_owned();
     let header = read_file(&file("header.bin"))?;
     let header =
         header.as_slice().try_into().map_err(|_| length(&file("header.bin"), header.len(), 128, "a header"))?;
@@ -74,11 +91,7 @@ pub fn read(path: &str) -> Result<Dump, Failure> {
     records.nodes = exactly(&file("nodes.bin"), 16, capacity, "records, by bytes 12-15 of header.bin")?;
     records.trees = exactly(&file("trees.bin"), 16, trees, "records, by bytes 120-121 of header.bin")?;
     records.order = order(&file("order.bin"), entries)?;
-    let boxes = match Path::new(&file("boxes.bin")).exists() {
-        true => Some(boxes(&file("boxes.bin"), entries)?),
-        false => None,
-    };
-    Ok(Dump { name: path.into(), threshold, entries, boxes, records })
+    Ok(records)
 }
 
 fn length(path: &str, found: usize, expected: usize, of: &str) -> Failure {
@@ -86,7 +99,7 @@ fn length(path: &str, found: usize, expected: usize, of: &str) -> Failure {
 }
 
 /// A file of so many parts of so many bytes.
-fn exactly(path: &str, size: usize, count: usize, of: &str) -> Result<Vec<u8>, Failure> {
+pub fn exactly(path: &str, size: usize, count: usize, of: &str) -> Result<Vec<u8>, Failure> {
     let bytes = read_file(path)?;
     let expected = size.saturating_mul(count);
     if bytes.len() != expected {
@@ -95,8 +108,14 @@ fn exactly(path: &str, size: usize, count: usize, of: &str) -> Result<Vec<u8>, F
     Ok(bytes)
 }
 
-/// The lines of dump.txt: threshold and entries.
-fn manifest(path: &str) -> Result<(u32, usize), Failure> {
+/// The kind that a folder's dump.txt names, where it names one.
+pub fn kind_of(path: &str) -> Option<Kind> {
+    let bytes = read_file(&Path::new(path).join("dump.txt").to_string_lossy()).ok()?;
+    String::from_utf8_lossy(&bytes).lines().nth(1)?.strip_prefix("kind ").and_then(Kind::of_name)
+}
+
+/// The lines of dump.txt behind its kind: a name each and a number up to a limit.
+pub fn manifest<const N: usize>(path: &str, kind: Kind, limits: [(&str, usize); N]) -> Result<[usize; N], Failure> {
     let bytes = read_file(path)?;
     let text = String::from_utf8_lossy(&bytes);
     let mut lines = text.lines().zip(1..);
@@ -111,16 +130,17 @@ fn manifest(path: &str) -> Result<(u32, usize), Failure> {
     if line != FIRST_LINE {
         return Err(wrong(at, &line, &format!("`{FIRST_LINE}`")));
     }
-    let (line, at) = next("kind boxes")?;
-    if line.strip_prefix("kind ").and_then(Kind::of_name).is_none() {
-        return Err(wrong(at, &line, "`kind boxes`, the one kind that this version knows"));
+    let (line, at) = next(&format!("kind {}", kind.name()))?;
+    if line.strip_prefix("kind ").and_then(Kind::of_name) != Some(kind) {
+        return Err(wrong(at, &line, "`kind boxes` or `kind mesh`, those that this version knows"));
     }
-    let mut number = |name: &str, most: usize| {
+    let mut numbers = [0; N];
+    for (number, (name, most)) in numbers.iter_mut().zip(limits) {
         let (line, at) = next(&format!("{name} N"))?;
         let value = line.strip_prefix(name).and_then(|rest| rest.trim().parse().ok()).filter(|&n: &usize| n <= most);
-        value.ok_or_else(|| wrong(at, &line, &format!("`{name}` and a number up to {most}")))
-    };
-    Ok((number("threshold", 32_767)? as u32, number("entries", 32_767)?))
+        *number = value.ok_or_else(|| wrong(at, &line, &format!("`{name}` and a number up to {most}")))?;
+    }
+    Ok(numbers)
 }
 
 /// The order list: at most one place an entry, and each below the entries.

@@ -1,20 +1,25 @@
 //! A dump: a tree's bytes and, where it is known, the input that they came from.
 
 mod folder;
+mod opened;
 mod records;
 
+pub use folder::{exactly, kind_of, manifest, tree_files, tree_records, FIRST_LINE};
+pub use opened::Opened;
 pub use records::Records;
 
 use crate::boxes::{Boxes, Form};
 use crate::failure::Failure;
+use crate::mesh::Given;
 use bounds::walk::{walk, Counts, Records as Lent};
 use bounds::{Tree, Vec3};
 use std::path::Path;
 
-/// What a dump holds. Meshes will be another kind.
+/// What a dump holds.
 #[derive(Clone, Copy, Debug, PartialEq, Eq)]
 pub enum Kind {
     Boxes,
+    Mesh,
 }
 
 impl Kind {
@@ -22,11 +27,12 @@ impl Kind {
     pub fn name(self) -> &'static str {
         match self {
             Kind::Boxes => "boxes",
+            Kind::Mesh => "mesh",
         }
     }
 
     fn of_name(name: &str) -> Option<Kind> {
-        [Kind::Boxes].into_iter().find(|kind| kind.name() == name)
+        [Kind::Boxes, Kind::Mesh].into_iter().find(|kind| kind.name() == name)
     }
 }
 
@@ -48,6 +54,8 @@ pub struct Loading {
     /// Of a file of boxes; a folder has its own.
     pub threshold: Option<u32>,
     pub form: Option<Form>,
+    /// Of a file with a mesh; a folder has its own.
+    pub mesh: Given,
 }
 
 /// What a walk over a dump's bytes handed out.

@@ -23,10 +23,14 @@ impl Explainer<'_> {
         let word = words(&self.trace.items[place])[value];
         let origin = self.origin(place, value);
         if places.len() == 1 {
-            return vec![Step::new(&[T1], format!("fold of {name} over box {place}: {}", both(word))).note(origin)];
+            let text = format!("fold of {name} over {}: {}", self.named(place), both(word));
+            let mut steps = vec![Step::new(&[T1], text).note(origin)];
+            steps.extend(self.beneath(place, value));
+            return steps;
         }
         let mut steps = self.fold_shown(places, value);
-        steps.push(Step::new(&[T1, F4], format!("so {name} is box {place}'s: {}", both(word))).note(origin));
+        steps.push(Step::new(&[T1, F4], format!("so {name} is {}'s: {}", self.named(place), both(word))).note(origin));
+        steps.extend(self.beneath(place, value));
         steps
     }
 
@@ -37,26 +41,34 @@ impl Explainer<'_> {
         let mut steps = Vec::new();
         if places.len() <= SHOWN {
             let list = |of: &[u32]| of.iter().map(show).collect::<Vec<_>>().join(", ");
-            let boxes = crate::number::some(places);
-            steps.push(Step::new(&[T1, F3], format!("fold of {name} over boxes {boxes}: {}", list(&given))));
+            let boxes = self.boxes_named(places);
+            steps.push(Step::new(&[T1, F3], format!("fold of {name} over {boxes}: {}", list(&given))));
             steps.push(Step::new(&[], format!("after each: {}", list(&fold::steps(self.trace.items, places, value)))));
         } else {
-            let count = counted(places.len(), "box");
+            let count = counted(places.len(), self.noun());
             steps.push(Step::new(&[T1, F3], format!("fold of {name} over {count}, in the order it got them")));
         }
         let last_nan = given.iter().rposition(|&word| f32::from_bits(word).is_nan());
         if let Some(at) = last_nan {
             let wiped =
                 if at == 0 { "comes first".into() } else { format!("wipes the {} before it", counted(at, "value")) };
-            let note = format!("the NaN of box {} {wiped}; what follows starts anew", places[at]);
+            let note = format!("the NaN of {} {wiped}; what follows starts anew", self.named(places[at]));
             steps.push(Step::new(&[F3], note).note(self.origin(places[at], value)));
         }
         steps
     }
 
+    /// What a value of an entry's box comes from, where that is no input.
+    fn beneath(&self, place: usize, value: usize) -> Vec<Step> {
+        self.mesh.map_or(Vec::new(), |mesh| mesh.box_steps(place, value))
+    }
+
     /// Where one of an entry's six values stands in the input.
     pub fn origin(&self, place: usize, value: usize) -> String {
-        self.boxes.origin.value(place, CORNERS[value / 3], AXES[value % 3])
+        match self.mesh {
+            Some(_) => String::new(), // what is beneath says it
+            None => self.boxes.origin.value(place, CORNERS[value / 3], AXES[value % 3]),
+        }
     }
 }
 

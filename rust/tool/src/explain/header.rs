@@ -22,10 +22,11 @@ impl Explainer<'_> {
 
     fn node_count(&self) -> Vec<Step> {
         let leaves = self.trace.nodes.iter().filter(|node| node.children.is_none()).count();
-        let (present, nodes) = (counted(self.trace.present.len(), "present box"), self.trace.nodes.len());
+        let (present, nodes) =
+            (counted(self.trace.present.len(), &format!("present {}", self.noun())), self.trace.nodes.len());
         vec![
             Step::new(&[T9], format!("{} of {} entries", present, self.trace.items.len())),
-            Step::new(&[T8], format!("leaves of at most {} boxes: {leaves}", self.trace.threshold)),
+            Step::new(&[T8], format!("leaves of at most {}: {leaves}", counted(self.trace.threshold, self.noun()))),
             Step::new(&[R10], format!("with the inner nodes, one fewer: {nodes}")),
         ]
     }

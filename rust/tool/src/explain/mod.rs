@@ -2,6 +2,7 @@
 
 mod fold;
 mod header;
+pub mod mesh;
 mod node;
 mod order;
 pub mod query;
@@ -9,6 +10,7 @@ mod split;
 mod tree;
 
 pub use fold::value_name;
+pub use mesh::MeshExplainer;
 
 use crate::boxes::Boxes;
 use crate::dump::Records;
@@ -43,6 +45,8 @@ pub struct Explainer<'a> {
     pub boxes: &'a Boxes,
     pub trace: &'a Trace<'a>,
     pub records: &'a Records,
+    /// Of the tree over a mesh's polygons: how these came to their boxes.
+    pub mesh: Option<&'a MeshExplainer<'a>>,
 }
 
 impl Step {
@@ -57,6 +61,21 @@ impl Step {
 }
 
 impl<'a> Explainer<'a> {
+    /// What the tree is over. Polygons are known by their numbers in the mesh: their places in the prepared list follow from
+    /// the tree.
+    pub fn noun(&self) -> &'static str {
+        if self.mesh.is_some() {
+            "given polygon"
+        } else {
+            "box"
+        }
+    }
+
+    /// `box 3`, `given polygon 3`.
+    pub fn named(&self, place: usize) -> String {
+        format!("{} {place}", self.noun())
+    }
+
     /// The explanation of a field that the records have.
     pub fn field(&self, field: Field) -> Explanation {
         let steps = match field {

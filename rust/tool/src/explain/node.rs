@@ -3,7 +3,7 @@
 use super::split::is_second;
 use super::{fold::value_name, Explainer, Step};
 use crate::field::{Field, InRecord};
-use crate::number::{counted, float, place, some};
+use crate::number::{counted, float, place, plural, some};
 use crate::rules::Rule::*;
 use crate::trace::scale::Quantised;
 use bounds::premises::{Axis, Corner};
@@ -22,9 +22,9 @@ impl Explainer<'_> {
     /// `box 0`, `boxes 1,3,4`, `no box`.
     pub fn boxes_named(&self, places: &[usize]) -> String {
         match places {
-            [] => "no box".into(),
-            [one] => format!("box {one}"),
-            _ => format!("boxes {}", some(places)),
+            [] => format!("no {}", self.noun()),
+            [one] => self.named(*one),
+            _ => format!("{} {}", plural(self.noun()), some(places)),
         }
     }
 
@@ -113,11 +113,14 @@ impl Explainer<'_> {
             return Step::new(&[R11], text);
         }
         let text = match (self.trace.threshold, node.items) {
-            (_, 0) => "a leaf without a box has id 0".to_string(),
+            (_, 0) => format!("a leaf without a {} has id 0", self.noun()),
             (1, _) => {
                 format!("a leaf's id is its first position; at threshold 1 that is the list place: {}", node.first)
             }
-            _ => format!("a leaf's id is its first position; the leaves before it hold {}", counted(node.first, "box")),
+            _ => {
+                let before = counted(node.first, self.noun());
+                format!("a leaf's id is its first position; the leaves before it hold {before}")
+            }
         };
         Step::new(&[R11, R16], text)
     }
@@ -126,8 +129,12 @@ impl Explainer<'_> {
         let node = &self.trace.nodes[k];
         let threshold = self.trace.threshold;
         let text = match node.children {
-            Some(_) => format!("an inner node ({} > threshold {threshold}) has count 0", counted(node.items, "box")),
-            None => format!("a leaf has at most {threshold}, and its count is its boxes: {}", node.items),
+            Some(_) => {
+                format!("an inner node ({} > threshold {threshold}) has count 0", counted(node.items, self.noun()))
+            }
+            None => {
+                format!("a leaf has at most {threshold}, and its count is its {}: {}", plural(self.noun()), node.items)
+            }
         };
         Step::new(&[T8, R11], text)
     }

@@ -12,7 +12,8 @@ impl Explainer<'_> {
             _ => self.leaf_after_leaf(k, place),
         };
         let word = bytes(&(place as u16).to_le_bytes());
-        steps.push(Step::new(&[R1, R13], format!("bytes {word}")).note(self.boxes.origin.entry(place)));
+        let origin = self.mesh.map_or_else(|| self.boxes.origin.entry(place), |mesh| mesh.origin.polygon(place));
+        steps.push(Step::new(&[R1, R13], format!("bytes {word}")).note(origin));
         steps
     }
 
@@ -29,8 +30,10 @@ impl Explainer<'_> {
         let mut steps = self.path_steps(leaf);
         let nth = k - node.first;
         let text = format!(
-            "the leaves before node {leaf} hold {}; of its {} this is number {nth}: box {place}",
-            node.first, node.items
+            "the leaves before node {leaf} hold {}; of its {} this is number {nth}: {}",
+            node.first,
+            node.items,
+            self.named(place)
         );
         steps.push(Step::new(&[R13, R16], text));
         steps

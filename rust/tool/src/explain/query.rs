@@ -30,7 +30,9 @@ impl Explainer<'_> {
         let mut steps = vec![Step::new(&[W1, F9], format!("the query in records: {}", span_words(&walked.span)))];
         let leaf = asked.dump.leaves()[asked.item];
         match leaf {
-            None => steps.push(Step::new(&[T9, R16], format!("no leaf of the records holds box {}", asked.item))),
+            None => {
+                steps.push(Step::new(&[T9, R16], format!("no leaf of the records holds {}", self.named(asked.item))))
+            }
             Some(leaf) => steps.extend(self.readings(asked, &walked, leaf, accounted)),
         }
         if let Some(leaf) = leaf {
@@ -38,7 +40,8 @@ impl Explainer<'_> {
         }
         let (reads, out) = (counted(walked.readings.len(), "record"), counted(walked.positions.len(), "position"));
         steps.push(Step::new(&[W3, W5, W7], format!("in all {reads} read, {out} handed out")));
-        let heading = verdict(asked, self.trace.items[asked.item].present != 0, meets, handed);
+        let name = self.mesh.map_or_else(|| self.named(asked.item), |mesh| mesh.prepared_name(asked.item));
+        let heading = verdict(&name, self.trace.items[asked.item].present != 0, meets, handed);
         (Explanation { of: format!("query item {}", asked.item), heading, steps, bytes: None }, walked.readings.len())
     }
 
@@ -71,7 +74,7 @@ impl Explainer<'_> {
         let (low, high) = (stands(node.min[axis]), stands(node.max[axis]));
         let (name, is) = (["x", "y", "z"][axis], format!("{}..{}", float(v[axis]), float(v[axis + 3])));
         let whose = if node.item_count > 1 {
-            format!("the record of its {} boxes", node.item_count)
+            format!("the record of its {}", counted(node.item_count as usize, self.noun()))
         } else {
             "its record".into()
         };
@@ -119,7 +122,7 @@ impl Explainer<'_> {
         let value = 3 * corner as usize + axis as usize;
         let v = f32::from_bits(self.trace.nodes[node].bounds[value]);
         let whose = match self.trace.source(node, corner, axis) {
-            Some(place) => format!("box {place}'s {} {}", value_name(value), float(v)),
+            Some(place) => format!("{}'s {} {}", self.named(place), value_name(value), float(v)),
             None => format!("the fold's start {}", float(v)),
         };
         let how = match quantised.wrapped() {
@@ -177,17 +180,16 @@ pub fn first_miss(dump: &Dump, walked: &Walked, leaf: usize) -> Option<Reading> 
     way(dump, walked, leaf).into_iter().find(|reading| reading.miss().is_some()).copied()
 }
 
-fn verdict(asked: &Asked, present: bool, meets: bool, handed: bool) -> String {
-    let item = asked.item;
+fn verdict(item: &str, present: bool, meets: bool, handed: bool) -> String {
     match (present, meets, handed) {
-        (false, _, false) => format!("box {item} is absent ({T9}) and is not handed out"),
-        (false, _, true) => format!("box {item} is absent ({T9}), and the records hand it out: no build does that"),
-        (_, true, true) => format!("box {item} meets the query as floats ({W2}) and is handed out"),
-        (_, true, false) => format!("box {item} meets the query as floats ({W2}) and is NOT handed out"),
+        (false, _, false) => format!("{item} is absent ({T9}) and is not handed out"),
+        (false, _, true) => format!("{item} is absent ({T9}), and the records hand it out: no build does that"),
+        (_, true, true) => format!("{item} meets the query as floats ({W2}) and is handed out"),
+        (_, true, false) => format!("{item} meets the query as floats ({W2}) and is NOT handed out"),
         (_, false, true) => {
-            format!("box {item} does not meet the query as floats ({W2}) and is handed out: its leaf's record meets")
+            format!("{item} does not meet the query as floats ({W2}) and is handed out: its leaf's record meets")
         }
-        (_, false, false) => format!("box {item} does not meet the query as floats ({W2}) and is not handed out"),
+        (_, false, false) => format!("{item} does not meet the query as floats ({W2}) and is not handed out"),
     }
 }
 

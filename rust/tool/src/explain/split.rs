@@ -16,14 +16,14 @@ impl Explainer<'_> {
     /// A split in half a line, and its rules: `6 boxes by x at 5.5: 3,4,5 | 0,1,2`.
     pub fn split_in_words(&self, node: usize) -> (String, Vec<Rule>) {
         let Some(split) = self.trace.split(node) else { return ("a leaf".into(), vec![T8]) };
-        (split_words(&split), split_rules(&split))
+        (self.split_words(&split), split_rules(&split))
     }
 
     /// The whole of a node's split.
     pub fn split(&self, node: usize) -> Option<Explanation> {
         let split = self.trace.split(node)?;
         let n = split.one.len() + split.two.len();
-        let heading = format!("the split at node {node}: {}", split_words(&split));
+        let heading = format!("the split at node {node}: {}", self.split_words(&split));
         let mut steps = self.path_steps(node);
         let average = split.average.map(float).join(", ");
         steps.push(Step::new(
@@ -50,6 +50,20 @@ impl Explainer<'_> {
     }
 }
 
+impl Explainer<'_> {
+    /// The groups in the order of the children, and how they came to be.
+    fn split_words(&self, split: &Split) -> String {
+        let n = counted(split.one.len() + split.two.len(), self.noun());
+        let axis = AXES[split.axis];
+        let [first, second] = split.clone().children();
+        let how = match split.sorted {
+            true => format!("sorted ({} of {axis} above)", split.above),
+            false => format!("by {axis} at {}", float(split.average[split.axis])),
+        };
+        format!("{n} {how}: {} | {}", some(&first), some(&second))
+    }
+}
+
 fn leads(split: &Split) -> String {
     match split.two_leads() {
         true => format!("group two has more ({} > {}): it is the first child", split.two.len(), split.one.len()),
@@ -57,18 +71,6 @@ fn leads(split: &Split) -> String {
             format!("group two has no more ({} <= {}): group one is the first child", split.two.len(), split.one.len())
         }
     }
-}
-
-/// The groups in the order of the children, and how they came to be.
-pub fn split_words(split: &Split) -> String {
-    let n = counted(split.one.len() + split.two.len(), "box");
-    let axis = AXES[split.axis];
-    let [first, second] = split.clone().children();
-    let how = match split.sorted {
-        true => format!("sorted ({} of {axis} above)", split.above),
-        false => format!("by {axis} at {}", float(split.average[split.axis])),
-    };
-    format!("{n} {how}: {} | {}", some(&first), some(&second))
 }
 
 pub fn split_rules(split: &Split) -> Vec<Rule> {

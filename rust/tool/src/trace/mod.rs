@@ -3,6 +3,7 @@
 
 pub mod fold;
 mod grow;
+pub mod mesh;
 pub mod scale;
 pub mod split;
 pub mod walk;

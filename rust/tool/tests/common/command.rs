@@ -48,9 +48,37 @@ impl Folder {
         format!("$ bounds {line}\n{said}{status}\n")
     }
 
+    /// [`Folder::log`] of a command that says much: its first and last lines, how many there are, and a sum of all; of a long
+    /// line its beginning.
+    pub fn cut_log(&self, line: &str) -> String {
+        const LINES: (usize, usize) = (24, 6);
+        const LETTERS: usize = 200;
+        let log = self.log(line);
+        let sum = log.bytes().fold(0xCBF2_9CE4_8422_2325u64, |sum, b| (sum ^ b as u64).wrapping_mul(0x100_0000_01B3));
+        let lines: Vec<&str> = log.lines().collect();
+        let (few, short) = (lines.len() <= LINES.0 + LINES.1 + 2, lines.iter().all(|line| line.len() <= LETTERS));
+        if few && short {
+            return log;
+        }
+        let cut = |line: &&str| match line.char_indices().nth(LETTERS) {
+            Some((at, _)) => format!("{} [.. {} letters]\n", &line[..at], line.chars().count()),
+            None => format!("{line}\n"),
+        };
+        let (first, last) = if few { (lines.len(), 0) } else { LINES };
+        let head: String = lines[..first].iter().map(cut).collect();
+        let tail: String = lines[lines.len() - last..].iter().map(cut).collect();
+        let left_out = if few { String::new() } else { format!("[.. {} lines]\n", lines.len() - first - last) };
+        format!("{head}{left_out}{tail}[sum {sum:016X}]\n\n")
+    }
+
     /// Names in the folder, hidden ones too.
     pub fn names(&self) -> Vec<String> {
-        let entries = std::fs::read_dir(&self.0).expect("the folder");
+        self.names_in("")
+    }
+
+    /// Names in a folder in it.
+    pub fn names_in(&self, folder: &str) -> Vec<String> {
+        let entries = std::fs::read_dir(self.0.join(folder)).expect("the folder");
         let mut names: Vec<String> =
             entries.map(|entry| entry.expect("an entry").file_name().to_string_lossy().into_owned()).collect();
         names.sort();

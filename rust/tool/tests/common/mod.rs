@@ -2,6 +2,8 @@
 #![allow(dead_code)] // each test takes what it needs
 
 pub mod command;
+pub mod mesh;
+pub mod terrain;
 
 use bounds::{BvhItem, Vec3};
 
@@ -61,7 +63,7 @@ pub enum Spread {
     Same(f32),
 }
 
-fn value(random: &mut Random, spread: Spread) -> f32 {
+pub fn value(random: &mut Random, spread: Spread) -> f32 {
     match spread {
         Spread::Small => random.below(17) as f32 - 8.0,
         Spread::Street => random.below(2_000_000) as f32 * 0.001 - 1000.0,
