@@ -105,4 +105,7 @@ fn a_terrain_with_a_nan() {
     ];
     let log: String = lines.iter().map(|line| folder.cut_log(line)).collect();
     expect("hole.log", &log);
+    // Each asked for at its place here; the comparison asks at the places of the other, too.
+    let drawn = std::fs::read_to_string(folder.0.join("hole.svg")).expect("a picture");
+    assert!(drawn.contains("1630 of 3040 polygons LOST"));
 }

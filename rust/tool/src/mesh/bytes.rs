@@ -1,7 +1,6 @@
 //! The bytes of a prepared mesh, part by part as a folder has them, and the values that they stand for.
 
 use crate::dump::Records;
-use crate::failure::Failure;
 use bounds::bvh::BuiltTree;
 use bounds::prepare::{PreparedTree, Quantised};
 use bounds::{tree_header, BoundMaterial, BoundVertex, Geometry, Octants, Prepared, Refusal, Vec3};
@@ -114,21 +113,6 @@ impl Parts {
         let (start, n) = (self.octant_start(k), self.octant_count(k));
         let list = self.octants.get(start..start + 4 * n).unwrap_or_default();
         list.chunks_exact(4).map(|index| word(index, 0)).collect()
-    }
-
-    /// Whether the counts are those of as many bytes as there are.
-    pub fn check_octants(&self, path: &str) -> Result<(), Failure> {
-        let n = self.octants.len();
-        if n < COUNTS {
-            return Err(Failure::File(format!("{path}: {n} bytes; expected {COUNTS} at least: eight counts")));
-        }
-        let all: u64 = (0..8).map(|k| self.octant_count(k) as u64).sum();
-        let expected = COUNTS as u64 + 4 * all;
-        if n as u64 != expected {
-            let words = format!("{path}: {n} bytes; expected {expected}: {all} indices by the counts in bytes 0-31");
-            return Err(Failure::File(words));
-        }
-        Ok(())
     }
 }
 

@@ -23,7 +23,7 @@
 //! All numbers are little-endian. mesh.txt may be missing, where only a builder's records are at hand; listing.txt is for
 //! people and is not read.
 
-use super::bytes::{Parts, FRAME};
+use super::bytes::{word, Parts, COUNTS, FRAME};
 use super::{items, text, Given, Mesh};
 use crate::boxes::{self, read_file, Boxes};
 use crate::dump::{exactly, manifest, tree_files, tree_records, Dump, Kind};
@@ -58,14 +58,6 @@ impl MeshFolder {
         let prepared = geometry.prepare().map_err(|refusal| refused(name, geometry, refusal))?;
         let parts = Parts::of(geometry.kind, &prepared)?;
         Ok(MeshFolder { name: name.into(), mesh: Some(mesh), parts, prepared })
-    }
-
-    /// A folder that `bounds prepare` wrote, or a file with a mesh, which is prepared.
-    pub fn load(path: &str, given: Given) -> Result<MeshFolder, Failure> {
-        if Path::new(path).is_dir() {
-            return MeshFolder::read(path);
-        }
-        MeshFolder::prepare(path, Mesh::read(path, given)?)
     }
 
     /// Its input, without which nothing can be explained.
@@ -141,39 +133,7 @@ impl MeshFolder {
             true => Some(Mesh::of_bytes(&file("mesh.txt"), &read_file(&file("mesh.txt"))?, Given::default())?),
             false => None,
         };
-        let (p, v, plain) = (first.polygons, first.vertices, first.bound == Geometry::PLAIN);
-        let part = |name: &str, size: usize, count: usize, of: &str| {
-            exactly(&file(name), size, count, &format!("{of}, by dump.txt"))
-        };
-        let shrunk = if plain { v } else { 0 };
-        let shrunk_part = |name: &str, size: usize| match shrunk {
-            0 => Ok(Vec::new()),
-            n => part(name, size, n, "vertices"),
-        };
-        let parts = Parts {
-            kind: first.bound,
-            polygons_count: p,
-            vertices_count: v,
-            materials_count: first.materials,
-            frame: exactly(&file("frame.bin"), 4, FRAME / 4, "floats")?,
-            polygons: part("polygons.bin", 16, p, "polygons")?,
-            materials: part("materials.bin", 8, first.materials.max(4), "materials, filled up to four")?,
-            indices: part("indices.bin", 1, p, "polygons")?,
-            vertices: part("vertices.bin", 6, v, "vertices")?,
-            floats: part("floats.bin", 12, v, "vertices")?,
-            shrunk: shrunk_part("shrunk.bin", 6)?,
-            shrunk_floats: shrunk_part("shrunk_floats.bin", 12)?,
-            octants: if plain { read_file(&file("octants.bin"))? } else { Vec::new() },
-            tree: if !plain && p > 0 { Some(tree_records(path, p)?) } else { None },
-        };
-        if let Some(records) = parts.tree.as_ref().filter(|records| records.order.len() != p) {
-            let n = 2 * records.order.len();
-            let words = format!("{}: {n} bytes; expected {}: {p} polygons, by dump.txt", file("order.bin"), 2 * p);
-            return Err(Failure::File(words));
-        }
-        if plain {
-            parts.check_octants(&file("octants.bin"))?;
-        }
+        let parts = read_parts(path, &first)?;
         let found = MeshFolder { name: path.into(), mesh, prepared: parts.prepared(), parts };
         found.belongs_together(&file("dump.txt"))?;
         Ok(found)
@@ -192,6 +152,60 @@ impl MeshFolder {
         let words = format!("{path}: {}, but mesh.txt has {}; expected one mesh", words(said), words(found));
         Err(Failure::File(words))
     }
+}
+
+/// The files of a folder that has what its first one says.
+fn read_parts(path: &str, first: &First) -> Result<Parts, Failure> {
+    let file = |name: &str| Path::new(path).join(name).to_string_lossy().into_owned();
+    let part = |name: &str, size: usize, count: usize, of: &str| {
+        exactly(&file(name), size, count, &format!("{of}, by dump.txt"))
+    };
+    let &First { bound, polygons: p, vertices: v, materials } = first;
+    let plain = bound == Geometry::PLAIN;
+    let shrunk = |name: &str, size: usize| match plain && v > 0 {
+        true => part(name, size, v, "vertices"),
+        false => Ok(Vec::new()),
+    };
+    let parts = Parts {
+        kind: bound,
+        polygons_count: p,
+        vertices_count: v,
+        materials_count: materials,
+        frame: exactly(&file("frame.bin"), 4, FRAME / 4, "floats")?,
+        polygons: part("polygons.bin", 16, p, "polygons")?,
+        materials: part("materials.bin", 8, materials.max(4), "materials, filled up to four")?,
+        indices: part("indices.bin", 1, p, "polygons")?,
+        vertices: part("vertices.bin", 6, v, "vertices")?,
+        floats: part("floats.bin", 12, v, "vertices")?,
+        shrunk: shrunk("shrunk.bin", 6)?,
+        shrunk_floats: shrunk("shrunk_floats.bin", 12)?,
+        octants: if plain { read_octants(&file("octants.bin"))? } else { Vec::new() },
+        tree: if !plain && p > 0 { Some(tree_records(path, p)?) } else { None },
+    };
+    match &parts.tree {
+        Some(records) if records.order.len() != p => {
+            let (n, expected) = (2 * records.order.len(), 2 * p);
+            let words = format!("{}: {n} bytes; expected {expected}: {p} polygons, by dump.txt", file("order.bin"));
+            Err(Failure::File(words))
+        }
+        _ => Ok(parts),
+    }
+}
+
+/// Octants whose counts are those of as many bytes as there are.
+fn read_octants(path: &str) -> Result<Vec<u8>, Failure> {
+    let bytes = read_file(path)?;
+    let n = bytes.len();
+    let Some(counts) = bytes.get(..COUNTS) else {
+        return Err(Failure::File(format!("{path}: {n} bytes; expected {COUNTS} at least: eight counts")));
+    };
+    let all: u64 = counts.chunks_exact(4).map(|count| word(count, 0) as u64).sum();
+    let expected = COUNTS as u64 + 4 * all;
+    if n as u64 != expected {
+        let words = format!("{path}: {n} bytes; expected {expected}: {all} indices by the counts in bytes 0-31");
+        return Err(Failure::File(words));
+    }
+    Ok(bytes)
 }
 
 /// A refusal, what the mesh is, and what of it is to be changed.
