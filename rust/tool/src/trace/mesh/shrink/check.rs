@@ -24,7 +24,7 @@ impl Ray {
         let (first, second) = (sub(b, a), sub(c, a));
         let across = cross(self.to, second);
         let det = dot(first, across);
-        if det.abs() < 1e-6 {
+        if det.abs() < FLAT {
             return None;
         }
         let inverse = 1.0 / det;
@@ -44,9 +44,58 @@ impl Ray {
     }
 }
 
+/// A ray along a triangle's plane does not meet it.
+const FLAT: f32 = 1e-6;
+
+/// So many triangles at once.
+const LANES: usize = 8;
+
+/// A corner and two sides of triangles, number by number: most of a ray's time goes into passing over triangles.
+struct Rows {
+    corner: [Vec<f32>; 3],
+    first: [Vec<f32>; 3],
+    second: [Vec<f32>; 3],
+}
+
+impl Rows {
+    fn of(triangles: &[Triangle], points: &[Point]) -> Rows {
+        let corners = |t: &Triangle| if t.whole { t.corners.map(|corner| points[corner]) } else { [[0.0; 3]; 3] };
+        let all: Vec<[Point; 3]> = triangles.iter().map(corners).collect();
+        let filled = all.len().next_multiple_of(LANES);
+        let column = |of: &dyn Fn(&[Point; 3]) -> f32| {
+            let mut column: Vec<f32> = all.iter().map(of).collect();
+            column.resize(filled, 0.0);
+            column
+        };
+        Rows {
+            corner: std::array::from_fn(|axis| column(&|t| t[0][axis])),
+            first: std::array::from_fn(|axis| column(&|t| t[1][axis] - t[0][axis])),
+            second: std::array::from_fn(|axis| column(&|t| t[2][axis] - t[0][axis])),
+        }
+    }
+
+    /// Which of the triangles from here on pass the first two steps of [`Ray::meets`], which are the same here.
+    fn near(&self, ray: &Ray, from: usize) -> [bool; LANES] {
+        let part = |of: &[Vec<f32>; 3]| -> [[f32; LANES]; 3] {
+            std::array::from_fn(|axis| std::array::from_fn(|lane| of[axis][from + lane]))
+        };
+        let (corner, first, second) = (part(&self.corner), part(&self.first), part(&self.second));
+        let [x, y, z] = ray.to;
+        std::array::from_fn(|lane| {
+            let at = |of: &[[f32; LANES]; 3]| -> Point { [of[0][lane], of[1][lane], of[2][lane]] };
+            let across = cross([x, y, z], at(&second));
+            let det = dot(at(&first), across);
+            let u = dot(sub(ray.from, at(&corner)), across) * (1.0 / det);
+            // Where the first is a NaN, u is one too and fails.
+            (det.abs() >= FLAT) & (u >= 0.0) & (u <= 1.0)
+        })
+    }
+}
+
 impl Shrinking {
     /// The first that fails of vertices moved to these points: vertex after vertex, triangle after triangle.
     pub(super) fn failed(&self, points: &[Point]) -> Option<Failed> {
+        let rows = [Rows::of(&self.triangles, &self.vertices), Rows::of(&self.triangles, points)];
         (0..points.len()).find_map(|vertex| {
             let back = sub(self.vertices[vertex], points[vertex]);
             let length = length(back);
@@ -54,7 +103,12 @@ impl Shrinking {
                 return None;
             }
             let ray = Ray { from: points[vertex], to: scale(back, 1.0 / length), length };
-            self.triangles.iter().find_map(|triangle| self.stopped(vertex, triangle, &ray, points))
+            (0..self.triangles.len()).step_by(LANES).find_map(|from| {
+                let near = [rows[0].near(&ray, from), rows[1].near(&ray, from)];
+                let lanes = self.triangles[from..].iter().take(LANES).enumerate();
+                let mut looked = lanes.filter(|(lane, triangle)| near[0][*lane] || near[1][*lane] || !triangle.whole);
+                looked.find_map(|(_, triangle)| self.stopped(vertex, triangle, &ray, points))
+            })
         })
     }
 
