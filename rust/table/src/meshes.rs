@@ -123,7 +123,7 @@ fn number(p: &Polygon) -> u8 {
     }
 }
 
-fn input(g: &Geometry) -> Vec<u8> {
+pub fn input(g: &Geometry) -> Vec<u8> {
     let mut out = Vec::new();
     words(&mut out, [g.kind as u32, g.polygons.len() as u32, g.vertices.len() as u32, g.materials.len() as u32]);
     let frame = [g.box_min, g.box_max, g.box_center, g.sphere_center];
@@ -196,7 +196,7 @@ fn listing(kind: u8, p: &Prepared) -> String {
 }
 
 /// What is printed for an input that holds this geometry, or is damaged.
-fn printed(g: &Geometry, input: &[u8]) -> String {
+pub fn printed(g: &Geometry, input: &[u8]) -> String {
     let whole = 148 + 8 * g.materials.len() + 12 * g.vertices.len() + 17 * g.polygons.len();
     let records = input.get(whole.wrapping_sub(17 * g.polygons.len())..).unwrap_or_default();
     let unknown = records.chunks_exact(16).take(g.polygons.len()).any(|record| read(record).is_err());
