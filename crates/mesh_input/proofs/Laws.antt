@@ -48,7 +48,7 @@ all-words bytes k before words i n c h =
 
 -- ---- an input that is not refused
 
-passed : (a b c : Bool) → cond a 1 (cond b 13 (cond c 0 13)) ≡ 0 → (a ≡ false) × (b ≡ false) × (c ≡ true)
+passed : (a b c : Bool) → cond {A = ℕ} a 1 (cond b 13 (cond c 0 13)) ≡ 0 → (a ≡ false) × (b ≡ false) × (c ≡ true)
 passed true b c e = absurd (omega arith)
 passed false true c e = absurd (omega arith)
 passed false false true e = (refl, refl, refl)
@@ -58,4 +58,4 @@ pub not-refused : (bytes : List ℕ) → refusalOf bytes ≡ 0 → Whole bytes
 unfolding refusalOf
 not-refused bytes e =
     let p = passed (ltb 8192 (length bytes)) (ltb (length bytes) 148) (eqb (lengthOf (countsOf bytes)) (length bytes)) e in
-    record { few = ltb-false 8192 (length bytes) (p .0); size = eqb-true (lengthOf (countsOf bytes)) (length bytes) (p .1 .1) }
+    record { few = ltb-false 8192 (length bytes) (p .0); size = eqb-true (lengthOf (countsOf bytes)) (length bytes) (p .2) }

@@ -1,0 +1,63 @@
+-- `bound_of`: each part where it stands.
+use borrow.Author.Needs.{needs}
+use Rattle.mesh_input.proofs.bound_of.Statement.{statement}
+use Rattle.mesh_input.proofs.bound_of.Tie as tie
+use Rattle.mesh_input.proofs.bound_of.Reads as reads
+use Rattle.mesh_input.proofs.bound_of.Lts as lts
+use Rattle.base.proofs.little_endian.word_at.Reads as word-at-reads
+use Rattle.math.proofs.words3.values.Reads as values-reads
+use Rattle.mesh_input.proofs.float_at.Reads as float-at-reads
+use Rattle.mesh_input.proofs.frame_of.Reads as frame-of-reads
+use Rattle.mesh_input.proofs.transform_of.Reads as transform-of-reads
+use Rattle.mesh_input.proofs.words3_at.Reads as words3-at-reads
+use mathlib.Core.Path.{ap, _∙_}
+use Rattle.math.specs.Stored.{valuesOf}
+use Rattle.mesh_input.specs.Input.{boundOf}
+
+-- src/lib.rt:77:15
+word-at-requires : tie.Need-word-at-requires
+word-at-requires c κs = search needs
+
+-- src/lib.rt:78:16
+frame-of-requires : tie.Need-frame-of-requires
+frame-of-requires c κs = search needs
+
+-- src/lib.rt:79:17
+float-at-requires : tie.Need-float-at-requires
+float-at-requires c κs = search needs
+
+-- src/lib.rt:80:38
+words3-at-requires : tie.Need-words3-at-requires
+words3-at-requires c κs = search needs
+
+-- src/lib.rt:80:17
+values-requires : tie.Need-values-requires
+values-requires c κs = search needs
+
+-- src/lib.rt:81:20
+transform-of-requires : tie.Need-transform-of-requires
+transform-of-requires c κs = search needs
+
+-- src/lib.rt:72:1
+returns : tie.Need-returns
+unfolding boundOf
+returns c =
+    λ i. record {
+      kind = c .before .before .before .before .before .word-at .ensures i;
+      frame = c .before .before .before .before .frame-of .ensures i;
+      margin = c .before .before .before .float-at .ensures i;
+      center = (c .before .values .ensures ∙ ap valuesOf (c .before .before .words3-at .ensures)) i;
+      transform = c .transform-of .ensures i;
+    }
+
+pub bound-of-spec : {M : Type 1} → statement M
+bound-of-spec =
+    tie.close
+    (tie.spec
+    word-at-requires
+    frame-of-requires
+    float-at-requires
+    words3-at-requires
+    values-requires
+    transform-of-requires
+    returns)

@@ -1,0 +1,25 @@
+-- `float_at`: the float of a word.
+use borrow.Author.Needs.{needs}
+use Rattle.mesh_input.proofs.float_at.Statement.{statement}
+use Rattle.mesh_input.proofs.float_at.Tie as tie
+use Rattle.mesh_input.proofs.float_at.Reads as reads
+use Rattle.mesh_input.proofs.float_at.Lts as lts
+use Rattle.base.proofs.little_endian.word_at.Reads as word-at-reads
+use Rattle.float32.proofs.words.value.Reads as value-reads
+use Rattle.mesh_input.specs.Input.{floatAt}
+
+-- src/lib.rt:31:11
+word-at-requires : tie.Need-word-at-requires
+word-at-requires c κs = search needs
+
+-- src/lib.rt:31:5
+value-requires : tie.Need-value-requires
+value-requires c κs = search needs
+
+-- src/lib.rt:27:1
+returns : tie.Need-returns
+unfolding floatAt
+returns c = cc
+
+pub float-at-spec : {M : Type 1} → statement M
+float-at-spec = tie.close (tie.spec word-at-requires value-requires returns)
