@@ -1,6 +1,4 @@
 // The dump of a prepared mesh: an input is read, its mesh is prepared, and every output is printed in hexadecimal.
-pub mod hex;
-pub mod lines;
 pub mod preparing;
 pub mod printing;
 pub mod run;

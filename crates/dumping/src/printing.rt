@@ -1,5 +1,4 @@
 // The dump of what preparing answered.
-use crate::lines::refused_line;
 use crate::sections::hull_lines;
 use crate::sections::lists_lines;
 use crate::sections::no_octants_line;
@@ -8,6 +7,7 @@ use crate::sections::octants_line;
 use crate::sections::tree_line;
 use crate::sections::tree_lines;
 use crate::sections::values_lines;
+use hex_lines::lines::refused_line;
 use meshes::Counts;
 use meshes::PrepareRefusal;
 use prepared::Prepare;

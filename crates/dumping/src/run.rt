@@ -1,7 +1,7 @@
 // The program's turns, over descriptors.
-use crate::lines::refused_line;
 use crate::preparing::dump_bvh;
 use crate::preparing::dump_geometry;
+use hex_lines::lines::refused_line;
 use mesh_input::bound_of;
 use mesh_input::counts_of;
 use mesh_input::length_of;

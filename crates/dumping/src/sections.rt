@@ -1,9 +1,9 @@
 // The sections of a dump.
-use crate::lines::bytes_line;
-use crate::lines::places_line;
-use crate::lines::words_line;
-use crate::lines::write_words;
 use bvh::core::BuiltTree;
+use hex_lines::lines::bytes_line;
+use hex_lines::lines::places_line;
+use hex_lines::lines::words_line;
+use hex_lines::lines::write_words;
 use io::write_all;
 use math::vec3::Vec3;
 use math::words3::bits;

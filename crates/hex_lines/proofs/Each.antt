@@ -9,7 +9,7 @@ use lib.ListN.{length, getD, take, length-append}
 use lib.Seq.{sets, length-sets, length-take-le, take-suc, take-all}
 use Rattle.base.proofs.StoreLaws.{over-next}
 use Rattle.base.specs.Lists.{over}
-use Rattle.dumping.specs.Hex.{eachOf}
+use Rattle.hex_lines.specs.Hex.{eachOf, byteText}
 
 module _ (f : ℕ → List ℕ) (k : ℕ) (size : (x : ℕ) → length (f x) ≡ k) where
   pub length-each : (xs : List ℕ) → length (eachOf f xs) ≡ k * length xs
@@ -51,3 +51,7 @@ next-put f k size xs before after last i p h room e =
 
 pub all-put : (f : ℕ → List ℕ) (xs before after : List ℕ) (i : ℕ) → Putting f xs before after i → length xs ≤ i → after ≡ over (eachOf f xs) before
 all-put f xs before after i p h = p .held ∙ ap (λ (l : List ℕ). over (eachOf f l) before) (take-all i xs h)
+
+pub byte-size : (b : ℕ) → length (byteText b) ≡ 2
+unfolding byteText
+byte-size b = refl

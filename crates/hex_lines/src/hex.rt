@@ -6,7 +6,7 @@ ghost use lib.ListN.{length};
 ghost use lib.Seq.{sets};
 ghost use Rattle.base.specs.Lists.{over};
 ghost use Rattle.base.specs.LittleEndian.{littleEndian};
-ghost use Rattle.dumping.specs.Hex.{digitOf, byteText, hexOf, wordBytes, placeBytes};
+ghost use Rattle.hex_lines.specs.Hex.{digitOf, byteText, hexOf, wordBytes, placeBytes};
 
 // A digit below 16.
 fn digit(n: u8) -> u8
