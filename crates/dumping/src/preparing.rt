@@ -1,13 +1,13 @@
 // Preparing a mesh of an input, in buffers that are long enough for each: at most 473 polygons or 670 vertices are in 8,192 bytes.
-use crate::printing::print_bvh;
-use crate::printing::print_geometry;
+use dump_sections::printing::print_bvh;
+use dump_sections::printing::print_geometry;
 use geometry::prepare_geometry;
 use geometry_bvh::prepare_bvh;
 use meshes::Bound;
 use meshes::BvhLengths;
 use meshes::Counts;
 use meshes::GeometryLengths;
-ghost use Rattle.dumping.specs.Sizes.{Small};
+ghost use Rattle.dump_sections.specs.Sizes.{Small};
 
 pub fn dump_geometry(
     to: i32,

@@ -13,7 +13,7 @@ ghost use mathlib.Core.Path.{_≡_};
 ghost use Prim.Native.Nat.{_+_, _*_, _≤_};
 ghost use lib.ListN.{length};
 ghost use Rattle.mesh_input.specs.Input.{lengthOf, Whole};
-ghost use Rattle.dumping.specs.Sizes.{Small};
+ghost use Rattle.dump_sections.specs.Sizes.{Small};
 
 fn dump_mesh(
     to: i32,

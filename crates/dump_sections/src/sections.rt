@@ -1,9 +1,9 @@
-// The sections of a dump.
+// The sections of a dump. Counts that preparing answered are clamped to what the buffers hold, so that any answer can be printed.
 use bvh::core::BuiltTree;
 use hex_lines::lines::bytes_line;
 use hex_lines::lines::places_line;
 use hex_lines::lines::words_line;
-use hex_lines::lines::write_words;
+use hex_lines::lines::words_part;
 use io::write_all;
 use math::vec3::Vec3;
 use math::words3::bits;
@@ -11,14 +11,19 @@ use meshes::Counts;
 use meshes::Frame;
 use octants::lists::OctantCounts;
 use prepared::Values;
-ghost use Prim.Native.Nat.{_*_, _≤_};
+ghost use Prim.Native.Nat.{_+_, _≤_};
 ghost use lib.ListN.{length};
-ghost use Rattle.dumping.specs.Sizes.{Small};
+ghost use Rattle.dump_sections.specs.Sizes.{Small};
 
 fn least(a: usize, b: usize) -> usize
     ensures { λ r. ⌜ (r ≤ a) × (r ≤ b) ⌝ }
 {
     if a < b { a } else { b }
+}
+
+// The low 32 bits.
+fn low_word(n: usize) -> u32 {
+    (n % 4294967296) as u32
 }
 
 fn frame_line(to: i32, f: Frame) {
@@ -41,31 +46,28 @@ fn frame_line(to: i32, f: Frame) {
         s.z,
         f.sphere_radius,
     ];
-    words_line(to, b"frame ", &words);
+    words_line(to, b"frame ", &words, 13);
 }
 
 fn quantum_line(to: i32, quantum: Vec3) {
     let q = bits(quantum);
-    words_line(to, b"quantum ", &[q.x, q.y, q.z]);
+    words_line(to, b"quantum ", &[q.x, q.y, q.z], 3);
 }
 
 // What both kinds have besides their lists.
 pub fn values_lines(to: i32, values: Values) {
     frame_line(to, values.frame);
     quantum_line(to, values.quantum);
-    words_line(to, b"materials ", &[values.materials as u32]);
+    words_line(to, b"materials ", &[low_word(values.materials)], 1);
 }
 
 pub fn octants_line(to: i32, c: OctantCounts) {
-    words_line(
-        to,
-        b"octants ",
-        &[c.c0, c.c1, c.c2, c.c3, c.c4, c.c5, c.c6, c.c7],
-    );
+    let words = [c.c0, c.c1, c.c2, c.c3, c.c4, c.c5, c.c6, c.c7];
+    words_line(to, b"octants ", &words, 8);
 }
 
 pub fn no_octants_line(to: i32) {
-    words_line(to, b"octants ", &[0u32; 8]);
+    words_line(to, b"octants ", &[0u32; 8], 8);
 }
 
 pub fn tree_line(to: i32, t: BuiltTree) {
@@ -75,11 +77,15 @@ pub fn tree_line(to: i32, t: BuiltTree) {
     let c = bits(scale.cen);
     let i = bits(scale.inverse);
     let q = bits(scale.quantum);
+    let n = low_word(t.nodes);
+    let m = low_word(t.capacity);
+    let k = low_word(t.trees);
+    let p = low_word(t.present);
     let words = [
-        t.nodes as u32,
-        t.capacity as u32,
-        t.trees as u32,
-        t.present as u32,
+        n,
+        m,
+        k,
+        p,
         a.x,
         a.y,
         a.z,
@@ -96,19 +102,20 @@ pub fn tree_line(to: i32, t: BuiltTree) {
         q.y,
         q.z,
     ];
-    words_line(to, b"tree ", &words);
+    words_line(to, b"tree ", &words, 19);
 }
 
 pub fn no_tree_line(to: i32) {
-    words_line(to, b"tree ", &[0u32; 19]);
+    words_line(to, b"tree ", &[0u32; 19], 19);
 }
 
 // The materials of the list, which is filled to four.
-fn list_line(to: i32, materials: usize, list: &[u8]) {
+fn list_line(to: i32, materials: usize, list: &[u8])
+    requires { ⌜ 2048 ≤ length (now list) ⌝ }
+{
     let filled = if materials < 4 { 4 } else { materials };
     let count = least(filled, 256);
-    let end = least(8 * count, list.len());
-    bytes_line(to, b"list ", &list[..end]);
+    bytes_line(to, b"list ", list, 8 * count);
 }
 
 // The lists that both kinds have.
@@ -122,50 +129,38 @@ pub fn lists_lines(
     stored: &[u8],
     floats: &[u32],
 )
-    requires { ⌜ (Small c) × (512 ≤ length (now indices)) × (8192 ≤ length (now polygons)) × (4096 ≤ length (now stored))
-        × (2048 ≤ length (now floats)) ⌝ }
+    requires { ⌜ (Small c) × (2048 ≤ length (now list)) × (512 ≤ length (now indices)) × (8192 ≤ length (now polygons))
+        × (4096 ≤ length (now stored)) × (2048 ≤ length (now floats)) ⌝ }
 {
     let p = c.polygons;
     let v = c.vertices;
-    let records = 16 * p;
-    let halves = 6 * v;
-    let words = 3 * v;
     list_line(to, materials, list);
-    bytes_line(to, b"indices ", &indices[..p]);
-    bytes_line(to, b"polygons ", &polygons[..records]);
-    bytes_line(to, b"vertices ", &stored[..halves]);
-    words_line(to, b"floats ", &floats[..words]);
+    bytes_line(to, b"indices ", indices, p);
+    bytes_line(to, b"polygons ", polygons, 16 * p);
+    bytes_line(to, b"vertices ", stored, 6 * v);
+    words_line(to, b"floats ", floats, 3 * v);
 }
 
-// The first `count` words of a part: its list.
-fn write_list(to: i32, part: &[u32], count: u32)
-    requires { ⌜ length (now part) ≤ 670 ⌝ }
+// An octant's list, which stands at the start of its part of v words.
+fn write_octant(to: i32, octants: &[u32], at: usize, v: usize, count: u32)
+    requires { ⌜ (at + v ≤ length (now octants)) × (v ≤ 670) ⌝ }
 {
-    let end = least(count as usize, part.len());
-    write_words(to, &part[..end]);
-}
-
-// The list in part k of v words.
-fn write_octant(to: i32, v: usize, k: usize, octants: &[u32], count: u32)
-    requires { ⌜ (v ≤ 670) × (k ≤ 7) × (5376 ≤ length (now octants)) ⌝ }
-{
-    let at = k * v;
-    let end = at + v;
-    write_list(to, &octants[at..end], count);
+    let few = least(count as usize, v);
+    words_part(to, octants, at, few);
 }
 
 fn octant_lists_line(to: i32, v: usize, c: OctantCounts, octants: &[u32])
     requires { ⌜ (v ≤ 670) × (5376 ≤ length (now octants)) ⌝ }
 {
     write_all(to, b"lists ");
-    write_octant(to, v, 0, octants, c.c0);
-    write_octant(to, v, 1, octants, c.c1);
-    write_octant(to, v, 2, octants, c.c2);
-    write_octant(to, v, 3, octants, c.c3);
-    write_octant(to, v, 4, octants, c.c4);
-    write_octant(to, v, 5, octants, c.c5);
-    write_octant(to, v, 6, octants, c.c6);
-    write_octant(to, v, 7, octants, c.c7);
+    write_octant(to, octants, 0, v, c.c0);
+    write_octant(to, octants, v, v, c.c1);
+    write_octant(to, octants, 2 * v, v, c.c2);
+    write_octant(to, octants, 3 * v, v, c.c3);
+    write_octant(to, octants, 4 * v, v, c.c4);
+    write_octant(to, octants, 5 * v, v, c.c5);
+    write_octant(to, octants, 6 * v, v, c.c6);
+    write_octant(to, octants, 7 * v, v, c.c7);
     write_all(to, b"\n");
 }
 
@@ -180,18 +175,17 @@ pub fn hull_lines(
 )
     requires { ⌜ (v ≤ 670) × (4096 ≤ length (now shrunk)) × (2048 ≤ length (now «shrunk_floats»)) × (5376 ≤ length (now octants)) ⌝ }
 {
-    let halves = 6 * v;
-    let words = 3 * v;
-    bytes_line(to, b"shrunk ", &shrunk[..halves]);
-    words_line(to, b"shrunk_floats ", &shrunk_floats[..words]);
+    bytes_line(to, b"shrunk ", shrunk, 6 * v);
+    words_line(to, b"shrunk_floats ", shrunk_floats, 3 * v);
     octant_lists_line(to, v, c, octants);
 }
 
 // The first `count` records of 16 bytes.
-fn records_line(to: i32, name: &[u8], count: usize, bytes: &[u8]) {
-    let few = least(count, 1024);
-    let end = least(16 * few, bytes.len());
-    bytes_line(to, name, &bytes[..end]);
+fn records_line(to: i32, name: &[u8], bytes: &[u8], count: usize)
+    requires { ⌜ 15360 ≤ length (now bytes) ⌝ }
+{
+    let few = least(count, 960);
+    bytes_line(to, name, bytes, 16 * few);
 }
 
 // What kind 8 alone has.
@@ -203,9 +197,9 @@ pub fn tree_lines(
     tree_bytes: &[u8],
     order: &[u16],
 )
-    requires { ⌜ (p ≤ 473) × (512 ≤ length (now order)) ⌝ }
+    requires { ⌜ (p ≤ 473) × (15360 ≤ length (now «node_bytes»)) × (15360 ≤ length (now «tree_bytes»)) × (512 ≤ length (now order)) ⌝ }
 {
-    records_line(to, b"nodes ", t.capacity, node_bytes);
-    records_line(to, b"trees ", t.trees, tree_bytes);
-    places_line(to, b"order ", &order[..p]);
+    records_line(to, b"nodes ", node_bytes, t.capacity);
+    records_line(to, b"trees ", tree_bytes, t.trees);
+    places_line(to, b"order ", order, p);
 }

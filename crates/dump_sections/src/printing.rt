@@ -15,7 +15,7 @@ ghost use mathlib.Core.Path.{_≡_};
 ghost use Prim.Native.Nat.{_≤_};
 ghost use lib.ListN.{length};
 ghost use Rattle.meshes.specs.Checks.{refusalNumber};
-ghost use Rattle.dumping.specs.Sizes.{Small};
+ghost use Rattle.dump_sections.specs.Sizes.{Small};
 
 fn number_of(why: PrepareRefusal) -> u64
     ensures { λ r. ⌜ r ≡ refusalNumber why ⌝ }
@@ -45,9 +45,11 @@ pub fn print_geometry(
     shrunk_floats: &[u32],
     octants: &[u32],
 )
-    requires { ⌜ (Small c) × (512 ≤ length (now indices)) × (8192 ≤ length (now polygons)) × (4096 ≤ length (now stored))
-        × (2048 ≤ length (now floats)) × (4096 ≤ length (now shrunk)) × (2048 ≤ length (now «shrunk_floats»)) × (5376 ≤ length (now octants)) ⌝ }
+    requires { ⌜ (Small c) × (2048 ≤ length (now list)) × (512 ≤ length (now indices)) × (8192 ≤ length (now polygons))
+        × (4096 ≤ length (now stored)) × (2048 ≤ length (now floats)) × (4096 ≤ length (now shrunk))
+        × (2048 ≤ length (now «shrunk_floats»)) × (5376 ≤ length (now octants)) ⌝ }
 {
+    let v = c.vertices;
     match answer {
         Prepare::Geometry(values, o) => {
             values_lines(to, values);
@@ -63,7 +65,7 @@ pub fn print_geometry(
                 stored,
                 floats,
             );
-            hull_lines(to, c.vertices, o, shrunk, shrunk_floats, octants);
+            hull_lines(to, v, o, shrunk, shrunk_floats, octants);
         }
         Prepare::Refused(why) => refused_line(to, number_of(why)),
         _ => {}
@@ -84,9 +86,11 @@ pub fn print_bvh(
     tree_bytes: &[u8],
     order: &[u16],
 )
-    requires { ⌜ (Small c) × (512 ≤ length (now indices)) × (8192 ≤ length (now polygons)) × (4096 ≤ length (now stored))
-        × (2048 ≤ length (now floats)) × (512 ≤ length (now order)) ⌝ }
+    requires { ⌜ (Small c) × (2048 ≤ length (now list)) × (512 ≤ length (now indices)) × (8192 ≤ length (now polygons))
+        × (4096 ≤ length (now stored)) × (2048 ≤ length (now floats)) × (15360 ≤ length (now «node_bytes»))
+        × (15360 ≤ length (now «tree_bytes»)) × (512 ≤ length (now order)) ⌝ }
 {
+    let p = c.polygons;
     match answer {
         Prepare::Bvh(values, t) => {
             values_lines(to, values);
@@ -102,7 +106,7 @@ pub fn print_bvh(
                 stored,
                 floats,
             );
-            tree_lines(to, c.polygons, t, node_bytes, tree_bytes, order);
+            tree_lines(to, p, t, node_bytes, tree_bytes, order);
         }
         Prepare::Empty(values) => {
             values_lines(to, values);

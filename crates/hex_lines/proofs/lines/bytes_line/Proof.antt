@@ -1,0 +1,46 @@
+-- `lines::bytes_line`: the part is as long as it is asked to be.
+use borrow.Author.Needs.{needs}
+use Rattle.hex_lines.proofs.lines.bytes_line.Statement.{statement}
+use Rattle.hex_lines.proofs.lines.bytes_line.Tie as tie
+use Rattle.hex_lines.proofs.lines.bytes_line.Reads as reads
+use Rattle.hex_lines.proofs.lines.bytes_line.Lts as lts
+use Rattle.hex_lines.proofs.lines.write_bytes.Reads as write-bytes-reads
+use Rattle.io.proofs.write_all.Reads as write-all-reads
+use mathlib.Core.Path.{sym}
+use lib.Seq.{length-take-le}
+use native.Mathlib.Omega.{arith}
+
+-- src/lines.rt:48:5
+write-all-requires : tie.Need-write-all-requires
+write-all-requires c κs = search needs
+
+-- src/lines.rt:49:21
+slice-aggregate-write-bytes : tie.Need-slice-aggregate-write-bytes
+slice-aggregate-write-bytes c = sym (length-take-le _ _ (c .before .before .before .before .pre .0))
+
+-- src/lines.rt:49:5
+write-bytes-requires : tie.Need-write-bytes-requires
+write-bytes-requires c κs = omega (arith, slice-aggregate-write-bytes c, c .before .before .before .before .pre .1)
+
+-- src/lines.rt:50:19
+slice-aggregate-write-all : tie.Need-slice-aggregate-write-all
+slice-aggregate-write-all c = search needs
+
+-- src/lines.rt:50:5
+write-all-requires-2 : tie.Need-write-all-requires-2
+write-all-requires-2 c κs = search needs
+
+-- src/lines.rt:45:1
+returns : tie.Need-returns
+returns c = search needs
+
+pub bytes-line-spec : {M : Type 1} → statement M
+bytes-line-spec =
+    tie.close
+    (tie.spec
+    write-all-requires
+    slice-aggregate-write-bytes
+    write-bytes-requires
+    slice-aggregate-write-all
+    write-all-requires-2
+    returns)
