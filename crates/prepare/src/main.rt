@@ -1,4 +1,4 @@
 // Reads a mesh and prints it prepared.
 fn main() {
-    dumping::run::run(libc::STDIN_FILENO, libc::STDOUT_FILENO);
+    prepare_run::run(libc::STDIN_FILENO, libc::STDOUT_FILENO);
 }

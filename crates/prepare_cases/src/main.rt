@@ -12,7 +12,7 @@ fn run_case(number: usize) {
         os::fail(&name[..n]);
         return;
     }
-    dumping::run::run(file, STDOUT_FILENO);
+    prepare_run::run(file, STDOUT_FILENO);
     libc::close(file);
 }
 

@@ -15,7 +15,7 @@ fn after(turns: u64, more: bool) -> u64
 fn main() {
     let mut turns = u64::MAX;
     while turns > 0 {
-        let more = dumping::run::run_next(STDIN_FILENO, STDOUT_FILENO);
+        let more = prepare_run::run_next(STDIN_FILENO, STDOUT_FILENO);
         turns = after(turns, more);
     }
 }

@@ -1,6 +1,6 @@
-// The program's turns, over descriptors.
-use crate::preparing::dump_bvh;
-use crate::preparing::dump_geometry;
+// The turns of the program `prepare`, over descriptors: an input is read, and the dump of its mesh is written.
+use dumping::dump_bvh;
+use dumping::dump_geometry;
 use hex_lines::lines::refused_line;
 use mesh_input::bound_of;
 use mesh_input::counts_of;
@@ -12,7 +12,8 @@ use meshes::Counts;
 ghost use mathlib.Core.Path.{_≡_};
 ghost use Prim.Native.Nat.{_+_, _*_, _≤_};
 ghost use lib.ListN.{length};
-ghost use Rattle.mesh_input.specs.Input.{lengthOf, Whole};
+ghost use Rattle.io.specs.Counts.{Counts as CountsIn};
+ghost use Rattle.mesh_input.specs.Input.{lengthOf};
 ghost use Rattle.dump_sections.specs.Sizes.{Small};
 
 fn dump_mesh(
@@ -60,11 +61,11 @@ fn dump_counted(to: i32, bound: Bound, counts: Counts, input: &[u8])
 // What `prepare` prints for an input.
 fn dump(to: i32, input: &[u8]) {
     let why = refusal_of(input);
-    if why != 0 {
+    if why == 0 {
+        dump_counted(to, bound_of(input), counts_of(input), input);
+    } else {
         refused_line(to, why);
-        return;
     }
-    dump_counted(to, bound_of(input), counts_of(input), input);
 }
 
 // Reads an input and writes what `prepare` prints for it. One byte over the limit is enough to know that an input is over it.
@@ -74,25 +75,38 @@ pub fn run(from: i32, to: i32) {
     dump(to, &input[..n]);
 }
 
-// How many bytes of an input stand behind its header, of which there are at most 8,044.
-fn rest_of(header: &[u8]) -> usize
-    requires { ⌜ length (now header) ≡ 148 ⌝ }
+// How many bytes of an input stand behind its header; none over the limit is read.
+fn rest_of(input: &[u8]) -> usize
+    requires { ⌜ 148 ≤ length (now input) ⌝ }
     ensures { λ r. ⌜ r ≤ 8044 ⌝ }
 {
-    let length = length_of(header);
+    let length = length_of(input);
     if length > 8192 { 8044 } else { length - 148 }
+}
+
+fn read_header(from: i32, input: &mut [u8]) -> usize
+    requires { ⌜ 148 ≤ length (now input) ⌝ }
+{
+    io::read_full(from, &mut input[..148])
+}
+
+// Reads what stands behind the header; how many bytes there are with it.
+fn read_rest(from: i32, input: &mut [u8], rest: usize) -> usize
+    requires { ⌜ (rest ≤ 8044) × (8192 ≤ length (now input)) ⌝ }
+    ensures { λ r. ⌜ CountsIn r (now (input .exit)) ⌝ }
+{
+    let end = 148 + rest;
+    148 + io::read_full(from, &mut input[148..end])
 }
 
 // Reads the next of several inputs, which stand one after another, and writes what `prepare` prints for it. The answer is whether there was one.
 pub fn run_next(from: i32, to: i32) -> bool {
     let mut input = [0u8; 8192];
-    let n = io::read_full(from, &mut input[..148]);
-    if n < 148 {
+    if read_header(from, &mut input) < 148 {
         return false;
     }
-    let end = 148 + rest_of(&input[..148]);
-    let k = io::read_full(from, &mut input[148..end]);
-    let read = 148 + k;
+    let rest = rest_of(&input);
+    let read = read_rest(from, &mut input, rest);
     dump(to, &input[..read]);
     true
 }
