@@ -8,111 +8,85 @@ use Rattle.dump_sections.proofs.printing.print_bvh.Reads as print-bvh-reads
 use Rattle.geometry_bvh.proofs.prepare_bvh.Reads as prepare-bvh-reads
 use native.Mathlib.Omega.{arith}
 
--- src/lib.rt:129:9
 slice-aggregate-prepare-bvh : tie.Need-slice-aggregate-prepare-bvh
 slice-aggregate-prepare-bvh c = search needs
 
--- src/lib.rt:130:9
 slice-aggregate-prepare-bvh-2 : tie.Need-slice-aggregate-prepare-bvh-2
 slice-aggregate-prepare-bvh-2 c = search needs
 
--- src/lib.rt:131:9
 slice-aggregate-prepare-bvh-3 : tie.Need-slice-aggregate-prepare-bvh-3
 slice-aggregate-prepare-bvh-3 c = search needs
 
--- src/lib.rt:132:9
 slice-aggregate-prepare-bvh-4 : tie.Need-slice-aggregate-prepare-bvh-4
 slice-aggregate-prepare-bvh-4 c = search needs
 
--- src/lib.rt:133:9
 slice-aggregate-prepare-bvh-5 : tie.Need-slice-aggregate-prepare-bvh-5
 slice-aggregate-prepare-bvh-5 c = search needs
 
--- src/lib.rt:134:9
 slice-aggregate-prepare-bvh-6 : tie.Need-slice-aggregate-prepare-bvh-6
 slice-aggregate-prepare-bvh-6 c = search needs
 
--- src/lib.rt:135:9
 slice-aggregate-prepare-bvh-7 : tie.Need-slice-aggregate-prepare-bvh-7
 slice-aggregate-prepare-bvh-7 c = search needs
 
--- src/lib.rt:136:9
 slice-aggregate-prepare-bvh-8 : tie.Need-slice-aggregate-prepare-bvh-8
 slice-aggregate-prepare-bvh-8 c = search needs
 
--- src/lib.rt:137:9
 slice-aggregate-prepare-bvh-9 : tie.Need-slice-aggregate-prepare-bvh-9
 slice-aggregate-prepare-bvh-9 c = search needs
 
--- src/lib.rt:138:9
 slice-aggregate-prepare-bvh-10 : tie.Need-slice-aggregate-prepare-bvh-10
 slice-aggregate-prepare-bvh-10 c = search needs
 
--- src/lib.rt:139:9
 slice-aggregate-prepare-bvh-11 : tie.Need-slice-aggregate-prepare-bvh-11
 slice-aggregate-prepare-bvh-11 c = search needs
 
--- src/lib.rt:140:9
 slice-aggregate-prepare-bvh-12 : tie.Need-slice-aggregate-prepare-bvh-12
 slice-aggregate-prepare-bvh-12 c = search needs
 
--- src/lib.rt:141:9
 slice-aggregate-prepare-bvh-13 : tie.Need-slice-aggregate-prepare-bvh-13
 slice-aggregate-prepare-bvh-13 c = search needs
 
--- src/lib.rt:142:9
 slice-aggregate-prepare-bvh-14 : tie.Need-slice-aggregate-prepare-bvh-14
 slice-aggregate-prepare-bvh-14 c = search needs
 
--- src/lib.rt:143:9
 slice-aggregate-prepare-bvh-15 : tie.Need-slice-aggregate-prepare-bvh-15
 slice-aggregate-prepare-bvh-15 c = search needs
 
--- src/lib.rt:144:9
 slice-aggregate-prepare-bvh-16 : tie.Need-slice-aggregate-prepare-bvh-16
 slice-aggregate-prepare-bvh-16 c = search needs
 
--- src/lib.rt:121:9
 prepare-bvh-requires : tie.Need-prepare-bvh-requires
 prepare-bvh-requires c κs = search needs
 
--- src/lib.rt:150:9
 slice-aggregate-print-bvh : tie.Need-slice-aggregate-print-bvh
 slice-aggregate-print-bvh c = search needs
 
--- src/lib.rt:151:9
 slice-aggregate-print-bvh-2 : tie.Need-slice-aggregate-print-bvh-2
 slice-aggregate-print-bvh-2 c = search needs
 
--- src/lib.rt:152:9
 slice-aggregate-print-bvh-3 : tie.Need-slice-aggregate-print-bvh-3
 slice-aggregate-print-bvh-3 c = search needs
 
--- src/lib.rt:153:9
 slice-aggregate-print-bvh-4 : tie.Need-slice-aggregate-print-bvh-4
 slice-aggregate-print-bvh-4 c = search needs
 
--- src/lib.rt:154:9
 slice-aggregate-print-bvh-5 : tie.Need-slice-aggregate-print-bvh-5
 slice-aggregate-print-bvh-5 c = search needs
 
--- src/lib.rt:155:9
 slice-aggregate-print-bvh-6 : tie.Need-slice-aggregate-print-bvh-6
 slice-aggregate-print-bvh-6 c = search needs
 
--- src/lib.rt:156:9
 slice-aggregate-print-bvh-7 : tie.Need-slice-aggregate-print-bvh-7
 slice-aggregate-print-bvh-7 c = search needs
 
--- src/lib.rt:157:9
 slice-aggregate-print-bvh-8 : tie.Need-slice-aggregate-print-bvh-8
 slice-aggregate-print-bvh-8 c = search needs
 
--- src/lib.rt:146:5
 print-bvh-requires : tie.Need-print-bvh-requires
 print-bvh-requires c κs =
-    let k = c .before .before .before .before .before .before .before .before .before .before .before .before .before .before .before .before .before .before .before .before .before .before .before .before .prepare-bvh .kept .1 .1 .1 .1 .1 .1 .1 in
-    (c .before .before .before .before .before .before .before .before .before .before .before .before .before .before .before .before .before .before .before .before .before .before .before .before .before .before .before .before .before .before .before .before .before .before .before .before .before .before .before .before .before .before .before .before .before .pre,
+    let k = c .before .before .before .before .before .before .before .before .before .before .before .before .before .before .before .before .before .before .before .before .before .before .before .before .prepare-bvh .kept .1 .1 .1 .1 .1 .1 .1 in (
+      c .before .before .before .before .before .before .before .before .before .before .before .before .before .before .before .before .before .before .before .before .before .before .before .before .before .before .before .before .before .before .before .before .before .before .before .before .before .before .before .before .before .before .before .before .before .pre,
       omega (arith, k .0),
       omega (arith, k .1 .0),
       omega (arith, k .1 .1 .0),
@@ -120,9 +94,9 @@ print-bvh-requires c κs =
       omega (arith, k .1 .1 .1 .1 .0),
       omega (arith, k .1 .1 .1 .1 .1 .0),
       omega (arith, k .1 .1 .1 .1 .1 .1 .0),
-      omega (arith, k .1 .1 .1 .1 .1 .1 .1 .0))
+      omega (arith, k .1 .1 .1 .1 .1 .1 .1 .0),
+    )
 
--- src/lib.rt:87:1
 returns : tie.Need-returns
 returns c = search needs
 

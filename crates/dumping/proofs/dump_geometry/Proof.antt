@@ -8,115 +8,88 @@ use Rattle.dump_sections.proofs.printing.print_geometry.Reads as print-geometry
 use Rattle.geometry.proofs.prepare_geometry.Reads as prepare-geometry-reads
 use native.Mathlib.Omega.{arith}
 
--- src/lib.rt:54:9
 slice-aggregate-prepare-geometry : tie.Need-slice-aggregate-prepare-geometry
 slice-aggregate-prepare-geometry c = search needs
 
--- src/lib.rt:55:9
 slice-aggregate-prepare-geometry-2 : tie.Need-slice-aggregate-prepare-geometry-2
 slice-aggregate-prepare-geometry-2 c = search needs
 
--- src/lib.rt:56:9
 slice-aggregate-prepare-geometry-3 : tie.Need-slice-aggregate-prepare-geometry-3
 slice-aggregate-prepare-geometry-3 c = search needs
 
--- src/lib.rt:57:9
 slice-aggregate-prepare-geometry-4 : tie.Need-slice-aggregate-prepare-geometry-4
 slice-aggregate-prepare-geometry-4 c = search needs
 
--- src/lib.rt:58:9
 slice-aggregate-prepare-geometry-5 : tie.Need-slice-aggregate-prepare-geometry-5
 slice-aggregate-prepare-geometry-5 c = search needs
 
--- src/lib.rt:59:9
 slice-aggregate-prepare-geometry-6 : tie.Need-slice-aggregate-prepare-geometry-6
 slice-aggregate-prepare-geometry-6 c = search needs
 
--- src/lib.rt:60:9
 slice-aggregate-prepare-geometry-7 : tie.Need-slice-aggregate-prepare-geometry-7
 slice-aggregate-prepare-geometry-7 c = search needs
 
--- src/lib.rt:61:9
 slice-aggregate-prepare-geometry-8 : tie.Need-slice-aggregate-prepare-geometry-8
 slice-aggregate-prepare-geometry-8 c = search needs
 
--- src/lib.rt:62:9
 slice-aggregate-prepare-geometry-9 : tie.Need-slice-aggregate-prepare-geometry-9
 slice-aggregate-prepare-geometry-9 c = search needs
 
--- src/lib.rt:63:9
 slice-aggregate-prepare-geometry-10 : tie.Need-slice-aggregate-prepare-geometry-10
 slice-aggregate-prepare-geometry-10 c = search needs
 
--- src/lib.rt:64:9
 slice-aggregate-prepare-geometry-11 : tie.Need-slice-aggregate-prepare-geometry-11
 slice-aggregate-prepare-geometry-11 c = search needs
 
--- src/lib.rt:65:9
 slice-aggregate-prepare-geometry-12 : tie.Need-slice-aggregate-prepare-geometry-12
 slice-aggregate-prepare-geometry-12 c = search needs
 
--- src/lib.rt:66:9
 slice-aggregate-prepare-geometry-13 : tie.Need-slice-aggregate-prepare-geometry-13
 slice-aggregate-prepare-geometry-13 c = search needs
 
--- src/lib.rt:67:9
 slice-aggregate-prepare-geometry-14 : tie.Need-slice-aggregate-prepare-geometry-14
 slice-aggregate-prepare-geometry-14 c = search needs
 
--- src/lib.rt:68:9
 slice-aggregate-prepare-geometry-15 : tie.Need-slice-aggregate-prepare-geometry-15
 slice-aggregate-prepare-geometry-15 c = search needs
 
--- src/lib.rt:69:9
 slice-aggregate-prepare-geometry-16 : tie.Need-slice-aggregate-prepare-geometry-16
 slice-aggregate-prepare-geometry-16 c = search needs
 
--- src/lib.rt:70:9
 slice-aggregate-prepare-geometry-17 : tie.Need-slice-aggregate-prepare-geometry-17
 slice-aggregate-prepare-geometry-17 c = search needs
 
--- src/lib.rt:46:9
 prepare-geometry-requires : tie.Need-prepare-geometry-requires
 prepare-geometry-requires c κs = search needs
 
--- src/lib.rt:76:9
 slice-aggregate-print-geometry : tie.Need-slice-aggregate-print-geometry
 slice-aggregate-print-geometry c = search needs
 
--- src/lib.rt:77:9
 slice-aggregate-print-geometry-2 : tie.Need-slice-aggregate-print-geometry-2
 slice-aggregate-print-geometry-2 c = search needs
 
--- src/lib.rt:78:9
 slice-aggregate-print-geometry-3 : tie.Need-slice-aggregate-print-geometry-3
 slice-aggregate-print-geometry-3 c = search needs
 
--- src/lib.rt:79:9
 slice-aggregate-print-geometry-4 : tie.Need-slice-aggregate-print-geometry-4
 slice-aggregate-print-geometry-4 c = search needs
 
--- src/lib.rt:80:9
 slice-aggregate-print-geometry-5 : tie.Need-slice-aggregate-print-geometry-5
 slice-aggregate-print-geometry-5 c = search needs
 
--- src/lib.rt:81:9
 slice-aggregate-print-geometry-6 : tie.Need-slice-aggregate-print-geometry-6
 slice-aggregate-print-geometry-6 c = search needs
 
--- src/lib.rt:82:9
 slice-aggregate-print-geometry-7 : tie.Need-slice-aggregate-print-geometry-7
 slice-aggregate-print-geometry-7 c = search needs
 
--- src/lib.rt:83:9
 slice-aggregate-print-geometry-8 : tie.Need-slice-aggregate-print-geometry-8
 slice-aggregate-print-geometry-8 c = search needs
 
--- src/lib.rt:72:5
 print-geometry-requires : tie.Need-print-geometry-requires
 print-geometry-requires c κs =
-    let k = c .before .before .before .before .before .before .before .before .before .before .before .before .before .before .before .before .before .before .before .before .before .before .before .before .before .prepare-geometry .kept .1 .1 .1 .1 .1 .1 .1 in
-    (c .before .before .before .before .before .before .before .before .before .before .before .before .before .before .before .before .before .before .before .before .before .before .before .before .before .before .before .before .before .before .before .before .before .before .before .before .before .before .before .before .before .before .before .before .before .before .before .pre,
+    let k = c .before .before .before .before .before .before .before .before .before .before .before .before .before .before .before .before .before .before .before .before .before .before .before .before .before .prepare-geometry .kept .1 .1 .1 .1 .1 .1 .1 in (
+      c .before .before .before .before .before .before .before .before .before .before .before .before .before .before .before .before .before .before .before .before .before .before .before .before .before .before .before .before .before .before .before .before .before .before .before .before .before .before .before .before .before .before .before .before .before .before .before .pre,
       omega (arith, k .0),
       omega (arith, k .1 .0),
       omega (arith, k .1 .1 .0),
@@ -124,9 +97,9 @@ print-geometry-requires c κs =
       omega (arith, k .1 .1 .1 .1 .0),
       omega (arith, k .1 .1 .1 .1 .1 .0),
       omega (arith, k .1 .1 .1 .1 .1 .1 .0),
-      omega (arith, k .1 .1 .1 .1 .1 .1 .1 .0))
+      omega (arith, k .1 .1 .1 .1 .1 .1 .1 .0),
+    )
 
--- src/lib.rt:12:1
 returns : tie.Need-returns
 returns c = search needs
 

@@ -14,31 +14,24 @@ use mathlib.Core.Path.{ap, _∙_}
 use Rattle.math.specs.Stored.{valuesOf}
 use Rattle.mesh_input.specs.Input.{boundOf}
 
--- src/lib.rt:77:15
 word-at-requires : tie.Need-word-at-requires
 word-at-requires c κs = search needs
 
--- src/lib.rt:78:16
 frame-of-requires : tie.Need-frame-of-requires
 frame-of-requires c κs = search needs
 
--- src/lib.rt:79:17
 float-at-requires : tie.Need-float-at-requires
 float-at-requires c κs = search needs
 
--- src/lib.rt:80:38
 words3-at-requires : tie.Need-words3-at-requires
 words3-at-requires c κs = search needs
 
--- src/lib.rt:80:17
 values-requires : tie.Need-values-requires
 values-requires c κs = search needs
 
--- src/lib.rt:81:20
 transform-of-requires : tie.Need-transform-of-requires
 transform-of-requires c κs = search needs
 
--- src/lib.rt:72:1
 returns : tie.Need-returns
 unfolding boundOf
 returns c =

@@ -7,31 +7,24 @@ use Rattle.mesh_input.proofs.counts_of.Lts as lts
 use Rattle.base.proofs.little_endian.word_at.Reads as word-at-reads
 use Rattle.mesh_input.specs.Input.{countsOf}
 
--- src/lib.rt:90:19
 word-at-requires : tie.Need-word-at-requires
 word-at-requires c κs = search needs
 
--- src/lib.rt:90:19
 cast-t3 : tie.Need-cast-t3
 cast-t3 c = search needs
 
--- src/lib.rt:91:19
 word-at-requires-2 : tie.Need-word-at-requires-2
 word-at-requires-2 c κs = search needs
 
--- src/lib.rt:91:19
 cast-t5 : tie.Need-cast-t5
 cast-t5 c = search needs
 
--- src/lib.rt:92:20
 word-at-requires-3 : tie.Need-word-at-requires-3
 word-at-requires-3 c κs = search needs
 
--- src/lib.rt:92:20
 cast-t7 : tie.Need-cast-t7
 cast-t7 c = search needs
 
--- src/lib.rt:85:1
 returns : tie.Need-returns
 unfolding countsOf
 returns c = λ i. record { polygons = c .before .before .word-at .ensures i; vertices = c .before .word-at2 .ensures i; materials = c .word-at3 .ensures i }

@@ -8,15 +8,12 @@ use Rattle.base.proofs.little_endian.word_at.Reads as word-at-reads
 use Rattle.float32.proofs.words.value.Reads as value-reads
 use Rattle.mesh_input.specs.Input.{floatAt}
 
--- src/lib.rt:31:11
 word-at-requires : tie.Need-word-at-requires
 word-at-requires c κs = search needs
 
--- src/lib.rt:31:5
 value-requires : tie.Need-value-requires
 value-requires c κs = search needs
 
--- src/lib.rt:27:1
 returns : tie.Need-returns
 unfolding floatAt
 returns c = cc

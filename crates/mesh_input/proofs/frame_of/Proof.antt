@@ -8,27 +8,21 @@ use Rattle.base.proofs.little_endian.word_at.Reads as word-at-reads
 use Rattle.mesh_input.proofs.words3_at.Reads as words3-at-reads
 use Rattle.mesh_input.specs.Input.{frameOf}
 
--- src/lib.rt:52:18
 words3-at-requires : tie.Need-words3-at-requires
 words3-at-requires c κs = search needs
 
--- src/lib.rt:53:18
 words3-at-requires-2 : tie.Need-words3-at-requires-2
 words3-at-requires-2 c κs = search needs
 
--- src/lib.rt:54:21
 words3-at-requires-3 : tie.Need-words3-at-requires-3
 words3-at-requires-3 c κs = search needs
 
--- src/lib.rt:55:24
 words3-at-requires-4 : tie.Need-words3-at-requires-4
 words3-at-requires-4 c κs = search needs
 
--- src/lib.rt:56:24
 word-at-requires : tie.Need-word-at-requires
 word-at-requires c κs = search needs
 
--- src/lib.rt:47:1
 returns : tie.Need-returns
 unfolding frameOf
 returns c =

@@ -8,55 +8,42 @@ use Rattle.base.proofs.little_endian.word_at.Reads as word-at-reads
 use Rattle.mesh_input.specs.Input.{countsOf}
 use native.Mathlib.Omega.{arith}
 
--- src/lib.rt:101:9
 word-at-requires : tie.Need-word-at-requires
 word-at-requires c κs = search needs
 
--- src/lib.rt:102:9
 word-at-requires-2 : tie.Need-word-at-requires-2
 word-at-requires-2 c κs = search needs
 
--- src/lib.rt:103:9
 word-at-requires-3 : tie.Need-word-at-requires-3
 word-at-requires-3 c κs = search needs
 
--- src/lib.rt:104:15
 cast-result : tie.Need-cast-result
 cast-result c = search needs
 
--- src/lib.rt:104:11
 mul-result : tie.Need-mul-result
 mul-result c = search needs
 
--- src/lib.rt:104:5
 add-result : tie.Need-add-result
 add-result c = search needs
 
--- src/lib.rt:104:41
 cast-result-2 : tie.Need-cast-result-2
 cast-result-2 c = search needs
 
--- src/lib.rt:104:36
 mul-result-2 : tie.Need-mul-result-2
 mul-result-2 c = search needs
 
--- src/lib.rt:104:5
 add-result-2 : tie.Need-add-result-2
 add-result-2 c = search needs
 
--- src/lib.rt:104:66
 cast-result-3 : tie.Need-cast-result-3
 cast-result-3 c = search needs
 
--- src/lib.rt:104:61
 mul-result-3 : tie.Need-mul-result-3
 mul-result-3 c = search needs
 
--- src/lib.rt:104:5
 add-result-3 : tie.Need-add-result-3
 add-result-3 c = search needs
 
--- src/lib.rt:97:1
 returns : tie.Need-returns
 unfolding countsOf
 returns c = omega (arith, c .before .before .word-at .ensures, c .before .word-at2 .ensures, c .word-at3 .ensures)

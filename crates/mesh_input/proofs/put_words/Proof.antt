@@ -14,50 +14,39 @@ Inv-loop out₀ bytes at n i₀ out i = Reading bytes at out₀ out i n
 abbrev μ-loop : tie.MeasureT-loop
 μ-loop out₀ bytes at n i₀ out i = n - i
 
--- src/lib.rt:130:5
 loop-holds : tie.Need-loop-holds Inv-loop μ-loop
 loop-holds c = no-word (c .before .before .args .bytes .now) (c .before .before .args .at) (c .before .before .args .out .now) (c .before .before .args .n)
 
--- src/lib.rt:131:38
 mul-word-at : tie.Need-mul-word-at Inv-loop μ-loop
 mul-word-at c = omega arith
 
--- src/lib.rt:131:33
 add-word-at : tie.Need-add-word-at Inv-loop μ-loop
 add-word-at c = omega arith
 
--- src/lib.rt:131:18
 word-at-requires : tie.Need-word-at-requires Inv-loop μ-loop
 word-at-requires c κs = omega arith
 
--- src/lib.rt:131:9
 mul-out : tie.Need-mul-out Inv-loop μ-loop
 mul-out c = omega arith
 
--- src/lib.rt:131:9
 slice-write-out : tie.Need-slice-write-out Inv-loop μ-loop
 slice-write-out c = omega (arith, c .before .before .loop .inv .same)
 
--- src/lib.rt:132:9
 add-i : tie.Need-add-i Inv-loop μ-loop
 add-i c = omega arith
 
--- src/lib.rt:130:5
 loop-less : tie.Need-loop-less Inv-loop μ-loop
 loop-less c = omega arith
 
--- src/lib.rt:130:5
 loop-again : tie.Need-loop-again Inv-loop μ-loop
 loop-again c =
     let a = c .before .before .before .before .before .args in
     let l = c .before .before .loop in
     word-next (a .bytes .now) (a .at) (a .out .now) (l .out) (l .i) (a .n) _ (l .inv) (omega arith) (c .before .before .before .before .before .pre .0) (c .word-at .ensures)
 
--- src/lib.rt:125:1
 same-length : tie.Need-same-length Inv-loop μ-loop
 same-length c = c .before .loop .inv .same
 
--- src/lib.rt:125:1
 returns : tie.Need-returns Inv-loop μ-loop
 returns c =
     let a = c .before .before .before .before .args in

@@ -9,26 +9,21 @@ use mathlib.Core.Path.{sym, _∙_}
 use borrow.Author.Tests.{lt-ltb, le-ltb, eq-eqb, ne-eqb}
 use Rattle.mesh_input.specs.Input.{refusalOf}
 
--- src/lib.rt:112:9
 returns : tie.Need-returns
 unfolding refusalOf
 returns c = rw (lt-ltb _ _ (c .if1 .taken))
 
--- src/lib.rt:115:9
 returns-2 : tie.Need-returns-2
 unfolding refusalOf
 returns-2 c = rw (le-ltb _ _ (c .before .if1 .left), lt-ltb _ _ (c .if2 .taken))
 
--- src/lib.rt:117:8
 length-of-requires : tie.Need-length-of-requires
 length-of-requires c κs = search needs
 
--- src/lib.rt:108:1
 returns-3 : tie.Need-returns-3
 unfolding refusalOf
 returns-3 c = rw (le-ltb _ _ (c .before .before .before .if1 .left), le-ltb _ _ (c .before .before .if2 .left), eq-eqb _ _ (sym (c .before .length-of .ensures) ∙ c .if3 .taken))
 
--- src/lib.rt:108:1
 returns-4 : tie.Need-returns-4
 unfolding refusalOf
 returns-4 c = rw (le-ltb _ _ (c .before .before .before .if1 .left), le-ltb _ _ (c .before .before .if2 .left), ne-eqb _ _ (λ e. c .if3 .left (c .before .length-of .ensures ∙ e)))

@@ -7,35 +7,27 @@ use Rattle.mesh_input.proofs.row_at.Lts as lts
 use Rattle.mesh_input.proofs.float_at.Reads as float-at-reads
 use Rattle.mesh_input.specs.Input.{rowAt}
 
--- src/lib.rt:39:12
 float-at-requires : tie.Need-float-at-requires
 float-at-requires c κs = search needs
 
--- src/lib.rt:40:28
 add-float-at : tie.Need-add-float-at
 add-float-at c = search needs
 
--- src/lib.rt:40:12
 float-at-requires-2 : tie.Need-float-at-requires-2
 float-at-requires-2 c κs = search needs
 
--- src/lib.rt:41:28
 add-float-at-2 : tie.Need-add-float-at-2
 add-float-at-2 c = search needs
 
--- src/lib.rt:41:12
 float-at-requires-3 : tie.Need-float-at-requires-3
 float-at-requires-3 c κs = search needs
 
--- src/lib.rt:42:28
 add-float-at-3 : tie.Need-add-float-at-3
 add-float-at-3 c = search needs
 
--- src/lib.rt:42:12
 float-at-requires-4 : tie.Need-float-at-requires-4
 float-at-requires-4 c κs = search needs
 
--- src/lib.rt:34:1
 returns : tie.Need-returns
 unfolding rowAt
 returns c = λ i. record { x = c .before .before .before .float-at .ensures i; y = c .before .before .float-at2 .ensures i; z = c .before .float-at3 .ensures i; w = c .float-at4 .ensures i }

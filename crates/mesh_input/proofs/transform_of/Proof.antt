@@ -7,23 +7,18 @@ use Rattle.mesh_input.proofs.transform_of.Lts as lts
 use Rattle.mesh_input.proofs.row_at.Reads as row-at-reads
 use Rattle.mesh_input.specs.Input.{transformOf}
 
--- src/lib.rt:65:15
 row-at-requires : tie.Need-row-at-requires
 row-at-requires c κs = search needs
 
--- src/lib.rt:66:15
 row-at-requires-2 : tie.Need-row-at-requires-2
 row-at-requires-2 c κs = search needs
 
--- src/lib.rt:67:15
 row-at-requires-3 : tie.Need-row-at-requires-3
 row-at-requires-3 c κs = search needs
 
--- src/lib.rt:68:15
 row-at-requires-4 : tie.Need-row-at-requires-4
 row-at-requires-4 c κs = search needs
 
--- src/lib.rt:60:1
 returns : tie.Need-returns
 unfolding transformOf
 returns c = λ i. record { row0 = c .before .before .before .row-at .ensures i; row1 = c .before .before .row-at2 .ensures i; row2 = c .before .row-at3 .ensures i; row3 = c .row-at4 .ensures i }

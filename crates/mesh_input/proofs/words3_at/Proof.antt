@@ -7,27 +7,21 @@ use Rattle.mesh_input.proofs.words3_at.Lts as lts
 use Rattle.base.proofs.little_endian.word_at.Reads as word-at-reads
 use Rattle.mesh_input.specs.Input.{words3At}
 
--- src/lib.rt:21:12
 word-at-requires : tie.Need-word-at-requires
 word-at-requires c κs = search needs
 
--- src/lib.rt:22:27
 add-word-at : tie.Need-add-word-at
 add-word-at c = search needs
 
--- src/lib.rt:22:12
 word-at-requires-2 : tie.Need-word-at-requires-2
 word-at-requires-2 c κs = search needs
 
--- src/lib.rt:23:27
 add-word-at-2 : tie.Need-add-word-at-2
 add-word-at-2 c = search needs
 
--- src/lib.rt:23:12
 word-at-requires-3 : tie.Need-word-at-requires-3
 word-at-requires-3 c κs = search needs
 
--- src/lib.rt:16:1
 returns : tie.Need-returns
 unfolding words3At
 returns c = λ i. record { x = c .before .before .word-at .ensures i; y = c .before .word-at2 .ensures i; z = c .word-at3 .ensures i }

@@ -8,23 +8,18 @@ use Rattle.io.proofs.read_full.Reads as read-full-reads
 use mathlib.Core.Path.{sym}
 use lib.Seq.{length-take-le}
 
--- src/lib.rt:9:25
 slice-relend-prefix-read-full : tie.Need-slice-relend-prefix-read-full
 slice-relend-prefix-read-full c = search needs
 
--- src/lib.rt:9:25
 slice-aggregate-read-full : tie.Need-slice-aggregate-read-full
 slice-aggregate-read-full c = sym (length-take-le 148 (c .before .before .args .input .now) (c .before .before .pre))
 
--- src/lib.rt:9:5
 read-full-requires : tie.Need-read-full-requires
 read-full-requires c κs = search needs
 
--- src/lib.rt:6:1
 same-length : tie.Need-same-length
 same-length c = search needs
 
--- src/lib.rt:6:1
 returns : tie.Need-returns
 returns c = search needs
 

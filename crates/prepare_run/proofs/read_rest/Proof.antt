@@ -9,35 +9,27 @@ use mathlib.Core.Path.{sym}
 use lib.Seq.{length-take-le}
 use native.Mathlib.Omega.{arith}
 
--- src/lib.rt:17:15
 add-end : tie.Need-add-end
 add-end c = search needs
 
--- src/lib.rt:18:31
 sub-read-full : tie.Need-sub-read-full
 sub-read-full c = search needs
 
--- src/lib.rt:18:31
 part-read-full-start : tie.Need-part-read-full-start
 part-read-full-start c = search needs
 
--- src/lib.rt:18:31
 part-read-full-end : tie.Need-part-read-full-end
 part-read-full-end c = search needs
 
--- src/lib.rt:18:11
 read-full-requires : tie.Need-read-full-requires
 read-full-requires c κs = search needs
 
--- src/lib.rt:18:5
 add-result : tie.Need-add-result
 add-result c = search needs
 
--- src/lib.rt:13:1
 same-length : tie.Need-same-length
 same-length c = search needs
 
--- src/lib.rt:13:1
 returns : tie.Need-returns
 returns c =
     let f = c .before .before .read-full in

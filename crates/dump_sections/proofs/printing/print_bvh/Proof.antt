@@ -13,80 +13,62 @@ use Rattle.dump_sections.proofs.sections.tree_lines.Reads as tree-lines
 use Rattle.dump_sections.proofs.sections.values_lines.Reads as values-lines-reads
 use Rattle.hex_lines.proofs.lines.refused_line.Reads as refused-line-reads
 
--- src/printing.rt:95:22
 enum-known-answer : tie.Need-enum-known-answer
 enum-known-answer c = search needs
 
--- src/printing.rt:96:13
 values-lines-requires : tie.Need-values-lines-requires
 values-lines-requires c κs = search needs
 
--- src/printing.rt:97:13
 no-octants-line-requires : tie.Need-no-octants-line-requires
 no-octants-line-requires c κs = search needs
 
--- src/printing.rt:98:13
 tree-line-requires : tie.Need-tree-line-requires
 tree-line-requires c κs = search needs
 
--- src/printing.rt:99:13
 lists-lines-requires : tie.Need-lists-lines-requires
 lists-lines-requires c κs = search needs
 
--- src/printing.rt:109:13
 tree-lines-requires : tie.Need-tree-lines-requires
 tree-lines-requires c κs =
     let h = c .before .before .before .before .before .before .before .before .before .before .before .before .before .before .before .pre in
     (h .0 .0, h .6, h .7, h .8)
 
--- src/printing.rt:111:24
 enum-known-answer-2 : tie.Need-enum-known-answer-2
 enum-known-answer-2 c = search needs
 
--- src/printing.rt:112:13
 values-lines-requires-2 : tie.Need-values-lines-requires-2
 values-lines-requires-2 c κs = search needs
 
--- src/printing.rt:113:13
 no-octants-line-requires-2 : tie.Need-no-octants-line-requires-2
 no-octants-line-requires-2 c κs = search needs
 
--- src/printing.rt:114:13
 no-tree-line-requires : tie.Need-no-tree-line-requires
 no-tree-line-requires c κs = search needs
 
--- src/printing.rt:115:13
 lists-lines-requires-2 : tie.Need-lists-lines-requires-2
 lists-lines-requires-2 c κs = search needs
 
--- src/printing.rt:126:26
 enum-known-answer-3 : tie.Need-enum-known-answer-3
 enum-known-answer-3 c = search needs
 
--- src/printing.rt:126:51
 number-of-requires : tie.Need-number-of-requires
 number-of-requires c κs = search needs
 
--- src/printing.rt:126:34
 refused-line-requires : tie.Need-refused-line-requires
 refused-line-requires c κs = search needs
 
 enum-told : tie.Need-enum-told
 enum-told c = search needs
 
--- src/printing.rt:76:1
 returns : tie.Need-returns
 returns c = search needs
 
--- src/printing.rt:76:1
 returns-2 : tie.Need-returns-2
 returns-2 c = search needs
 
--- src/printing.rt:76:1
 returns-3 : tie.Need-returns-3
 returns-3 c = search needs
 
--- src/printing.rt:76:1
 returns-4 : tie.Need-returns-4
 returns-4 c = search needs
 

@@ -12,53 +12,41 @@ use Rattle.dump_sections.proofs.sections.octants_line.Reads as octants-
 use Rattle.dump_sections.proofs.sections.values_lines.Reads as values-lines-reads
 use Rattle.hex_lines.proofs.lines.refused_line.Reads as refused-line-reads
 
--- src/printing.rt:54:27
 enum-known-answer : tie.Need-enum-known-answer
 enum-known-answer c = search needs
 
--- src/printing.rt:55:13
 values-lines-requires : tie.Need-values-lines-requires
 values-lines-requires c κs = search needs
 
--- src/printing.rt:56:13
 octants-line-requires : tie.Need-octants-line-requires
 octants-line-requires c κs = search needs
 
--- src/printing.rt:57:13
 no-tree-line-requires : tie.Need-no-tree-line-requires
 no-tree-line-requires c κs = search needs
 
--- src/printing.rt:58:13
 lists-lines-requires : tie.Need-lists-lines-requires
 lists-lines-requires c κs = search needs
 
--- src/printing.rt:68:13
 hull-lines-requires : tie.Need-hull-lines-requires
 hull-lines-requires c κs =
     let h = c .before .before .before .before .before .before .before .before .before .before .before .before .before .before .before .pre in
     (h .0 .1, h .6, h .7, h .8)
 
--- src/printing.rt:70:26
 enum-known-answer-2 : tie.Need-enum-known-answer-2
 enum-known-answer-2 c = search needs
 
--- src/printing.rt:70:51
 number-of-requires : tie.Need-number-of-requires
 number-of-requires c κs = search needs
 
--- src/printing.rt:70:34
 refused-line-requires : tie.Need-refused-line-requires
 refused-line-requires c κs = search needs
 
--- src/printing.rt:35:1
 returns : tie.Need-returns
 returns c = search needs
 
--- src/printing.rt:35:1
 returns-2 : tie.Need-returns-2
 returns-2 c = search needs
 
--- src/printing.rt:35:1
 returns-3 : tie.Need-returns-3
 returns-3 c = search needs
 

@@ -6,19 +6,15 @@ use Rattle.hex_lines.proofs.hex.digit.Reads as reads
 use Rattle.hex_lines.proofs.hex.digit.Lts as lts
 use borrow.Author.Tests.{lt-ltb, le-ltb}
 
--- src/hex.rt:16:17
 add-result : tie.Need-add-result
 add-result c = search needs
 
--- src/hex.rt:16:33
 add-result-2 : tie.Need-add-result-2
 add-result-2 c = search needs
 
--- src/hex.rt:12:1
 returns : tie.Need-returns
 returns c = rw (lt-ltb _ _ (c .if1 .taken))
 
--- src/hex.rt:12:1
 returns-2 : tie.Need-returns-2
 returns-2 c = rw (le-ltb _ _ (c .if1 .left))
 

@@ -10,31 +10,24 @@ use lib.ListN.{length-set}
 use Rattle.hex_lines.specs.Hex.{byteText}
 use native.Mathlib.Omega.{arith}
 
--- src/hex.rt:23:15
 digit-requires : tie.Need-digit-requires
 digit-requires c κs = search needs
 
--- src/hex.rt:23:5
 slice-write-out : tie.Need-slice-write-out
 slice-write-out c = search needs
 
--- src/hex.rt:24:19
 digit-requires-2 : tie.Need-digit-requires-2
 digit-requires-2 c κs = search needs
 
--- src/hex.rt:24:9
 add-out : tie.Need-add-out
 add-out c = search needs
 
--- src/hex.rt:24:5
 slice-write-out-2 : tie.Need-slice-write-out-2
 slice-write-out-2 c = simp length-set (omega arith)
 
--- src/hex.rt:19:1
 same-length : tie.Need-same-length
 same-length c = search needs
 
--- src/hex.rt:19:1
 returns : tie.Need-returns
 unfolding byteText
 returns c = rw (add-one, c .before .digit .ensures, c .digit2 .ensures)

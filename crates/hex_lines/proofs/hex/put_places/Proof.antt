@@ -17,46 +17,36 @@ Inv-loop out₀ places i₀ out i = Putting (littleEndian 2) places out₀ out i
 abbrev μ-loop : tie.MeasureT-loop
 μ-loop out₀ places i₀ out i = length places - i
 
--- src/hex.rt:68:5
 loop-holds : tie.Need-loop-holds Inv-loop μ-loop
 loop-holds c = none-put (littleEndian 2) _ _
 
--- src/hex.rt:69:24
 mul-put-place : tie.Need-mul-put-place Inv-loop μ-loop
 mul-put-place c = omega arith
 
--- src/hex.rt:69:31
 mul-put-place-2 : tie.Need-mul-put-place-2 Inv-loop μ-loop
 mul-put-place-2 c = omega arith
 
--- src/hex.rt:69:31
 shared-slice-read-put-place : tie.Need-shared-slice-read-put-place Inv-loop μ-loop
 shared-slice-read-put-place c = omega arith
 
--- src/hex.rt:69:9
 put-place-requires : tie.Need-put-place-requires Inv-loop μ-loop
 put-place-requires c κs = omega (arith, c .before .before .before .loop .inv .same, c .before .before .before .before .before .before .pre)
 
--- src/hex.rt:70:9
 add-i : tie.Need-add-i Inv-loop μ-loop
 add-i c = omega arith
 
--- src/hex.rt:68:5
 loop-less : tie.Need-loop-less Inv-loop μ-loop
 loop-less c = omega arith
 
--- src/hex.rt:68:5
 loop-again : tie.Need-loop-again Inv-loop μ-loop
 loop-again c =
     let a = c .before .before .before .before .before .before .before .before .before .args in
     let l = c .before .before .before .before .before .before .loop in
     next-put (littleEndian 2) 2 (λ x. number-bytes 2 x .size) (a .places .now) (a .out .now) (l .out) _ (l .i) (l .inv) (omega arith) (c .before .before .before .before .before .before .before .before .before .pre) (c .before .before .put-place .ensures)
 
--- src/hex.rt:63:1
 same-length : tie.Need-same-length Inv-loop μ-loop
 same-length c = c .before .loop .inv .same
 
--- src/hex.rt:63:1
 returns : tie.Need-returns Inv-loop μ-loop
 returns c =
     let a = c .before .before .before .before .args in

@@ -17,46 +17,36 @@ Inv-loop out₀ words i₀ out i = Putting (littleEndian 4) words out₀ out i
 abbrev μ-loop : tie.MeasureT-loop
 μ-loop out₀ words i₀ out i = length words - i
 
--- src/hex.rt:50:5
 loop-holds : tie.Need-loop-holds Inv-loop μ-loop
 loop-holds c = none-put (littleEndian 4) _ _
 
--- src/hex.rt:51:23
 mul-put-word : tie.Need-mul-put-word Inv-loop μ-loop
 mul-put-word c = omega arith
 
--- src/hex.rt:51:30
 mul-put-word-2 : tie.Need-mul-put-word-2 Inv-loop μ-loop
 mul-put-word-2 c = omega arith
 
--- src/hex.rt:51:30
 shared-slice-read-put-word : tie.Need-shared-slice-read-put-word Inv-loop μ-loop
 shared-slice-read-put-word c = omega arith
 
--- src/hex.rt:51:9
 put-word-requires : tie.Need-put-word-requires Inv-loop μ-loop
 put-word-requires c κs = omega (arith, c .before .before .before .loop .inv .same, c .before .before .before .before .before .before .pre)
 
--- src/hex.rt:52:9
 add-i : tie.Need-add-i Inv-loop μ-loop
 add-i c = omega arith
 
--- src/hex.rt:50:5
 loop-less : tie.Need-loop-less Inv-loop μ-loop
 loop-less c = omega arith
 
--- src/hex.rt:50:5
 loop-again : tie.Need-loop-again Inv-loop μ-loop
 loop-again c =
     let a = c .before .before .before .before .before .before .before .before .before .args in
     let l = c .before .before .before .before .before .before .loop in
     next-put (littleEndian 4) 4 (λ x. number-bytes 4 x .size) (a .words .now) (a .out .now) (l .out) _ (l .i) (l .inv) (omega arith) (c .before .before .before .before .before .before .before .before .before .pre) (c .before .before .put-word .ensures)
 
--- src/hex.rt:45:1
 same-length : tie.Need-same-length Inv-loop μ-loop
 same-length c = c .before .loop .inv .same
 
--- src/hex.rt:45:1
 returns : tie.Need-returns Inv-loop μ-loop
 returns c =
     let a = c .before .before .before .before .args in

@@ -10,27 +10,21 @@ use mathlib.Core.Path.{sym}
 use lib.Seq.{length-take-le}
 use native.Mathlib.Omega.{arith}
 
--- src/lines.rt:64:5
 write-all-requires : tie.Need-write-all-requires
 write-all-requires c κs = search needs
 
--- src/lines.rt:65:22
 slice-aggregate-write-places : tie.Need-slice-aggregate-write-places
 slice-aggregate-write-places c = sym (length-take-le _ _ (c .before .before .before .before .pre .0))
 
--- src/lines.rt:65:5
 write-places-requires : tie.Need-write-places-requires
 write-places-requires c κs = omega (arith, slice-aggregate-write-places c, c .before .before .before .before .pre .1)
 
--- src/lines.rt:66:19
 slice-aggregate-write-all : tie.Need-slice-aggregate-write-all
 slice-aggregate-write-all c = search needs
 
--- src/lines.rt:66:5
 write-all-requires-2 : tie.Need-write-all-requires-2
 write-all-requires-2 c κs = search needs
 
--- src/lines.rt:61:1
 returns : tie.Need-returns
 returns c = search needs
 

@@ -10,27 +10,21 @@ use mathlib.Core.Path.{sym}
 use lib.Seq.{length-take-le}
 use native.Mathlib.Omega.{arith}
 
--- src/lines.rt:56:5
 write-all-requires : tie.Need-write-all-requires
 write-all-requires c κs = search needs
 
--- src/lines.rt:57:21
 slice-aggregate-write-words : tie.Need-slice-aggregate-write-words
 slice-aggregate-write-words c = sym (length-take-le _ _ (c .before .before .before .before .pre .0))
 
--- src/lines.rt:57:5
 write-words-requires : tie.Need-write-words-requires
 write-words-requires c κs = omega (arith, slice-aggregate-write-words c, c .before .before .before .before .pre .1)
 
--- src/lines.rt:58:19
 slice-aggregate-write-all : tie.Need-slice-aggregate-write-all
 slice-aggregate-write-all c = search needs
 
--- src/lines.rt:58:5
 write-all-requires-2 : tie.Need-write-all-requires-2
 write-all-requires-2 c κs = search needs
 
--- src/lines.rt:53:1
 returns : tie.Need-returns
 returns c = search needs
 

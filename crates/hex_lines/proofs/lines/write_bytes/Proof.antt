@@ -10,31 +10,24 @@ use mathlib.Core.Path.{sym}
 use lib.Seq.{length-take-le}
 use native.Mathlib.Omega.{arith}
 
--- src/lines.rt:13:13
 slice-aggregate-put-hex : tie.Need-slice-aggregate-put-hex
 slice-aggregate-put-hex c = search needs
 
--- src/lines.rt:13:5
 put-hex-requires : tie.Need-put-hex-requires
 put-hex-requires c κs = search needs
 
--- src/lines.rt:14:15
 mul-end : tie.Need-mul-end
 mul-end c = search needs
 
--- src/lines.rt:15:19
 array-share-prefix-text : tie.Need-array-share-prefix-text
 array-share-prefix-text c = search needs
 
--- src/lines.rt:15:19
 slice-aggregate-write-all : tie.Need-slice-aggregate-write-all
 slice-aggregate-write-all c = sym (length-take-le _ _ (omega (arith, c .before .before .put-hex .kept .0, c .before .before .before .before .before .pre)))
 
--- src/lines.rt:15:5
 write-all-requires : tie.Need-write-all-requires
 write-all-requires c κs = search needs
 
--- src/lines.rt:9:1
 returns : tie.Need-returns
 returns c = search needs
 

@@ -10,31 +10,24 @@ use mathlib.Core.Path.{sym}
 use lib.Seq.{length-take-le}
 use native.Mathlib.Omega.{arith}
 
--- src/lines.rt:31:16
 slice-aggregate-put-places : tie.Need-slice-aggregate-put-places
 slice-aggregate-put-places c = search needs
 
--- src/lines.rt:31:5
 put-places-requires : tie.Need-put-places-requires
 put-places-requires c κs = search needs
 
--- src/lines.rt:32:15
 mul-end : tie.Need-mul-end
 mul-end c = search needs
 
--- src/lines.rt:33:21
 array-share-prefix-bytes : tie.Need-array-share-prefix-bytes
 array-share-prefix-bytes c = search needs
 
--- src/lines.rt:33:21
 slice-aggregate-write-bytes : tie.Need-slice-aggregate-write-bytes
 slice-aggregate-write-bytes c = sym (length-take-le _ _ (omega (arith, c .before .before .put-places .kept .0, c .before .before .before .before .before .pre)))
 
--- src/lines.rt:33:5
 write-bytes-requires : tie.Need-write-bytes-requires
 write-bytes-requires c κs = omega (arith, slice-aggregate-write-bytes c, c .before .before .before .before .before .pre)
 
--- src/lines.rt:27:1
 returns : tie.Need-returns
 returns c = search needs
 

@@ -10,31 +10,24 @@ use mathlib.Core.Path.{sym}
 use lib.Seq.{length-take-le}
 use native.Mathlib.Omega.{arith}
 
--- src/lines.rt:22:15
 slice-aggregate-put-words : tie.Need-slice-aggregate-put-words
 slice-aggregate-put-words c = search needs
 
--- src/lines.rt:22:5
 put-words-requires : tie.Need-put-words-requires
 put-words-requires c κs = search needs
 
--- src/lines.rt:23:15
 mul-end : tie.Need-mul-end
 mul-end c = search needs
 
--- src/lines.rt:24:21
 array-share-prefix-bytes : tie.Need-array-share-prefix-bytes
 array-share-prefix-bytes c = search needs
 
--- src/lines.rt:24:21
 slice-aggregate-write-bytes : tie.Need-slice-aggregate-write-bytes
 slice-aggregate-write-bytes c = sym (length-take-le _ _ (omega (arith, c .before .before .put-words .kept .0, c .before .before .before .before .before .pre)))
 
--- src/lines.rt:24:5
 write-bytes-requires : tie.Need-write-bytes-requires
 write-bytes-requires c κs = omega (arith, slice-aggregate-write-bytes c, c .before .before .before .before .before .pre)
 
--- src/lines.rt:18:1
 returns : tie.Need-returns
 returns c = search needs
 
