@@ -2,10 +2,6 @@
 use borrow.Author.Needs.{needs}
 use Rattle.dumping.proofs.dump_bvh.Statement.{statement}
 use Rattle.dumping.proofs.dump_bvh.Tie as tie
-use Rattle.dumping.proofs.dump_bvh.Reads as reads
-use Rattle.dumping.proofs.dump_bvh.Lts as lts
-use Rattle.dump_sections.proofs.printing.print_bvh.Reads as print-bvh-reads
-use Rattle.geometry_bvh.proofs.prepare_bvh.Reads as prepare-bvh-reads
 use native.Mathlib.Omega.{arith}
 
 slice-aggregate-prepare-bvh : tie.Need-slice-aggregate-prepare-bvh

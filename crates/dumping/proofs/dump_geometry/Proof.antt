@@ -2,10 +2,6 @@
 use borrow.Author.Needs.{needs}
 use Rattle.dumping.proofs.dump_geometry.Statement.{statement}
 use Rattle.dumping.proofs.dump_geometry.Tie as tie
-use Rattle.dumping.proofs.dump_geometry.Reads as reads
-use Rattle.dumping.proofs.dump_geometry.Lts as lts
-use Rattle.dump_sections.proofs.printing.print_geometry.Reads as print-geometry-reads
-use Rattle.geometry.proofs.prepare_geometry.Reads as prepare-geometry-reads
 use native.Mathlib.Omega.{arith}
 
 slice-aggregate-prepare-geometry : tie.Need-slice-aggregate-prepare-geometry

@@ -2,14 +2,6 @@
 use borrow.Author.Needs.{needs}
 use Rattle.mesh_input.proofs.bound_of.Statement.{statement}
 use Rattle.mesh_input.proofs.bound_of.Tie as tie
-use Rattle.mesh_input.proofs.bound_of.Reads as reads
-use Rattle.mesh_input.proofs.bound_of.Lts as lts
-use Rattle.base.proofs.little_endian.word_at.Reads as word-at-reads
-use Rattle.math.proofs.words3.values.Reads as values-reads
-use Rattle.mesh_input.proofs.float_at.Reads as float-at-reads
-use Rattle.mesh_input.proofs.frame_of.Reads as frame-of-reads
-use Rattle.mesh_input.proofs.transform_of.Reads as transform-of-reads
-use Rattle.mesh_input.proofs.words3_at.Reads as words3-at-reads
 use mathlib.Core.Path.{ap, _∙_}
 use Rattle.math.specs.Stored.{valuesOf}
 use Rattle.mesh_input.specs.Input.{boundOf}

@@ -2,10 +2,6 @@
 use borrow.Author.Needs.{needs}
 use Rattle.mesh_input.proofs.float_at.Statement.{statement}
 use Rattle.mesh_input.proofs.float_at.Tie as tie
-use Rattle.mesh_input.proofs.float_at.Reads as reads
-use Rattle.mesh_input.proofs.float_at.Lts as lts
-use Rattle.base.proofs.little_endian.word_at.Reads as word-at-reads
-use Rattle.float32.proofs.words.value.Reads as value-reads
 use Rattle.mesh_input.specs.Input.{floatAt}
 
 word-at-requires : tie.Need-word-at-requires

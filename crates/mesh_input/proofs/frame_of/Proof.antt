@@ -2,10 +2,6 @@
 use borrow.Author.Needs.{needs}
 use Rattle.mesh_input.proofs.frame_of.Statement.{statement}
 use Rattle.mesh_input.proofs.frame_of.Tie as tie
-use Rattle.mesh_input.proofs.frame_of.Reads as reads
-use Rattle.mesh_input.proofs.frame_of.Lts as lts
-use Rattle.base.proofs.little_endian.word_at.Reads as word-at-reads
-use Rattle.mesh_input.proofs.words3_at.Reads as words3-at-reads
 use Rattle.mesh_input.specs.Input.{frameOf}
 
 words3-at-requires : tie.Need-words3-at-requires

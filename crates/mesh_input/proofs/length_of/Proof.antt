@@ -2,9 +2,6 @@
 use borrow.Author.Needs.{needs}
 use Rattle.mesh_input.proofs.length_of.Statement.{statement}
 use Rattle.mesh_input.proofs.length_of.Tie as tie
-use Rattle.mesh_input.proofs.length_of.Reads as reads
-use Rattle.mesh_input.proofs.length_of.Lts as lts
-use Rattle.base.proofs.little_endian.word_at.Reads as word-at-reads
 use Rattle.mesh_input.specs.Input.{countsOf}
 use native.Mathlib.Omega.{arith}
 

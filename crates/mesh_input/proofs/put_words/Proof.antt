@@ -1,9 +1,6 @@
 -- `put_words`: the first i words are read.
 use Rattle.mesh_input.proofs.put_words.Statement.{statement}
 use Rattle.mesh_input.proofs.put_words.Tie as tie
-use Rattle.mesh_input.proofs.put_words.Reads as reads
-use Rattle.mesh_input.proofs.put_words.Lts as lts
-use Rattle.base.proofs.little_endian.word_at.Reads as word-at-reads
 use Prim.Native.Nat.{_-_}
 use Rattle.mesh_input.proofs.Laws.{Reading, no-word, word-next, all-words}
 use native.Mathlib.Omega.{arith}

@@ -2,9 +2,6 @@
 use borrow.Author.Needs.{needs}
 use Rattle.mesh_input.proofs.refusal_of.Statement.{statement}
 use Rattle.mesh_input.proofs.refusal_of.Tie as tie
-use Rattle.mesh_input.proofs.refusal_of.Reads as reads
-use Rattle.mesh_input.proofs.refusal_of.Lts as lts
-use Rattle.mesh_input.proofs.length_of.Reads as length-of-reads
 use mathlib.Core.Path.{sym, _∙_}
 use borrow.Author.Tests.{lt-ltb, le-ltb, eq-eqb, ne-eqb}
 use Rattle.mesh_input.specs.Input.{refusalOf}

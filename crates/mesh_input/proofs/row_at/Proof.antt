@@ -2,9 +2,6 @@
 use borrow.Author.Needs.{needs}
 use Rattle.mesh_input.proofs.row_at.Statement.{statement}
 use Rattle.mesh_input.proofs.row_at.Tie as tie
-use Rattle.mesh_input.proofs.row_at.Reads as reads
-use Rattle.mesh_input.proofs.row_at.Lts as lts
-use Rattle.mesh_input.proofs.float_at.Reads as float-at-reads
 use Rattle.mesh_input.specs.Input.{rowAt}
 
 float-at-requires : tie.Need-float-at-requires

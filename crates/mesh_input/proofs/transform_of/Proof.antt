@@ -2,9 +2,6 @@
 use borrow.Author.Needs.{needs}
 use Rattle.mesh_input.proofs.transform_of.Statement.{statement}
 use Rattle.mesh_input.proofs.transform_of.Tie as tie
-use Rattle.mesh_input.proofs.transform_of.Reads as reads
-use Rattle.mesh_input.proofs.transform_of.Lts as lts
-use Rattle.mesh_input.proofs.row_at.Reads as row-at-reads
 use Rattle.mesh_input.specs.Input.{transformOf}
 
 row-at-requires : tie.Need-row-at-requires

@@ -2,9 +2,6 @@
 use borrow.Author.Needs.{needs}
 use Rattle.mesh_input.proofs.words3_at.Statement.{statement}
 use Rattle.mesh_input.proofs.words3_at.Tie as tie
-use Rattle.mesh_input.proofs.words3_at.Reads as reads
-use Rattle.mesh_input.proofs.words3_at.Lts as lts
-use Rattle.base.proofs.little_endian.word_at.Reads as word-at-reads
 use Rattle.mesh_input.specs.Input.{words3At}
 
 word-at-requires : tie.Need-word-at-requires

@@ -1,10 +1,6 @@
 -- `main` ends: the turns fall.
 use Rattle.prepare_replay.proofs.main.Statement.{statement}
 use Rattle.prepare_replay.proofs.main.Tie as tie
-use Rattle.prepare_replay.proofs.main.Reads as reads
-use Rattle.prepare_replay.proofs.main.Lts as lts
-use Rattle.prepare_run.proofs.run_next.Reads as run-next-reads
-use Rattle.prepare_replay.proofs.after.Reads as after-reads
 use borrow.Author.Needs.{needs}
 
 abbrev Inv-loop : tie.InvT-loop

@@ -2,13 +2,6 @@
 use borrow.Author.Needs.{needs}
 use Rattle.prepare_run.proofs.dump.Statement.{statement}
 use Rattle.prepare_run.proofs.dump.Tie as tie
-use Rattle.prepare_run.proofs.dump.Reads as reads
-use Rattle.prepare_run.proofs.dump.Lts as lts
-use Rattle.hex_lines.proofs.lines.refused_line.Reads as refused-line-reads
-use Rattle.mesh_input.proofs.bound_of.Reads as bound-of-reads
-use Rattle.mesh_input.proofs.counts_of.Reads as counts-of-reads
-use Rattle.mesh_input.proofs.refusal_of.Reads as refusal-of-reads
-use Rattle.prepare_run.proofs.dump_counted.Reads as dump-counted-reads
 use mathlib.Core.Path.{sym, ap, _∙_}
 use Rattle.mesh_input.specs.Input.{lengthOf}
 use Rattle.mesh_input.proofs.Laws.{not-refused}

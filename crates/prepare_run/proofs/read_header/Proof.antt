@@ -2,9 +2,6 @@
 use borrow.Author.Needs.{needs}
 use Rattle.prepare_run.proofs.read_header.Statement.{statement}
 use Rattle.prepare_run.proofs.read_header.Tie as tie
-use Rattle.prepare_run.proofs.read_header.Reads as reads
-use Rattle.prepare_run.proofs.read_header.Lts as lts
-use Rattle.io.proofs.read_full.Reads as read-full-reads
 use mathlib.Core.Path.{sym}
 use lib.Seq.{length-take-le}
 

@@ -2,9 +2,6 @@
 use borrow.Author.Needs.{needs}
 use Rattle.prepare_run.proofs.read_rest.Statement.{statement}
 use Rattle.prepare_run.proofs.read_rest.Tie as tie
-use Rattle.prepare_run.proofs.read_rest.Reads as reads
-use Rattle.prepare_run.proofs.read_rest.Lts as lts
-use Rattle.io.proofs.read_full.Reads as read-full-reads
 use mathlib.Core.Path.{sym}
 use lib.Seq.{length-take-le}
 use native.Mathlib.Omega.{arith}

@@ -2,15 +2,6 @@
 use borrow.Author.Needs.{needs}
 use Rattle.dump_sections.proofs.printing.print_geometry.Statement.{statement}
 use Rattle.dump_sections.proofs.printing.print_geometry.Tie as tie
-use Rattle.dump_sections.proofs.printing.print_geometry.Reads as reads
-use Rattle.dump_sections.proofs.printing.print_geometry.Lts as lts
-use Rattle.dump_sections.proofs.printing.number_of.Reads as number-of-reads
-use Rattle.dump_sections.proofs.sections.hull_lines.Reads as hull-lines-reads
-use Rattle.dump_sections.proofs.sections.lists_lines.Reads as lists-lines-reads
-use Rattle.dump_sections.proofs.sections.no_tree_line.Reads as no-tree-line-reads
-use Rattle.dump_sections.proofs.sections.octants_line.Reads as octants-line-reads
-use Rattle.dump_sections.proofs.sections.values_lines.Reads as values-lines-reads
-use Rattle.hex_lines.proofs.lines.refused_line.Reads as refused-line-reads
 
 enum-known-answer : tie.Need-enum-known-answer
 enum-known-answer c = search needs

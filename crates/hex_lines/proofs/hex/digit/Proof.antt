@@ -2,8 +2,6 @@
 use borrow.Author.Needs.{needs}
 use Rattle.hex_lines.proofs.hex.digit.Statement.{statement}
 use Rattle.hex_lines.proofs.hex.digit.Tie as tie
-use Rattle.hex_lines.proofs.hex.digit.Reads as reads
-use Rattle.hex_lines.proofs.hex.digit.Lts as lts
 use borrow.Author.Tests.{lt-ltb, le-ltb}
 
 add-result : tie.Need-add-result

@@ -2,9 +2,6 @@
 use borrow.Author.Needs.{needs}
 use Rattle.hex_lines.proofs.hex.put_byte.Statement.{statement}
 use Rattle.hex_lines.proofs.hex.put_byte.Tie as tie
-use Rattle.hex_lines.proofs.hex.put_byte.Reads as reads
-use Rattle.hex_lines.proofs.hex.put_byte.Lts as lts
-use Rattle.hex_lines.proofs.hex.digit.Reads as digit-reads
 use native.Mathlib.Numerals.{add-one}
 use lib.ListN.{length-set}
 use Rattle.hex_lines.specs.Hex.{byteText}

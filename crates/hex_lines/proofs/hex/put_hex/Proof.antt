@@ -1,9 +1,6 @@
 -- `hex::put_hex`: the first i are put.
 use Rattle.hex_lines.proofs.hex.put_hex.Statement.{statement}
 use Rattle.hex_lines.proofs.hex.put_hex.Tie as tie
-use Rattle.hex_lines.proofs.hex.put_hex.Reads as reads
-use Rattle.hex_lines.proofs.hex.put_hex.Lts as lts
-use Rattle.hex_lines.proofs.hex.put_byte.Reads as put-byte-reads
 use Prim.Native.Nat.{ℕ, _-_}
 use lib.ListN.{length}
 use Rattle.hex_lines.proofs.Each.{Putting, none-put, next-put, all-put, byte-size}

@@ -1,9 +1,6 @@
 -- `hex::put_places`: the first i are put.
 use Rattle.hex_lines.proofs.hex.put_places.Statement.{statement}
 use Rattle.hex_lines.proofs.hex.put_places.Tie as tie
-use Rattle.hex_lines.proofs.hex.put_places.Reads as reads
-use Rattle.hex_lines.proofs.hex.put_places.Lts as lts
-use Rattle.hex_lines.proofs.hex.put_place.Reads as put-place-reads
 use Prim.Native.Nat.{ℕ, _-_}
 use lib.ListN.{length}
 use Rattle.hex_lines.proofs.Each.{Putting, none-put, next-put, all-put}

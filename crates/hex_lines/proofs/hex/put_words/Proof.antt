@@ -1,9 +1,6 @@
 -- `hex::put_words`: the first i are put.
 use Rattle.hex_lines.proofs.hex.put_words.Statement.{statement}
 use Rattle.hex_lines.proofs.hex.put_words.Tie as tie
-use Rattle.hex_lines.proofs.hex.put_words.Reads as reads
-use Rattle.hex_lines.proofs.hex.put_words.Lts as lts
-use Rattle.hex_lines.proofs.hex.put_word.Reads as put-word-reads
 use Prim.Native.Nat.{ℕ, _-_}
 use lib.ListN.{length}
 use Rattle.hex_lines.proofs.Each.{Putting, none-put, next-put, all-put}

@@ -2,10 +2,6 @@
 use borrow.Author.Needs.{needs}
 use Rattle.hex_lines.proofs.lines.places_line.Statement.{statement}
 use Rattle.hex_lines.proofs.lines.places_line.Tie as tie
-use Rattle.hex_lines.proofs.lines.places_line.Reads as reads
-use Rattle.hex_lines.proofs.lines.places_line.Lts as lts
-use Rattle.hex_lines.proofs.lines.write_places.Reads as write-places-reads
-use Rattle.io.proofs.write_all.Reads as write-all-reads
 use mathlib.Core.Path.{sym}
 use lib.Seq.{length-take-le}
 use native.Mathlib.Omega.{arith}

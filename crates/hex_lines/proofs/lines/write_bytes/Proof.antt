@@ -2,10 +2,6 @@
 use borrow.Author.Needs.{needs}
 use Rattle.hex_lines.proofs.lines.write_bytes.Statement.{statement}
 use Rattle.hex_lines.proofs.lines.write_bytes.Tie as tie
-use Rattle.hex_lines.proofs.lines.write_bytes.Reads as reads
-use Rattle.hex_lines.proofs.lines.write_bytes.Lts as lts
-use Rattle.hex_lines.proofs.hex.put_hex.Reads as put-hex-reads
-use Rattle.io.proofs.write_all.Reads as write-all-reads
 use mathlib.Core.Path.{sym}
 use lib.Seq.{length-take-le}
 use native.Mathlib.Omega.{arith}

@@ -2,10 +2,6 @@
 use borrow.Author.Needs.{needs}
 use Rattle.hex_lines.proofs.lines.write_places.Statement.{statement}
 use Rattle.hex_lines.proofs.lines.write_places.Tie as tie
-use Rattle.hex_lines.proofs.lines.write_places.Reads as reads
-use Rattle.hex_lines.proofs.lines.write_places.Lts as lts
-use Rattle.hex_lines.proofs.hex.put_places.Reads as put-places-reads
-use Rattle.hex_lines.proofs.lines.write_bytes.Reads as write-bytes-reads
 use mathlib.Core.Path.{sym}
 use lib.Seq.{length-take-le}
 use native.Mathlib.Omega.{arith}

@@ -2,10 +2,6 @@
 use borrow.Author.Needs.{needs}
 use Rattle.hex_lines.proofs.lines.write_words.Statement.{statement}
 use Rattle.hex_lines.proofs.lines.write_words.Tie as tie
-use Rattle.hex_lines.proofs.lines.write_words.Reads as reads
-use Rattle.hex_lines.proofs.lines.write_words.Lts as lts
-use Rattle.hex_lines.proofs.hex.put_words.Reads as put-words-reads
-use Rattle.hex_lines.proofs.lines.write_bytes.Reads as write-bytes-reads
 use mathlib.Core.Path.{sym}
 use lib.Seq.{length-take-le}
 use native.Mathlib.Omega.{arith}
