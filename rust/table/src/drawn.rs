@@ -222,12 +222,13 @@ fn stored(mut polygon: Polygon) -> Polygon {
     polygon
 }
 
-/// The next mesh, and its input: seldom of another kind, with a record of no kind, or with too many materials.
+/// The next mesh, and its input: seldom of another kind, with a record of no kind, too many materials or an infinite margin.
 fn draw(draws: &mut Draws) -> (Geometry, Vec<u8>) {
     let mut g = draws.geometry();
     match draws.below(40) {
         0 => g.kind = draws.pick(&[0, 3, 5, 9, 255]),
         1 => g.materials.resize(257, (1, 2)),
+        2 | 3 => (g.kind, g.margin, g.box_max) = (4, f32::INFINITY, [f32::INFINITY; 3]),
         _ => {}
     }
     let mut bytes = input(&g);
@@ -238,14 +239,34 @@ fn draw(draws: &mut Draws) -> (Geometry, Vec<u8>) {
     (g, bytes)
 }
 
-/// Writes the inputs to one file, and prints what is printed for each.
-pub fn print(out: &mut impl Write, file: &Path) -> io::Result<()> {
+/// The inputs one after another, and what is printed for them.
+fn all() -> (Vec<u8>, String) {
     let mut draws = Draws(16);
-    let mut inputs = vec![];
+    let (mut inputs, mut text) = (vec![], String::new());
     for _ in 0..MESHES {
         let (g, bytes) = draw(&mut draws);
-        write!(out, "{}", printed(&g, &bytes))?;
+        text += &printed(&g, &bytes);
         inputs.extend(bytes);
     }
-    fs::write(file, inputs)
+    (inputs, text)
+}
+
+/// Writes the inputs to one file, and prints what is printed for each.
+pub fn print(out: &mut impl Write, file: &Path) -> io::Result<()> {
+    let (inputs, text) = all();
+    fs::write(file, inputs)?;
+    out.write_all(text.as_bytes())
+}
+
+#[cfg(test)]
+mod tests {
+    #[test]
+    fn the_program_reads_and_must_print_this() {
+        if oracle::missing().is_none() {
+            let (inputs, text) = super::all();
+            assert!(inputs == include_bytes!("../../../crates/prepare_replay/stdin"));
+            assert!(text == include_str!("../../../crates/prepare_replay/stdout"));
+            assert!([1, 6, 7].iter().all(|number| text.contains(&format!("refused {number}\n"))));
+        }
+    }
 }
