@@ -5,12 +5,14 @@
 //!     table < LINES            such lines judged and counted                            (crates/replay/stdout)
 //!     table --boxes FOLDER     inputs of `boxes`, as files there                        (crates/boxes_cases/data, stdout)
 //!     table --meshes FOLDER    inputs of `prepare`, as files there                      (crates/prepare_cases/data, stdout)
+//!     table --prepares FILE    many inputs of `prepare`, one after another there         (crates/prepare_replay/stdin, stdout)
 //!     table --pairs            lists built and walked                                   (crates/pairs/stdout)
 //!
 //! crates/replay/stdin is what `compare --write-vectors` writes, then the lines of `table --lines`.
 mod boxes;
 mod cases;
 mod count;
+mod drawn;
 mod lines;
 mod meshes;
 mod operation;
@@ -39,11 +41,18 @@ fn main() -> io::Result<()> {
             (None, _) => fail("--meshes needs a folder for the inputs"),
             (_, Some(missing)) => fail(missing),
         },
+        Some("--prepares") => match (std::env::args().nth(2), oracle::missing()) {
+            (Some(file), None) => drawn::print(&mut out, file.as_ref())?,
+            (None, _) => fail("--prepares needs a file for the inputs"),
+            (_, Some(missing)) => fail(missing),
+        },
         Some("--pairs") => match oracle::missing() {
             None => pairs::print(&mut out)?,
             Some(missing) => fail(missing),
         },
-        Some(other) => fail(&format!("unknown word {other}; give none, --lines, --boxes, --meshes or --pairs")),
+        Some(other) => {
+            fail(&format!("unknown word {other}; give none, --lines, --boxes, --meshes, --prepares or --pairs"))
+        }
     }
     out.flush()
 }

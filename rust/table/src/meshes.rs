@@ -103,6 +103,48 @@ fn many() -> Geometry {
     g
 }
 
+/// Rings of vertices between two poles.
+fn ball(kind: u8) -> Geometry {
+    const RINGS: u16 = 7;
+    const SIDES: u16 = 12;
+    let corner = |ring: u16, side: u16| 1 + SIDES * ring + side % SIDES;
+    let vertex = |(ring, side): (u16, u16)| {
+        let x = (2 * side + 1).abs_diff(SIDES) as f32 - 6.0;
+        let y = (2 * side + 7).abs_diff(2 * SIDES).min(SIDES) as f32 - 6.0;
+        let wide = 4 - ring.abs_diff(3);
+        [x * wide as f32, y * wide as f32, 4.0 * ring as f32 - 12.0]
+    };
+    let mut vertices = vec![[0.0, 0.0, -18.0]];
+    vertices.extend((0..RINGS).flat_map(|ring| (0..SIDES).map(move |side| (ring, side))).map(vertex));
+    vertices.push([0.0, 0.0, 18.0]);
+    let last = vertices.len() as u16 - 1;
+    let mut faces = vec![];
+    for side in 0..SIDES {
+        faces.push([0, corner(0, side + 1), corner(0, side)]);
+        faces.push([last, corner(RINGS - 1, side), corner(RINGS - 1, side + 1)]);
+        for ring in 1..RINGS {
+            let [a, b] = [ring - 1, ring].map(|ring| [corner(ring, side), corner(ring, side + 1)]);
+            faces.extend([[a[0], a[1], b[1]], [a[0], b[1], b[0]]]);
+        }
+    }
+    mesh(kind, 0.3, vertices, faces.into_iter().map(|v| triangle((v[0] % 3) as u8, v)).collect())
+}
+
+/// As many polygons, and as many vertices, as an input has room for.
+fn most_polygons() -> Geometry {
+    let mut g = pyramid(8);
+    let sphere = |i: u16| Polygon::Sphere { material: i as u8, index: i % 5, radius: 0.25 * (i % 37) as f32 };
+    (g.polygons, g.materials) = ((0..470).map(sphere).collect(), vec![]);
+    g
+}
+
+fn most_vertices() -> Geometry {
+    let vertices = (0..670u32).map(|i| [i * i % 97, i * 31 % 89, i * 7 % 101].map(|k| k as f32 - 45.0)).collect();
+    let mut g = mesh(4, 0.5, vertices, vec![]);
+    g.materials.clear();
+    g
+}
+
 fn endless() -> Geometry {
     let mut g = pyramid(4);
     (g.margin, g.box_max) = (f32::NAN, [f32::INFINITY; 3]);
@@ -123,7 +165,7 @@ fn number(p: &Polygon) -> u8 {
     }
 }
 
-fn input(g: &Geometry) -> Vec<u8> {
+pub fn input(g: &Geometry) -> Vec<u8> {
     let mut out = Vec::new();
     words(&mut out, [g.kind as u32, g.polygons.len() as u32, g.vertices.len() as u32, g.materials.len() as u32]);
     let frame = [g.box_min, g.box_max, g.box_center, g.sphere_center];
@@ -196,7 +238,7 @@ fn listing(kind: u8, p: &Prepared) -> String {
 }
 
 /// What is printed for an input that holds this geometry, or is damaged.
-fn printed(g: &Geometry, input: &[u8]) -> String {
+pub fn printed(g: &Geometry, input: &[u8]) -> String {
     let whole = 148 + 8 * g.materials.len() + 12 * g.vertices.len() + 17 * g.polygons.len();
     let records = input.get(whole.wrapping_sub(17 * g.polygons.len())..).unwrap_or_default();
     let unknown = records.chunks_exact(16).take(g.polygons.len()).any(|record| read(record).is_err());
@@ -219,6 +261,10 @@ fn cases() -> Vec<(&'static str, Geometry, Vec<u8>)> {
         whole("plate", plate()),
         whole("mixed_4", mixed(4)),
         whole("mixed_8", mixed(8)),
+        whole("ball_4", ball(4)),
+        whole("ball_8", ball(8)),
+        whole("most_polygons", most_polygons()),
+        whole("most_vertices", most_vertices()),
         whole("empty_4", empty(4)),
         whole("empty_8", empty(8)),
         whole("odd", odd()),
@@ -252,6 +298,15 @@ pub fn print(out: &mut impl Write, folder: &Path) -> io::Result<()> {
 #[cfg(test)]
 mod tests {
     use super::*;
+
+    #[test]
+    fn the_program_must_print_this() {
+        if oracle::missing().is_none() {
+            let text: String =
+                cases().iter().map(|(name, g, input)| format!("case {name}\n{}", printed(g, input))).collect();
+            assert!(text == include_str!("../../../crates/prepare_cases/stdout"));
+        }
+    }
 
     #[test]
     fn each_refusal_and_both_kinds_are_there() {

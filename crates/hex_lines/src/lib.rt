@@ -1,0 +1,3 @@
+// Bytes in hexadecimal, line after line.
+pub mod hex;
+pub mod lines;
