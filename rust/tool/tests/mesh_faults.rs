@@ -88,6 +88,19 @@ fn bad_meshes() {
     assert!(!folder.names().iter().any(half), "{:?}", folder.names());
 }
 
+/// Groups of 40 spheres that lie so that each split takes the farthest alone: 443 of them have too many nodes.
+fn lonely(groups: usize) -> String {
+    let mut text = String::from("bounds mesh 1\n");
+    for group in 0..groups {
+        let mut x = 1e-30f32;
+        for k in 0..40 {
+            text += &format!("vertex {x:?} {group} 0\nsphere 0 {} 0\n", 40 * group + k);
+            x *= k as f32 + 3.0;
+        }
+    }
+    text
+}
+
 /// What preparing refuses, by its number and in words, and that a check says the same.
 #[test]
 fn refused_meshes() {
@@ -104,6 +117,8 @@ fn refused_meshes() {
     folder
         .write("margin.txt", format!("{three}kind 4\nmargin inf\nbox_max inf nan nan\ntriangle 0 0 1 2\n").as_bytes());
     folder.write("nine.txt", format!("{three}kind 9\n").as_bytes());
+    folder.write("lonely.txt", lonely(443).as_bytes());
+    folder.write("lonely442.txt", lonely(442).as_bytes());
     let many: String = (0..40_000).map(|k| format!("v {k} 0 0\nv {k} 1 0\nv {k} 0 1\nf -3 -2 -1\n")).collect();
     folder.write("many.obj", many.as_bytes());
     let lines = [
@@ -115,6 +130,9 @@ fn refused_meshes() {
         "prepare margin.txt --out out",
         "prepare nine.txt --out out",
         "prepare many.obj --out out",
+        "prepare lonely.txt --out out",
+        "prepare lonely442.txt --out lonely",
+        "check lonely.txt",
         "check polygons.txt",
         "check margin.txt --json",
         "check margin.txt --kind 8",

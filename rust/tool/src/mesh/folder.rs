@@ -222,6 +222,7 @@ fn refused(name: &str, geometry: &Geometry, refusal: Refusal) -> Failure {
         }
         Refusal::InfiniteMargin => format!("; margin {}", crate::number::float(geometry.margin)),
         Refusal::TooManyMaterials => "; its polygons may use 255".into(),
+        Refusal::TooManyNodes => "; split it: of a mesh the threshold is four".into(),
         _ => String::new(),
     };
     Failure::Refused(format!("{refusal}\n{name}: {mesh}{change}"))
