@@ -148,8 +148,9 @@ impl Prepared {
 }
 
 impl PreparedTree {
-    /// What its records hand out for the box from `min` to `max`: of finite boxes all polygons whose box meets it, and some
-    /// besides. Corners may be infinite; a NaN corner stands for the centre.
+    /// What its records hand out for the box from `min` to `max`: where the polygons' boxes are within the premises
+    /// ([`ordinary`](crate::ordinary)) every polygon whose box meets it, and some besides. Corners may be infinite; a NaN
+    /// corner stands for the centre.
     ///
     /// # Errors
     ///

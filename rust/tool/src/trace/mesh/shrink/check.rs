@@ -87,7 +87,7 @@ impl Rows {
             let det = dot(at(&first), across);
             let u = dot(sub(ray.from, at(&corner)), across) * (1.0 / det);
             // Where the first is a NaN, u is one too and fails.
-            (det.abs() >= FLAT) & (u >= 0.0) & (u <= 1.0)
+            (det.abs() >= FLAT) & (0.0..=1.0).contains(&u)
         })
     }
 }
