@@ -81,12 +81,11 @@ slice-aggregate-print-bvh-8 c = search needs
 
 print-bvh-requires : tie.Need-print-bvh-requires
 print-bvh-requires c κs =
-    let lent = c .before .before .before .before .before .before .before .before .before .before .before .before in
-    let called = lent .before .before .before .before .before .before .before .before .before .before .before .before in
-    let known = called .before .before .before .before .before .before .before .before .before .before .before in
-    let start = known .before .before .before .before .before .before .before .before .before .before in
-    let k = called .prepare-bvh .kept .1 .1 .1 .1 .1 .1 .1 in (
-      start .pre,
+    let k = c .before .before .before .before .before .before .before .before .before .before .before .before .before .before .before
+    .before .before .before .before .before .before .before .before .before .prepare-bvh .kept .1 .1 .1 .1 .1 .1 .1 in (
+      c .before .before .before .before .before .before .before .before .before .before .before .before .before .before .before
+          .before .before .before .before .before .before .before .before .before .before .before .before .before .before .before
+          .before .before .before .before .before .before .before .before .before .before .before .before .before .before .before .pre,
       omega (arith, k .0),
       omega (arith, k .1 .0),
       omega (arith, k .1 .1 .0),

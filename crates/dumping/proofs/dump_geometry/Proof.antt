@@ -84,12 +84,12 @@ slice-aggregate-print-geometry-8 c = search needs
 
 print-geometry-requires : tie.Need-print-geometry-requires
 print-geometry-requires c κs =
-    let lent = c .before .before .before .before .before .before .before .before .before .before .before .before in
-    let called = lent .before .before .before .before .before .before .before .before .before .before .before .before .before in
-    let known = called .before .before .before .before .before .before .before .before .before .before .before in
-    let start = known .before .before .before .before .before .before .before .before .before .before .before in
-    let k = called .prepare-geometry .kept .1 .1 .1 .1 .1 .1 .1 in (
-      start .pre,
+    let k = c .before .before .before .before .before .before .before .before .before .before .before .before .before .before .before
+    .before .before .before .before .before .before .before .before .before .before .prepare-geometry .kept .1 .1 .1 .1 .1 .1 .1 in (
+      c .before .before .before .before .before .before .before .before .before .before .before .before .before .before .before
+          .before .before .before .before .before .before .before .before .before .before .before .before .before .before .before
+          .before .before .before .before .before .before .before .before .before .before .before .before .before .before .before
+          .before .before .pre,
       omega (arith, k .0),
       omega (arith, k .1 .0),
       omega (arith, k .1 .1 .0),
