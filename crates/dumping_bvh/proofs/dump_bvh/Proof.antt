@@ -1,7 +1,7 @@
 -- `dump_bvh`: every buffer keeps its length.
 use borrow.Author.Needs.{needs}
-use Rattle.dumping.proofs.dump_bvh.Statement.{statement}
-use Rattle.dumping.proofs.dump_bvh.Tie as tie
+use Rattle.dumping_bvh.proofs.dump_bvh.Statement.{statement}
+use Rattle.dumping_bvh.proofs.dump_bvh.Tie as tie
 use native.Mathlib.Omega.{arith}
 
 slice-aggregate-prepare-bvh : tie.Need-slice-aggregate-prepare-bvh
