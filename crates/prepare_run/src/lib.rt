@@ -1,6 +1,6 @@
 // The turns of the program `prepare`, over descriptors: an input is read, and the dump of its mesh is written.
-use dumping::dump_bvh;
 use dumping::dump_geometry;
+use dumping_bvh::dump_bvh;
 use hex_lines::lines::refused_line;
 use mesh_input::bound_of;
 use mesh_input::counts_of;

@@ -39,7 +39,8 @@ loop-again : tie.Need-loop-again Inv-loop μ-loop
 loop-again c =
     let a = c .before .before .before .before .before .args in
     let l = c .before .before .loop in
-    word-next (a .bytes .now) (a .at) (a .out .now) (l .out) (l .i) (a .n) _ (l .inv) (omega arith) (c .before .before .before .before .before .pre .0) (c .word-at .ensures)
+    word-next (a .bytes .now) (a .at) (a .out .now) (l .out) (l .i) (a .n) _ (l .inv) (omega arith) (c .before .before .before .before .before .pre .0)
+    (c .word-at .ensures)
 
 same-length : tie.Need-same-length Inv-loop μ-loop
 same-length c = c .before .loop .inv .same

@@ -19,11 +19,21 @@ length-of-requires c κs = search needs
 
 returns-3 : tie.Need-returns-3
 unfolding refusalOf
-returns-3 c = rw (le-ltb _ _ (c .before .before .before .if1 .left), le-ltb _ _ (c .before .before .if2 .left), eq-eqb _ _ (sym (c .before .length-of .ensures) ∙ c .if3 .taken))
+returns-3 c =
+    rw (
+      le-ltb _ _ (c .before .before .before .if1 .left),
+      le-ltb _ _ (c .before .before .if2 .left),
+      eq-eqb _ _ (sym (c .before .length-of .ensures) ∙ c .if3 .taken),
+    )
 
 returns-4 : tie.Need-returns-4
 unfolding refusalOf
-returns-4 c = rw (le-ltb _ _ (c .before .before .before .if1 .left), le-ltb _ _ (c .before .before .if2 .left), ne-eqb _ _ (λ e. c .if3 .left (c .before .length-of .ensures ∙ e)))
+returns-4 c =
+    rw (
+      le-ltb _ _ (c .before .before .before .if1 .left),
+      le-ltb _ _ (c .before .before .if2 .left),
+      ne-eqb _ _ (λ e. c .if3 .left (c .before .length-of .ensures ∙ e)),
+    )
 
 pub refusal-of-spec : {M : Type 1} → statement M
 refusal-of-spec = tie.close (tie.spec returns returns-2 length-of-requires returns-3 returns-4)

@@ -27,7 +27,12 @@ float-at-requires-4 c κs = search needs
 
 returns : tie.Need-returns
 unfolding rowAt
-returns c = λ i. record { x = c .before .before .before .float-at .ensures i; y = c .before .before .float-at2 .ensures i; z = c .before .float-at3 .ensures i; w = c .float-at4 .ensures i }
+returns c = λ i. record {
+  x = c .before .before .before .float-at .ensures i;
+  y = c .before .before .float-at2 .ensures i;
+  z = c .before .float-at3 .ensures i;
+  w = c .float-at4 .ensures i;
+}
 
 pub row-at-spec : {M : Type 1} → statement M
 row-at-spec =

@@ -18,7 +18,12 @@ row-at-requires-4 c κs = search needs
 
 returns : tie.Need-returns
 unfolding transformOf
-returns c = λ i. record { row0 = c .before .before .before .row-at .ensures i; row1 = c .before .before .row-at2 .ensures i; row2 = c .before .row-at3 .ensures i; row3 = c .row-at4 .ensures i }
+returns c = λ i. record {
+  row0 = c .before .before .before .row-at .ensures i;
+  row1 = c .before .before .row-at2 .ensures i;
+  row2 = c .before .row-at3 .ensures i;
+  row3 = c .row-at4 .ensures i;
+}
 
 pub transform-of-spec : {M : Type 1} → statement M
 transform-of-spec =

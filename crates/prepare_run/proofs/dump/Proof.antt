@@ -22,7 +22,8 @@ counts-of-requires c κs =
 
 dump-counted-requires : tie.Need-dump-counted-requires
 dump-counted-requires c κs =
-    let w = not-refused (c .before .before .before .before .before .args .input .now) (sym (c .before .before .before .refusal-of .ensures) ∙ c .before .before .if1 .taken) in
+    let input = c .before .before .before .before .before .args .input .now in
+    let w = not-refused input (sym (c .before .before .before .refusal-of .ensures) ∙ c .before .before .if1 .taken) in
     (ap lengthOf (c .counts-of .ensures) ∙ w .size, w .few)
 
 refused-line-requires : tie.Need-refused-line-requires

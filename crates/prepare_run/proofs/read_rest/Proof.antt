@@ -30,7 +30,10 @@ same-length c = search needs
 returns : tie.Need-returns
 returns c =
     let f = c .before .before .read-full in
-    (omega (arith, same-length c, f .ensures, f .kept .1 .0, c .before .before .before .before .before .pre), sym (length-take-le _ _ (omega (arith, same-length c, f .ensures, f .kept .1 .0, c .before .before .before .before .before .pre))))
+    let pre = c .before .before .before .before .before .pre in (
+      omega (arith, same-length c, f .ensures, f .kept .1 .0, pre),
+      sym (length-take-le _ _ (omega (arith, same-length c, f .ensures, f .kept .1 .0, pre))),
+    )
 
 pub read-rest-spec : {M : Type 1} → statement M
 read-rest-spec =

@@ -33,9 +33,11 @@ loop-less c = omega arith
 
 loop-again : tie.Need-loop-again Inv-loop μ-loop
 loop-again c =
-    let a = c .before .before .before .before .before .before .before .before .before .args in
+    let s = c .before .before .before .before .before .before .before .before .before in
+    let a = s .args in
     let l = c .before .before .before .before .before .before .loop in
-    next-put byteText 2 byte-size (a .bytes .now) (a .out .now) (l .out) _ (l .i) (l .inv) (omega arith) (c .before .before .before .before .before .before .before .before .before .pre) (c .before .before .put-byte .ensures)
+    next-put byteText 2 byte-size (a .bytes .now) (a .out .now) (l .out) _ (l .i) (l .inv) (omega arith) (s .pre)
+    (c .before .before .put-byte .ensures)
 
 same-length : tie.Need-same-length Inv-loop μ-loop
 same-length c = c .before .loop .inv .same

@@ -37,9 +37,11 @@ loop-less c = omega arith
 
 loop-again : tie.Need-loop-again Inv-loop μ-loop
 loop-again c =
-    let a = c .before .before .before .before .before .before .before .before .before .args in
+    let s = c .before .before .before .before .before .before .before .before .before in
+    let a = s .args in
     let l = c .before .before .before .before .before .before .loop in
-    next-put (littleEndian 2) 2 (λ x. number-bytes 2 x .size) (a .places .now) (a .out .now) (l .out) _ (l .i) (l .inv) (omega arith) (c .before .before .before .before .before .before .before .before .before .pre) (c .before .before .put-place .ensures)
+    next-put (littleEndian 2) 2 (λ x. number-bytes 2 x .size) (a .places .now) (a .out .now) (l .out) _ (l .i) (l .inv) (omega arith) (s .pre)
+    (c .before .before .put-place .ensures)
 
 same-length : tie.Need-same-length Inv-loop μ-loop
 same-length c = c .before .loop .inv .same

@@ -1,7 +1,7 @@
 -- `dump_bvh`: every buffer keeps its length.
 use borrow.Author.Needs.{needs}
-use Rattle.dumping.proofs.dump_bvh.Statement.{statement}
-use Rattle.dumping.proofs.dump_bvh.Tie as tie
+use Rattle.dumping_bvh.proofs.dump_bvh.Statement.{statement}
+use Rattle.dumping_bvh.proofs.dump_bvh.Tie as tie
 use native.Mathlib.Omega.{arith}
 
 slice-aggregate-prepare-bvh : tie.Need-slice-aggregate-prepare-bvh
@@ -81,8 +81,11 @@ slice-aggregate-print-bvh-8 c = search needs
 
 print-bvh-requires : tie.Need-print-bvh-requires
 print-bvh-requires c κs =
-    let k = c .before .before .before .before .before .before .before .before .before .before .before .before .before .before .before .before .before .before .before .before .before .before .before .before .prepare-bvh .kept .1 .1 .1 .1 .1 .1 .1 in (
-      c .before .before .before .before .before .before .before .before .before .before .before .before .before .before .before .before .before .before .before .before .before .before .before .before .before .before .before .before .before .before .before .before .before .before .before .before .before .before .before .before .before .before .before .before .before .pre,
+    let k = c .before .before .before .before .before .before .before .before .before .before .before .before .before .before .before
+    .before .before .before .before .before .before .before .before .before .prepare-bvh .kept .1 .1 .1 .1 .1 .1 .1 in (
+      c .before .before .before .before .before .before .before .before .before .before .before .before .before .before .before
+          .before .before .before .before .before .before .before .before .before .before .before .before .before .before .before
+          .before .before .before .before .before .before .before .before .before .before .before .before .before .before .before .pre,
       omega (arith, k .0),
       omega (arith, k .1 .0),
       omega (arith, k .1 .1 .0),
