@@ -1,4 +1,4 @@
-//! What was measured as one picture: the library's time by another's over size, builds on the left, walks on the right.
+//! What was measured as one picture: the library's time by another's over size, a panel each for preparing, builds and walks.
 
 use crate::measure::Series;
 use crate::subjects::{Kind, Side};
@@ -39,20 +39,20 @@ struct Panel {
     lines: Vec<Line>,
 }
 
-/// By powers: equal factors are equal distances.
-struct Axis {
+/// Sizes by powers: equal factors are equal distances.
+struct Sizes {
     low: f64,
     high: f64,
 }
 
-impl Axis {
+impl Sizes {
     /// Over the values, with a little room on both ends.
-    fn over(values: impl Iterator<Item = f64>, room: f64) -> Axis {
+    fn over(values: impl Iterator<Item = f64>) -> Sizes {
         let (mut low, mut high) = (f64::INFINITY, f64::NEG_INFINITY);
         for v in values {
             (low, high) = (low.min(v), high.max(v));
         }
-        Axis { low: low / room, high: high * room }
+        Sizes { low: low / 1.1, high: high * 1.1 }
     }
 
     /// Where a value stands between the ends, from 0 to 1.
@@ -60,19 +60,32 @@ impl Axis {
         (value / self.low).ln() / (self.high / self.low).ln()
     }
 
-    /// Round numbers on it: steps of 1, 2 and 5, and more where there would be few.
+    /// Round numbers on it: steps of 1, 2 and 5.
     fn marks(&self) -> Vec<f64> {
-        let within = |steps: &[f64]| -> Vec<f64> {
-            let powers = self.low.log10().floor() as i32..=self.high.log10().floor() as i32;
-            let all = powers.flat_map(|p| steps.iter().map(move |s| s * 10f64.powi(p)));
-            all.filter(|v| (self.low..=self.high).contains(v)).collect()
-        };
-        let few = within(&[1.0, 2.0, 5.0]);
-        if few.len() > 3 {
-            few
-        } else {
-            within(&[1.0, 1.2, 1.5, 2.0, 2.5, 3.0, 4.0, 5.0, 6.0, 7.0, 8.0])
-        }
+        let powers = self.low.log10().floor() as i32..=self.high.log10().floor() as i32;
+        let all = powers.flat_map(|p| [1.0, 2.0, 5.0].map(|step| step * 10f64.powi(p)));
+        all.filter(|v| (self.low..=self.high).contains(v)).collect()
+    }
+}
+
+/// Ratios as they are, from 0 on: half the height is half the time.
+struct Ratios {
+    high: f64,
+}
+
+impl Ratios {
+    fn over(values: impl Iterator<Item = f64>) -> Ratios {
+        Ratios { high: values.fold(0.0, f64::max) * 1.08 }
+    }
+
+    fn place(&self, value: f64) -> f64 {
+        value / self.high
+    }
+
+    /// Round numbers on it, at most eight.
+    fn marks(&self) -> Vec<f64> {
+        let step = [0.02, 0.05, 0.1, 0.2, 0.5].into_iter().find(|step| self.high / step <= 8.0).unwrap_or(1.0);
+        (0..=(self.high / step) as usize).map(|i| i as f64 * step).collect()
     }
 }
 
@@ -82,16 +95,32 @@ const ORANGE: &str = "#c2571a";
 /// So that neighbours differ; the first is the common case.
 const COLOURS: [&str; 8] = [BLUE, "#4aa3df", "#2a8f5b", "#8a6d1f", "#8e44ad", "#d1368f", "#444444", ORANGE];
 
+fn prepares(series: &[Series]) -> Panel {
+    Panel {
+        title: "Prepare: library's time by the reference's",
+        below: "triangles of kind 8, vertices of kind 4",
+        aims: vec![
+            Aim { name: "aim 0.33 of kind 8", ratio: 1.0 / 3.0, colour: "#888" },
+            Aim { name: "aim 0.25 of kind 4", ratio: 0.25, colour: "#888" },
+        ],
+        lines: by_reference(series, Kind::Prepare),
+    }
+}
+
 fn builds(series: &[Series]) -> Panel {
-    let of = series.iter().filter(|s| s.subject.kind == Kind::Build);
-    let lines =
-        of.zip(COLOURS.iter().cycle()).map(|(s, colour)| line(s, s.subject.name.to_string(), Side::Reference, colour));
     Panel {
         title: "Build: library's time by the reference's",
         below: "boxes",
         aims: vec![Aim { name: "aim 0.18", ratio: 0.18, colour: "#888" }],
-        lines: lines.collect(),
+        lines: by_reference(series, Kind::Build),
     }
+}
+
+/// A line for each list of the kind, by its name without the kind's own.
+fn by_reference(series: &[Series], kind: Kind) -> Vec<Line> {
+    let of = series.iter().filter(|s| s.subject.kind == kind);
+    let name = |s: &Series| s.subject.name.trim_start_matches("prepare, ").to_string();
+    of.zip(COLOURS.iter().cycle()).map(|(s, colour)| line(s, name(s), Side::Reference, colour)).collect()
 }
 
 /// Solid by the plain walk, dashed by the tuned one; the darker, the more is met.
@@ -129,10 +158,10 @@ fn synthetic(series: &Series, to: Side, colour: &'static str) -> Line {
     Line { name: format!("by {}, synthetic", to.name()), colour, dashed: to == Side::Tuned, points }
 }
 
-/// Both panels beside each other; one of which nothing was measured is left out.
+/// The panels beside each other; one of which nothing was measured is left out.
 pub fn svg(series: &[Series]) -> String {
-    let panels: Vec<Panel> =
-        [builds(series), walks(series)].into_iter().filter(|p| p.lines.iter().any(|l| !l.points.is_empty())).collect();
+    let all = [prepares(series), builds(series), walks(series)];
+    let panels: Vec<Panel> = all.into_iter().filter(|p| p.lines.iter().any(|l| !l.points.is_empty())).collect();
     let one = LEFT + SIZE.0 + NAMES;
     let (width, height) = (one * panels.len() as f64, TOP + SIZE.1 + BOTTOM);
     let mut out = format!(
@@ -153,16 +182,15 @@ fn text(out: &mut String, (x, y): (f64, f64), anchor: &str, style: &str, words: 
 /// Where a panel's sizes and ratios stand.
 struct Frame {
     left: f64,
-    sizes: Axis,
-    ratios: Axis,
+    sizes: Sizes,
+    ratios: Ratios,
 }
 
 impl Frame {
     fn new(panel: &Panel, left: f64) -> Frame {
         let points = || panel.lines.iter().flat_map(|l| &l.points);
-        let wanted = panel.aims.iter().map(|aim| aim.ratio).chain([1.0]);
-        let ratios = Axis::over(points().map(|p| p.1).chain(wanted), 1.15);
-        Frame { left, sizes: Axis::over(points().map(|p| p.0), 1.1), ratios }
+        let ratios = Ratios::over(points().map(|p| p.1).chain(panel.aims.iter().map(|aim| aim.ratio)));
+        Frame { left, sizes: Sizes::over(points().map(|p| p.0)), ratios }
     }
 
     fn x(&self, size: f64) -> f64 {
@@ -182,7 +210,7 @@ impl Frame {
 fn drawn(out: &mut String, panel: &Panel, left: f64) {
     let frame = Frame::new(panel, left);
     text(out, (left, 22.0), "start", "font-weight=\"bold\" font-size=\"13\"", panel.title);
-    text(out, (left, 40.0), "start", "fill=\"#555\"", "below 1 the library is faster; both scales are logarithmic");
+    text(out, (left, 40.0), "start", "fill=\"#555\"", "below 1 the library is faster; sizes by powers");
     text(out, (left + SIZE.0 / 2.0, TOP + SIZE.1 + 34.0), "middle", "fill=\"#555\"", panel.below);
     grid(out, &frame);
     panel.lines.iter().for_each(|l| line_drawn(out, &frame, l));
@@ -204,7 +232,9 @@ fn grid(out: &mut String, frame: &Frame) {
         frame.across(out, ratio, "stroke=\"#eee\"");
         text(out, (frame.left - 6.0, frame.y(ratio) + 4.0), "end", "", &format!("{ratio:.2}"));
     }
-    frame.across(out, 1.0, "stroke=\"black\" stroke-width=\"1.5\"");
+    if frame.ratios.high > 1.0 {
+        frame.across(out, 1.0, "stroke=\"black\" stroke-width=\"1.5\"");
+    }
 }
 
 fn line_drawn(out: &mut String, frame: &Frame, Line { colour, dashed, points, .. }: &Line) {
@@ -259,11 +289,14 @@ mod tests {
 
     #[test]
     fn an_axis_has_round_marks() {
-        let axis = Axis { low: 800.0, high: 40_000.0 };
-        assert_eq!(axis.marks(), [1_000.0, 2_000.0, 5_000.0, 10_000.0, 20_000.0]);
-        assert!(Axis { low: 0.6, high: 1.6 }.marks().len() > 3);
-        let decade = Axis { low: 1.0, high: 100.0 };
+        let sizes = Sizes { low: 800.0, high: 40_000.0 };
+        assert_eq!(sizes.marks(), [1_000.0, 2_000.0, 5_000.0, 10_000.0, 20_000.0]);
+        let decade = Sizes { low: 1.0, high: 100.0 };
         assert_eq!((decade.place(1.0), decade.place(10.0), decade.place(100.0)), (0.0, 0.5, 1.0));
+        let ratios = Ratios { high: 1.6 };
+        assert_eq!((ratios.place(0.0), ratios.place(0.8)), (0.0, 0.5));
+        assert_eq!(ratios.marks(), [0, 1, 2, 3, 4, 5, 6, 7, 8].map(|i| i as f64 * 0.2));
+        assert!(Ratios { high: 0.36 }.marks().len() > 3);
     }
 
     #[test]
