@@ -1,5 +1,6 @@
 /* A mesh prepared from C: a pyramid of kind 4 and of kind 8, a query over the latter's tree, and what is refused.
- * cc -std=c11 -Wall -Wextra -Iinclude examples/prepare.c LIBDIR/libbounds.a -o prepare && ./prepare */
+ * cc -std=c11 -Wall -Wextra -Iinclude examples/prepare.c LIBDIR/libbounds.a LIBDIR/libbounds_prepare.a \
+ *     -o prepare && ./prepare */
 #include "bounds.h"
 #include <inttypes.h>
 #include <stdio.h>

@@ -1,4 +1,5 @@
-/* Collision-bound preparation, proved in Rattle: the C interface of libbounds.a.
+/* Collision-bound preparation, proved in Rattle: the C interface of libbounds.a, and of
+ * libbounds_prepare.a, which has the functions under "prepare" and is needed for them alone.
  *
  * Every function is total: it takes any argument and keeps no state. A float's word is its 32 bits. A function over
  * words that copies one keeps a NaN's bits; one that computes gives some NaN where it gives a NaN.

@@ -1,8 +1,8 @@
 //! The C interface as include/bounds.h has it, and the only unsafe code of this crate.
 //!
-//! `unsafe extern` claims that the declarations below are those of libbounds.a, and `safe` that a call may be made with
-//! any argument. The first is checked by the C program examples/steps.c, which is compiled against the same header; the
-//! second holds line by line for the reason beside it, and rests on this: the library is proved total and in bounds for
+//! `unsafe extern` claims that the declarations below are those of libbounds.a and libbounds_prepare.a, and `safe` that a
+//! call may be made with any argument. The first is checked by the C program examples/steps.c, which is compiled against
+//! the same header; the second holds line by line for the reason beside it, and rests on this: the library is proved total and in bounds for
 //! every argument that its C signature admits.
 #![allow(unsafe_code)]
 

@@ -1,7 +1,7 @@
 //! Collision-bound preparation, proved in Rattle: the safe Rust interface.
 //!
 //! Names and types are those of the source that was ported (rage-formats). Every function calls the proved library
-//! `libbounds.a`; ffi.rs is the one file with unsafe code, and nothing here computes by itself but
+//! (`libbounds.a`, `libbounds_prepare.a`); ffi.rs is the one file with unsafe code, and nothing here computes by itself but
 //! [`BvhItem::meets`], which compares two boxes.
 //!
 //! - [`float`]: one float step each, on values and on words (a float's 32 bits).
