@@ -2,8 +2,8 @@
 //!
 //! `unsafe extern` claims that the declarations below are those of libbounds.a and libbounds_prepare.a, and `safe` that a
 //! call may be made with any argument. The first is checked by the C program examples/steps.c, which is compiled against
-//! the same header; the second holds line by line for the reason beside it, and rests on this: the library is proved total and in bounds for
-//! every argument that its C signature admits.
+//! the same header; the second holds line by line for the reason beside it, and rests on this: the library is proved
+//! total and in bounds for every argument that its C signature admits.
 #![allow(unsafe_code)]
 
 use crate::prepare::{Bound, Frame};
