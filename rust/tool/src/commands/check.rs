@@ -35,8 +35,8 @@ records were cut to 16 bits and are other numbers now: those stand for other pla
 
 Of a MESH whether it can be prepared, and the same of its polygons' boxes, over which kind 8 has its tree; the first value is
 told with its polygon, its vertex and their lines. Says also how many vertices are further from the centre than half the box
-and are stored cut to that, and how many polygons name a vertex or a material that is not there. What preparing refuses is
-refused here.
+and are stored cut to that, how many have a value that is not finite (the box of a polygon may pass over one and be within
+the premises), and how many polygons name a vertex or a material that is not there. What preparing refuses is refused here.
 
 examples
   bounds check terrain.obj && bounds prepare terrain.obj --out terrain

@@ -4,6 +4,7 @@ use super::{breaking, cut_values};
 use crate::boxes::words;
 use crate::cli::Answer;
 use crate::failure::Failure;
+use crate::field::AXES;
 use crate::json::Json;
 use crate::mesh::state::{broken_words, corners, cut_vertices, missing, premises};
 use crate::mesh::{positions, vertices, Mesh, MeshFolder};
@@ -11,6 +12,7 @@ use crate::number::{both, counted, verb};
 use crate::progress::during;
 use crate::rules::Rule::*;
 use bounds::premises::{Axis, Broken};
+use bounds::Vec3;
 
 /// What was found of a mesh.
 struct Checked {
@@ -26,6 +28,9 @@ struct Checked {
     /// Node values cut to 16 bits, of how many.
     cut: (usize, usize),
     cut_vertices: usize,
+    /// Vertices with a value that is no number or infinite, and where the first stands. A box may pass over such a value.
+    endless: usize,
+    first_endless: Option<String>,
     open: usize,
     plain: usize,
 }
@@ -47,6 +52,8 @@ fn checked(path: &str, mesh: Mesh) -> Result<Checked, Failure> {
     let items = premises.as_ref().map_or(&[][..], |premises| &premises.items);
     let first = premises.as_ref().and_then(|premises| premises.broken);
     let (open, plain) = missing(&mesh.geometry);
+    let given = &mesh.geometry.vertices;
+    let odd = |v: &Vec3| [v.x, v.y, v.z].into_iter().position(|x| !x.is_finite());
     Ok(Checked {
         kind: folder.parts.kind,
         polygons: folder.parts.polygons_count,
@@ -57,6 +64,11 @@ fn checked(path: &str, mesh: Mesh) -> Result<Checked, Failure> {
         breaking: items.iter().map(|item| breaking(&words(item).map(f32::from_bits))).sum(),
         cut: if items.is_empty() { (0, 0) } else { cut_values(items, 4) },
         cut_vertices: cut_vertices(&mesh.geometry, &made.vertices.floats, made.quantum),
+        endless: given.iter().filter(|v| odd(v).is_some()).count(),
+        first_endless: given.iter().enumerate().find_map(|(k, v)| {
+            let axis = odd(v)?;
+            Some(format!("vertex {k} ({}), {} {}", mesh.origin.vertex(k), AXES[axis], [v.x, v.y, v.z][axis]))
+        }),
         open,
         plain,
     })
@@ -102,6 +114,9 @@ impl Checked {
         }
         let cut = "vertices further from center_geom than half the box, and cut to that";
         text += &format!("{cut}: {} of {} ({Q2}, {F9})\n", self.cut_vertices, self.vertices);
+        let first = self.first_endless.as_ref().map_or(String::new(), |at| format!("; the first is {at}"));
+        text +=
+            &format!("vertices with a value that is not finite: {} of {} ({F3}){first}\n", self.endless, self.vertices);
         text += &format!("polygons with a vertex that is not there: {} ({G8})\n", self.open);
         text + &format!("polygons with a material that is not there: {} ({M1})\n", self.plain)
     }
@@ -118,6 +133,8 @@ impl Checked {
             ("cut", self.cut.0.into()),
             ("values", self.cut.1.into()),
             ("cut_vertices", self.cut_vertices.into()),
+            ("endless_vertices", self.endless.into()),
+            ("first_endless", self.first_endless.clone().into()),
             ("missing_vertices", self.open.into()),
             ("missing_materials", self.plain.into()),
         ])
