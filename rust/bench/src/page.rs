@@ -21,31 +21,47 @@ pub fn page(series: &[Series], samples: usize, seed: u64) -> String {
          library is faster. {counts}\n\n\
          Made by `cargo run --release -p bench -- --write{option}` in rust/:\n\n{}\n\
          ![Ratios over size](bench.svg)\n\n\
-         {}\n{}\n## Tried without gain\n\n{}",
+         {}\n{}\n## Tried without gain\n\n{}\n{}",
         machine::described(),
-        tables(series),
+        whole(&operations(series)),
         include_str!("../shares.md"),
         include_str!("../tried.md"),
-    )
+        whole(&[steps(series)]).trim_end(),
+    ) + "\n"
 }
+
+/// A heading, what stands below it, and its table.
+type Part = (&'static str, &'static str, String);
 
 /// The tables of what was measured, each under its heading.
 pub fn tables(series: &[Series]) -> String {
-    let parts = [("Builds", BUILDS, lists(series, Kind::Build, "boxes", "box")), ("Walks", WALKS, walks(series))];
-    let more = [
+    whole(&operations(series)) + &whole(&[steps(series)])
+}
+
+fn operations(series: &[Series]) -> [Part; 8] {
+    [
+        ("Prepare", PREPARE, lists(series, Kind::Prepare, "size", "triangle or vertex")),
+        ("Builds", BUILDS, lists(series, Kind::Build, "boxes", "box")),
+        ("Walks", WALKS, walks(series)),
         ("Queries", QUERIES, queries(series)),
         ("Polygons", POLYGONS, calls(series, Kind::Polygon, "operation", "polygons")),
         ("Shrinking", SHRINKING, lists(series, Kind::Shrink, "vertices", "vertex")),
         ("Octants", OCTANTS, lists(series, Kind::Octants, "vertices", "vertex")),
         ("Composites", COMPOSITES, lists(series, Kind::Composite, "children", "child")),
-        ("Prepare", PREPARE, lists(series, Kind::Prepare, "size", "triangle or vertex")),
-        ("Steps", STEPS, calls(series, Kind::Step, "step", "calls")),
-    ];
-    let whole = |(title, text, table): &(&str, &str, String)| match table.is_empty() {
+    ]
+}
+
+fn steps(series: &[Series]) -> Part {
+    ("Appendix: float steps", STEPS, calls(series, Kind::Step, "step", "calls"))
+}
+
+/// Those of which something was measured.
+fn whole(parts: &[Part]) -> String {
+    let one = |(title, text, table): &Part| match table.is_empty() {
         true => String::new(),
         false => format!("## {title}\n\n{text}\n{table}\n"),
     };
-    parts.iter().chain(&more).map(whole).collect()
+    parts.iter().map(one).collect()
 }
 
 const BUILDS: &str = "\
