@@ -25,10 +25,27 @@ use crate::{Refusal, Vec3};
 
 impl BvhItem {
     /// An entry that is not there; what its box is does not matter.
+    ///
+    /// ```
+    /// # use bounds::{BvhItem, Tree, Vec3};
+    /// let unit = BvhItem::new(Vec3::ZERO, Vec3::new(1.0, 1.0, 1.0));
+    /// let odd = BvhItem { min: Vec3::new(f32::NAN, 9.0, 0.0), ..BvhItem::ABSENT };
+    /// let (one, other) = (Tree::build(&[BvhItem::ABSENT, unit], 1)?, Tree::build(&[odd, unit], 1)?);
+    /// assert_eq!(one.node_bytes(), other.node_bytes());
+    /// assert_eq!(one.built().nodes_capacity, 2 * 2 + 1); // it takes a place of the list all the same
+    /// # Ok::<(), bounds::Refusal>(())
+    /// ```
     pub const ABSENT: BvhItem =
         BvhItem { present: 0, min: Vec3 { x: 0.0, y: 0.0, z: 0.0 }, max: Vec3 { x: 0.0, y: 0.0, z: 0.0 } };
 
     /// A present entry with this box.
+    ///
+    /// ```
+    /// # use bounds::{ordinary, BvhItem, Vec3};
+    /// let (low, high) = (Vec3::ZERO, Vec3::new(1.0, 1.0, 1.0));
+    /// assert!(ordinary(&[BvhItem::new(low, high)]).is_ok());
+    /// assert!(ordinary(&[BvhItem::new(high, low)]).is_err()); // the corners are not put in order
+    /// ```
     pub fn new(min: Vec3, max: Vec3) -> BvhItem {
         BvhItem { present: 1, min, max }
     }
@@ -58,6 +75,17 @@ impl From<Option<[Vec3; 2]>> for BvhItem {
 }
 
 /// The values of a tree that was built. The box is copied from the items, a NaN with its bits; the rest was computed.
+///
+/// ```
+/// # use bounds::{BvhItem, Tree, Vec3};
+/// let at = |x: f32| BvhItem::new(Vec3::new(x, 0.0, 0.0), Vec3::new(x + 1.0, 1.0, 1.0));
+/// let tree = Tree::build(&[at(0.0), BvhItem::ABSENT, at(65_533.0)], 1)?;
+/// let built = tree.built();
+/// assert_eq!((built.items_count, built.nodes_count, built.nodes_capacity), (2, 3, 7)); // padding up to 2 · 3 + 1
+/// assert_eq!((built.bb_max.x, built.bb_center.x), (65_534.0, 32_767.0));
+/// assert_eq!((built.quantum.x, built.quantum_inverse.x), (1.0, 1.0)); // half the box in 32,767 parts
+/// # Ok::<(), bounds::Refusal>(())
+/// ```
 #[derive(Clone, Copy, Debug, PartialEq)]
 pub struct BuiltTree {
     /// Nodes of the tree.
@@ -81,6 +109,15 @@ pub struct BuiltTree {
 }
 
 /// What a tree's header holds.
+///
+/// ```
+/// # use bounds::bvh::{tree_header, Bvh};
+/// let mut out = [0; 128];
+/// tree_header(&mut out, &Bvh { nodes_count: 3, nodes_capacity: 5, ..Bvh::default() })?;
+/// assert_eq!(out[8..16], [3, 0, 0, 0, 5, 0, 0, 0]); // after the address of the nodes
+/// assert_eq!(out[44..48], 0xFFC0_0000u32.to_le_bytes()); // each vector has a fourth word: here that of `bb_min`
+/// # Ok::<(), bounds::Refusal>(())
+/// ```
 #[derive(Clone, Copy, Debug, Default, PartialEq)]
 #[allow(missing_docs)]
 pub struct Bvh {
@@ -98,6 +135,16 @@ pub struct Bvh {
 
 impl BuiltTree {
     /// The header of this tree, its node and tree records being at these addresses.
+    ///
+    /// ```
+    /// # use bounds::{BvhItem, Tree};
+    /// let tree = Tree::build(&[BvhItem::ABSENT; 2], 1)?;
+    /// let nodes = 0x5000_0080;
+    /// let header = tree.built().bvh(nodes, nodes + tree.node_bytes().len() as u64);
+    /// assert_eq!((header.nodes_count, header.nodes_capacity), (1, 5));
+    /// assert_eq!(header.trees_address, nodes + 5 * 16); // behind the padding
+    /// # Ok::<(), bounds::Refusal>(())
+    /// ```
     pub fn bvh(&self, nodes_address: u64, trees_address: u64) -> Bvh {
         let &BuiltTree { nodes_count, nodes_capacity, trees_count, .. } = self;
         let &BuiltTree { bb_min, bb_max, bb_center, quantum_inverse, quantum, .. } = self;
@@ -117,12 +164,33 @@ impl BuiltTree {
 }
 
 /// Most entries of a list.
+///
+/// ```
+/// # use bounds::{bvh::ENTRIES, BvhItem, Refusal, Tree};
+/// assert_eq!(ENTRIES, i16::MAX as usize); // a record's id and count are i16
+/// assert!(Tree::build(&vec![BvhItem::ABSENT; ENTRIES], 1).is_ok());
+/// assert_eq!(Tree::build(&vec![BvhItem::ABSENT; ENTRIES + 1], 1), Err(Refusal::ListTooLong)); // absent ones count
+/// ```
 pub const ENTRIES: usize = 32_767;
 
 /// Bytes of a node or tree record.
+///
+/// ```
+/// # use bounds::{bvh::RECORD, BvhItem, Tree};
+/// assert_eq!(RECORD, 2 * (3 + 3 + 1 + 1)); // min, max, and two numbers: i16 each
+/// let tree = Tree::build(&[BvhItem::ABSENT; 3], 1)?;
+/// assert_eq!(tree.node_bytes().chunks_exact(RECORD).len(), 2 * 3 + 1);
+/// # Ok::<(), bounds::Refusal>(())
+/// ```
 pub const RECORD: usize = 16;
 
 /// Bytes of a tree's header.
+///
+/// ```
+/// # use bounds::bvh::HEADER;
+/// // Address, count, capacity and zeros; five vectors of four words; address, two counts and zeros.
+/// assert_eq!(HEADER, (8 + 4 + 4 + 16) + 5 * 16 + (8 + 2 + 2 + 4));
+/// ```
 pub const HEADER: usize = 128;
 
 /// Bytes of the node buffer, and of the tree buffer, for so many entries.

@@ -25,17 +25,47 @@ pub use crate::types::Child;
 use crate::{ffi, Mat4, Refusal, Vec3};
 
 /// Bytes of a child's box.
+///
+/// ```
+/// # use bounds::composite::{child_boxes, Child, CHILD_BOX};
+/// assert_eq!(CHILD_BOX, 4 * (3 + 1 + 3 + 1)); // min, the word 1, max, margin
+/// let mut out = [0; 2 * CHILD_BOX];
+/// child_boxes(&[Child::ABSENT, Child { present: 1, margin: 0.04, ..Child::ABSENT }], &mut out)?;
+/// assert_eq!(out[CHILD_BOX + 28..], 0.04f32.to_le_bytes());
+/// # Ok::<(), bounds::Refusal>(())
+/// ```
 pub const CHILD_BOX: usize = 32;
 
 /// A composite of more children than these has a tree.
+///
+/// ```
+/// # use bounds::{composite::WITHOUT_TREE, Child, Composite};
+/// assert!(Composite::prepare(&[Child::ABSENT; WITHOUT_TREE])?.tree.is_none());
+/// assert!(Composite::prepare(&[Child::ABSENT; WITHOUT_TREE + 1])?.tree.is_some()); // absent ones count
+/// # Ok::<(), bounds::Refusal>(())
+/// ```
 pub const WITHOUT_TREE: usize = 5;
 
 impl Child {
     /// A child that is not there; what else it holds does not matter.
+    ///
+    /// ```
+    /// # use bounds::{Child, Composite};
+    /// let absent = Child { margin: 0.04, ..Child::ABSENT };
+    /// assert_eq!(Composite::prepare(&[absent])?.child_boxes, [0; 32]);
+    /// # Ok::<(), bounds::Refusal>(())
+    /// ```
     pub const ABSENT: Child =
         Child { present: 0, box_min: Vec3::ZERO, box_max: Vec3::ZERO, margin: 0.0, transform: Mat4::identity() };
 
     /// A present child.
+    ///
+    /// ```
+    /// # use bounds::{Child, Mat4, Vec3};
+    /// let one = Vec3::new(1.0, 1.0, 1.0);
+    /// let child = Child::new(-one, one, 0.5, Mat4::identity());
+    /// assert_eq!(child.computed_box(), Some((-one, one))); // the margin does not widen it
+    /// ```
     pub fn new(box_min: Vec3, box_max: Vec3, margin: f32, transform: Mat4) -> Child {
         Child { present: 1, box_min, box_max, margin, transform }
     }
@@ -58,6 +88,17 @@ impl Child {
 }
 
 /// What is written of a composite: 32 bytes a child, and a tree where there are over five children.
+///
+/// ```
+/// # use bounds::{Child, Composite, Mat4, Vec3};
+/// let mut up = Mat4::identity();
+/// up.0[14] = 10.0;
+/// let child = Child::new(Vec3::ZERO, Vec3::new(1.0, 1.0, 1.0), 0.0, up);
+/// let composite = Composite::prepare(&[child; 6])?;
+/// assert_eq!(composite.child_boxes[24..28], 1.0f32.to_le_bytes()); // max z as it is given
+/// assert_eq!(composite.tree.expect("six children").built.bb_max.z, 11.0); // and through the transform
+/// # Ok::<(), bounds::Refusal>(())
+/// ```
 #[derive(Clone, Debug, PartialEq)]
 pub struct Composite {
     /// Of each child min, the word 1, max and margin; 32 zeros of one that is absent.

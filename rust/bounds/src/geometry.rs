@@ -18,13 +18,37 @@ pub use crate::types::{BoundMaterial, BoundVertex};
 use crate::{BvhItem, Refusal, Vec3};
 
 /// Bytes of a polygon's record.
+///
+/// ```
+/// # use bounds::{geometry::RECORD, Polygon};
+/// assert_eq!(RECORD, 4 + 3 * 2 + 3 * 2); // a triangle fills it: area, vertices, links
+/// let sphere = |index| Polygon::Sphere { material: 0, index, radius: 1.0 };
+/// let records = [sphere(7), sphere(8)].map(|polygon| polygon.to_bytes()).concat();
+/// assert_eq!(Polygon::read(&records[RECORD..])?, sphere(8));
+/// # Ok::<(), bounds::Refusal>(())
+/// ```
 pub const RECORD: usize = 16;
 
 /// Bytes that [`build_materials`] needs for its list: 256 materials of 8.
+///
+/// ```
+/// # use bounds::{geometry::{build_materials, MATERIALS_LEN}, Refusal};
+/// assert_eq!(MATERIALS_LEN, 256 * 8);
+/// let mut short = [0; MATERIALS_LEN - 1]; // too short also where no material is used
+/// assert_eq!(build_materials(&[], &[], &mut short, &mut []), Err(Refusal::BufferTooShort));
+/// ```
 pub const MATERIALS_LEN: usize = 2048;
 
 /// A polygon. Its material is the number of one of the geometry's materials, and is not in its record; vertices of a
 /// triangle may have a flag in bit 15; edges are numbers of polygons, -1 for none.
+///
+/// ```
+/// # use bounds::Polygon;
+/// let bytes = Polygon::Capsule { material: 3, i1: 4, i2: 5, radius: 0.5 }.to_bytes();
+/// assert_eq!(bytes[0] & 7, 2); // the kind: 0 to 4, in the order below
+/// assert_eq!(Polygon::read(&bytes)?, Polygon::Capsule { material: 0, i1: 4, i2: 5, radius: 0.5 });
+/// # Ok::<(), bounds::Refusal>(())
+/// ```
 #[derive(Clone, Copy, Debug, PartialEq)]
 #[allow(missing_docs)]
 pub enum Polygon {

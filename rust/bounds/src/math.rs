@@ -7,9 +7,21 @@ use std::ops::{Add, Mul, Neg, Sub};
 
 impl Vec3 {
     /// The origin.
+    ///
+    /// ```
+    /// # use bounds::{math::norm, Vec3};
+    /// assert_eq!(norm(Vec3::ZERO), Vec3::ZERO); // it has no direction
+    /// assert_eq!((-Vec3::ZERO).x.to_bits(), 0x8000_0000); // equal to it, but another word
+    /// ```
     pub const ZERO: Vec3 = Vec3 { x: 0.0, y: 0.0, z: 0.0 };
 
     /// The point with these coordinates.
+    ///
+    /// ```
+    /// # use bounds::Vec3;
+    /// let points = [[0.0, 0.0, 1.0], [2.0, 3.0, 4.0]].map(|[x, y, z]| Vec3::new(x, y, z));
+    /// assert_eq!((points[1].x, points[1].z), (2.0, 4.0));
+    /// ```
     #[inline]
     pub fn new(x: f32, y: f32, z: f32) -> Vec3 {
         Vec3 { x, y, z }
@@ -110,12 +122,24 @@ impl Neg for Vec3 {
 
 impl Vec4 {
     /// The point with these coordinates.
+    ///
+    /// ```
+    /// # use bounds::{Mat4, Vec3, Vec4};
+    /// let mut m = Mat4::identity();
+    /// m.0[15] = 2.0;
+    /// assert_eq!(m.transform_point(Vec3::ZERO), Vec4::new(0.0, 0.0, 0.0, 2.0));
+    /// ```
     #[inline]
     pub fn new(x: f32, y: f32, z: f32, w: f32) -> Vec4 {
         Vec4 { x, y, z, w }
     }
 
     /// The first three coordinates.
+    ///
+    /// ```
+    /// # use bounds::{Vec3, Vec4};
+    /// assert_eq!(Vec4::new(2.0, 4.0, 6.0, 2.0).xyz(), Vec3::new(2.0, 4.0, 6.0)); // not divided by the fourth
+    /// ```
     #[inline]
     pub fn xyz(self) -> Vec3 {
         Vec3::new(self.x, self.y, self.z)
@@ -124,6 +148,12 @@ impl Vec4 {
 
 impl Mat4 {
     /// The transform that leaves finite points where they are.
+    ///
+    /// ```
+    /// # use bounds::Mat4;
+    /// const STILL: Mat4 = Mat4::identity();
+    /// assert!((0..16).all(|k| STILL.0[k] == if k % 5 == 0 { 1.0 } else { 0.0 })); // 1 on the diagonal
+    /// ```
     #[inline]
     pub const fn identity() -> Mat4 {
         Mat4([1.0, 0.0, 0.0, 0.0, 0.0, 1.0, 0.0, 0.0, 0.0, 0.0, 1.0, 0.0, 0.0, 0.0, 0.0, 1.0])

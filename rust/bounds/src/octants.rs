@@ -20,6 +20,14 @@ use crate::bvh::parts;
 use crate::{ffi, Refusal, Vec3};
 
 /// Most vertices, and most indices of a list.
+///
+/// ```
+/// # use bounds::{octants::VERTICES, Octants, Refusal};
+/// assert_eq!(VERTICES, 0x7FFF + 1); // what a triangle can name: bit 15 is a flag
+/// let mut octants = Octants::default();
+/// octants.items[3] = vec![0; VERTICES + 1];
+/// assert_eq!(octants.write(0), Err(Refusal::ListTooLong));
+/// ```
 pub const VERTICES: usize = 32_768;
 
 /// Eight lists of vertex indices, one for each direction: bits 0, 1 and 2 of its number turn x, y and z around.

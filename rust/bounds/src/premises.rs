@@ -17,6 +17,13 @@ use crate::{ffi, Refusal};
 use std::fmt;
 
 /// An axis.
+///
+/// ```
+/// # use bounds::{premises::*, BvhItem, Vec3};
+/// let turned = BvhItem::new(Vec3::new(0.0, 1.0, 1.0), Vec3::ZERO); // on y and z
+/// assert_eq!(ordinary(&[turned]), Err(Broken::Order { place: 0, axis: Axis::Y }));
+/// assert_eq!(Axis::Y.to_string(), "y");
+/// ```
 #[derive(Clone, Copy, Debug, PartialEq, Eq, Hash)]
 #[allow(missing_docs)]
 pub enum Axis {
@@ -26,6 +33,13 @@ pub enum Axis {
 }
 
 /// A corner of a box.
+///
+/// ```
+/// # use bounds::{premises::*, BvhItem, Vec3};
+/// let odd = BvhItem::new(Vec3::new(0.0, 0.0, f32::INFINITY), Vec3::new(f32::NAN, 0.0, 0.0));
+/// // All of min is looked at before max.
+/// assert_eq!(ordinary(&[odd]), Err(Broken::Size { place: 0, corner: Corner::Min, axis: Axis::Z }));
+/// ```
 #[derive(Clone, Copy, Debug, PartialEq, Eq, Hash)]
 #[allow(missing_docs)]
 pub enum Corner {
@@ -34,6 +48,17 @@ pub enum Corner {
 }
 
 /// What breaks the premises first.
+///
+/// ```
+/// # use bounds::{ordinary, premises::Broken, BvhItem, Vec3};
+/// let point = |x: f32| BvhItem::new(Vec3::new(x, 0.0, 0.0), Vec3::new(x, 0.0, 0.0));
+/// let mut items = [f32::NAN, 1.0, f32::INFINITY].map(point);
+/// // Leaves out what breaks them by itself.
+/// while let Err(Broken::Size { place, .. } | Broken::Order { place, .. }) = ordinary(&items) {
+///     items[place] = BvhItem::ABSENT;
+/// }
+/// assert_eq!(items, [BvhItem::ABSENT, point(1.0), BvhItem::ABSENT]);
+/// ```
 #[derive(Clone, Copy, Debug, PartialEq, Eq, Hash)]
 #[non_exhaustive]
 pub enum Broken {

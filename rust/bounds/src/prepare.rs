@@ -33,6 +33,16 @@ use crate::{ffi, BoundMaterial, BoundVertex, Mat4, Octants, Polygon, Refusal, Ve
 pub use crate::prepared::{GivenPolygon, PolygonCandidates, PolygonPlace};
 
 /// Most materials. Of 256 different ones that are used the polygons are refused ([`Refusal::TooManyMaterials`]).
+///
+/// ```
+/// # use bounds::{prepare::MATERIALS, BoundMaterial, Geometry, Refusal};
+/// assert_eq!(MATERIALS, u8::MAX as usize + 1); // a polygon's material is a byte
+/// let mut geometry = Geometry::new(Geometry::BVH);
+/// geometry.materials = vec![BoundMaterial::default(); MATERIALS];
+/// assert!(geometry.prepare().is_ok());
+/// geometry.materials.push(BoundMaterial::default());
+/// assert_eq!(geometry.prepare().err(), Some(Refusal::ListTooLong));
+/// ```
 pub const MATERIALS: usize = 256;
 
 /// A geometry as it is modelled, by the source's names. Any floats will do.
@@ -140,8 +150,28 @@ pub struct PreparedTree {
 
 impl Geometry {
     /// The kind that shrinks its vertices and has octants.
+    ///
+    /// ```
+    /// # use bounds::{Geometry, Vec3};
+    /// let geometry = Geometry { vertices: vec![Vec3::ZERO], ..Geometry::new(Geometry::PLAIN) };
+    /// let prepared = geometry.prepare()?;
+    /// assert_eq!(prepared.vertices_shrunk.expect("a vertex").stored.len(), 1);
+    /// assert_eq!(prepared.octants.expect("kind 4").items[7], [0]);
+    /// # Ok::<(), bounds::Refusal>(())
+    /// ```
     pub const PLAIN: u8 = 4;
     /// The kind that has a tree.
+    ///
+    /// ```
+    /// # use bounds::{Geometry, Polygon, Vec3};
+    /// let mut geometry = Geometry::new(Geometry::BVH);
+    /// geometry.vertices = vec![Vec3::new(1.0, 2.0, 3.0)];
+    /// geometry.polygons = vec![Polygon::Sphere { material: 0, index: 0, radius: 0.5 }];
+    /// let prepared = geometry.prepare()?;
+    /// assert_eq!(prepared.box_max, Vec3::new(1.5, 2.5, 3.5)); // the tree's box, not the given one
+    /// assert!(prepared.bvh.is_some() && prepared.octants.is_none());
+    /// # Ok::<(), bounds::Refusal>(())
+    /// ```
     pub const BVH: u8 = 8;
 
     /// An empty one of this kind: all zero, and the identity as transform.
@@ -314,6 +344,26 @@ pub struct Mesh<'a> {
 
 /// Where it is written to, and a buffer to work in. The sizes of [`Lengths`] are needed whatever the kind is; longer ones
 /// will do. What a kind does not write to stays as it was, and so does what lies behind.
+///
+/// ```
+/// # use bounds::{prepare::{Buffers, Lengths}, Vec3};
+/// let of = Lengths::of(1, 3); // a polygon and three vertices
+/// let to = Buffers {
+///     materials: &mut vec![0; of.materials],
+///     indices: &mut vec![0; of.indices],
+///     polygons: &mut vec![0; of.polygons],
+///     vertices: &mut vec![0; of.vertices],
+///     floats: &mut vec![Vec3::ZERO; of.floats],
+///     shrunk: &mut vec![0; of.shrunk],
+///     shrunk_floats: &mut vec![Vec3::ZERO; of.shrunk_floats],
+///     octants: &mut vec![0; of.octants],
+///     node_bytes: &mut vec![0; of.node_bytes],
+///     tree_bytes: &mut vec![0; of.tree_bytes],
+///     order: &mut vec![0; of.order],
+///     work: &mut vec![0; of.work],
+/// };
+/// assert_eq!((to.polygons.len(), to.vertices.len(), to.node_bytes.len()), (16, 6 * 3, 16 * (2 * 1 + 1)));
+/// ```
 #[derive(Debug)]
 pub struct Buffers<'a> {
     /// Eight bytes a material, filled up to four with (0, 0).

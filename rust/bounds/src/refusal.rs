@@ -3,6 +3,18 @@
 use std::fmt;
 
 /// Why an operation was refused; the number is the one that the C interface returns.
+///
+/// ```
+/// # use bounds::{BvhItem, Refusal, Tree};
+/// // One box more than a tree of single items can have; then leaves of four.
+/// let boxes = vec![BvhItem { present: 1, ..BvhItem::ABSENT }; 16_385];
+/// let tree = Tree::build(&boxes, 1).or_else(|refusal| match refusal {
+///     Refusal::TooManyNodes => Tree::build(&boxes, 4),
+///     other => Err(other),
+/// })?;
+/// assert_eq!(tree.threshold(), 4);
+/// # Ok::<(), Refusal>(())
+/// ```
 #[derive(Clone, Copy, Debug, PartialEq, Eq, Hash)]
 #[non_exhaustive]
 #[repr(u8)]
@@ -39,6 +51,13 @@ pub enum Refusal {
 
 impl Refusal {
     /// Every refusal that an operation may answer with, by its number.
+    ///
+    /// ```
+    /// # use bounds::Refusal;
+    /// let table = Refusal::ALL.map(|refusal| refusal.to_string());
+    /// assert!(table[12].starts_with("refused 13: the input ends inside a record"));
+    /// assert!(!Refusal::ALL.contains(&Refusal::Unknown)); // no operation's answer
+    /// ```
     pub const ALL: [Refusal; 13] = [
         Refusal::ListTooLong,
         Refusal::BufferTooShort,

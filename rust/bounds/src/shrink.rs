@@ -26,6 +26,15 @@ use crate::{ffi, Mat4, Refusal, Vec3};
 pub use crate::types::ShrinkBound;
 
 /// Most polygons.
+///
+/// ```
+/// # use bounds::{shrink::*, Refusal, Vec3};
+/// assert_eq!(POLYGONS, i16::MAX as usize); // links are i16, with -1 for none
+/// let bound = ShrinkBound::new(Vec3::ZERO, Vec3::ZERO, 0.04);
+/// let without_bytes = |polygons| calculate_verts_shrunk(&bound, &[], polygons, &[]).err();
+/// assert_eq!(without_bytes(POLYGONS), Some(Refusal::BufferTooShort));
+/// assert_eq!(without_bytes(POLYGONS + 1), Some(Refusal::ListTooLong)); // looked for first
+/// ```
 pub const POLYGONS: usize = 32_767;
 
 impl ShrinkBound {
@@ -42,6 +51,16 @@ impl ShrinkBound {
 }
 
 /// How vertices were shrunk.
+///
+/// ```
+/// # use bounds::{calculate_verts_shrunk, ShrinkBound, ShrunkBy, Vec3};
+/// let bound = |height: f32| ShrinkBound::new(Vec3::ZERO, Vec3::new(9.0, 9.0, height), 1.0);
+/// let by = |height| calculate_verts_shrunk(&bound(height), &[], 0, &[Vec3::ZERO]).map(|shrunk| shrunk.by);
+/// assert_eq!(by(8.0)?, ShrunkBy::Margin(1.0)); // the given one
+/// assert_eq!(by(0.5)?, ShrunkBy::Margin(0.25)); // half the box is less
+/// assert_eq!(by(0.0)?, ShrunkBy::Normals); // a flat box leaves no margin to try
+/// # Ok::<(), bounds::Refusal>(())
+/// ```
 #[derive(Clone, Copy, Debug, PartialEq)]
 pub enum ShrunkBy {
     /// By this margin, and clamped to the box: the first that no vertex crossed a triangle with.
@@ -53,6 +72,17 @@ pub enum ShrunkBy {
 }
 
 /// The shrunk vertices, as many as were given.
+///
+/// ```
+/// # use bounds::{calculate_verts_shrunk, Polygon, ShrinkBound, ShrunkBy, Vec3};
+/// let vertices = [Vec3::ZERO, Vec3::new(1.0, 0.0, 0.0), Vec3::new(0.0, 1.0, 0.0)];
+/// let triangle = Polygon::Triangle { material: 0, area: 0.5, v: [0, 1, 2], edges: [-1; 3] };
+/// let flat = ShrinkBound::new(Vec3::ZERO, Vec3::new(1.0, 1.0, 0.0), 0.25);
+/// let shrunk = calculate_verts_shrunk(&flat, &triangle.to_bytes(), 1, &vertices)?;
+/// assert_eq!(shrunk.by, ShrunkBy::Normals); // nothing is clamped then
+/// assert_eq!(shrunk.vertices, vertices.map(|v| Vec3 { z: 0.25, ..v }));
+/// # Ok::<(), bounds::Refusal>(())
+/// ```
 #[derive(Clone, Debug, PartialEq)]
 pub struct Shrunk {
     /// In the order of those that were given.
