@@ -21,6 +21,11 @@ pub struct PolygonPlace(pub usize);
 
 /// A polygon by its number among those that were given.
 ///
+/// ```
+/// # use bounds::prepare::GivenPolygon;
+/// assert!(GivenPolygon(3) < GivenPolygon(4));
+/// ```
+///
 /// ```compile_fail
 /// # use bounds::prepare::{GivenPolygon, PolygonPlace};
 /// let place: PolygonPlace = GivenPolygon(3);

@@ -1,4 +1,5 @@
-//! Shrunk vertices: where the vertices of a geometry stand when they are moved inwards by its margin.
+//! Shrunk vertices: where the vertices of a geometry stand when they are moved inwards by its margin, or, where no margin
+//! passes, against their normals ([`ShrunkBy::Normals`]).
 //!
 //! ```
 //! use bounds::{calculate_verts_shrunk, Polygon, ShrinkBound, ShrunkBy, Vec3};
@@ -65,7 +66,8 @@ impl ShrinkBound {
 pub enum ShrunkBy {
     /// By this margin, and clamped to the box: the first that no vertex crossed a triangle with.
     Margin(f32),
-    /// By the given margin along the vertices' normals, since no margin passed.
+    /// By the given margin against the sum of each vertex's normals and not clamped, since no margin passed. The two ways
+    /// are opposite, as in the source.
     Normals,
     /// There are no vertices.
     NoVertices,

@@ -189,7 +189,8 @@ impl Tree {
     }
 
     /// What the records hand out for the box from `min` to `max`, and how many were read: a server that compares boxes
-    /// itself, or trusts the records alone, takes these. A NaN corner stands for the centre.
+    /// itself, or trusts the records alone, takes these. A NaN corner stands for the centre, and a corner outside the box
+    /// of all for a place on its edge, so that a query that lies outside can be handed what stands there.
     ///
     /// ```
     /// # use bounds::{BvhItem, Tree, Vec3};
