@@ -11,7 +11,8 @@ use Rattle.points.specs.Points.{positionsOf}
 use Rattle.prepared.specs.Rebuilt.{entriesOf8, orderOf8, polygonsOf8}
 use Rattle.rebuild.proofs.LinkTrace.{boxes-without-links, renumbering-leaves-no-trace, both-passes-are-one}
 use Rattle.rebuild.specs.Rebuilding.{leafLimit, polygonEntries}
-use Rattle.reorder.specs.Reordering.{reorderedOf, rebuiltOf, lookupOf}
+use Rattle.reorder.specs.Reordering.{rebuiltOf, lookupOf}
+use Rattle.bvh_shape.specs.Sorting.{linkedInOrder}
 
 module _ (b : Bound) (p v : ℕ) (polygons vertices : List ℕ) where
   -- where the vertices stand, the entries, and the order of the leaves
@@ -34,7 +35,7 @@ module _ (b : Bound) (p v : ℕ) (polygons vertices : List ℕ) where
     order-given = ap (λ (e : Entries). orderWritten e leafLimit) entries-given
 
     -- One edge pass over the polygons in leaf order.
-    pub passes-are-one : polygonsOf8 b p v polygons vertices ≡ linked p (reorderedOf p leaves polygons)
+    pub passes-are-one : polygonsOf8 b p v polygons vertices ≡ linkedInOrder p leaves polygons
     unfolding polygonsOf8 orderOf8 entriesOf8
     passes-are-one = both-passes-are-one p polygons positions records
 

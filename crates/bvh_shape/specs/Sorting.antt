@@ -11,7 +11,7 @@ use Rattle.bvh.specs.declared.core.Build.the-variants.{Built, Refused}
 use Rattle.corners.specs.Corners.{kindsKnown}
 use Rattle.edges.specs.Edges.{linked}
 use Rattle.edges.specs.steps.Work.{Work}
-use Rattle.reorder.specs.Reordering.{inOrder}
+use Rattle.reorder.specs.Reordering.{inOrder, reorderedOf}
 
 -- There are p polygons of known kinds, room to link them in, and the order has places of numbers.
 pub record Sortable (p : ℕ) (numbers out order entries places temp stack rows sorted : List ℕ) : Type 0 where
@@ -20,6 +20,10 @@ pub record Sortable (p : ℕ) (numbers out order entries places temp stack rows 
   pub long : p ≤ length order
   pub places-below : Below (length numbers) (take p order)
   pub for-sorted : p ≤ length sorted
+
+-- Rule K7: what both edge passes come to: one pass, over the polygons in the order of the leaves
+abbrev pub linkedInOrder : ℕ → List ℕ → List ℕ → List ℕ
+linkedInOrder p order polygons = linked p (reorderedOf p order polygons)
 
 -- Rule K7 (the second edge pass): the polygons with their links where there is a tree
 abbrev pub linkedIf : Build → ℕ → List ℕ → List ℕ

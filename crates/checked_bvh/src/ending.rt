@@ -78,12 +78,12 @@ pub fn finish_tree(
         return Prepare::Refused(PrepareRefusal::TooManyNodes);
     };
     let frame = frame_of(tree);
-    let quantum = quantum_of(frame);
+    let unit = quantum_of(frame);
     let materials = finish(
         counts.polygons,
         counts.vertices,
         counts.materials,
-        quantum,
+        unit,
         sorted,
         mats,
         vertices,
@@ -94,7 +94,7 @@ pub fn finish_tree(
     );
     let values = Values {
         frame: frame,
-        quantum: quantum,
+        quantum: unit,
         materials: materials,
     };
     Prepare::Bvh(values, tree)

@@ -22,6 +22,14 @@ use Rattle.prepared.specs.Prepared.{PreparedMesh, rebuilds, polygonsOf, 
 use Rattle.prepared.specs.Rebuilt.{entriesOf8, orderOf8, polygonsOf8, materialsOf8, treeOf8, frameOf}
 use Rattle.prepared.specs.Shrunk.{shrunkBytes, shrunkFloats, shrunkOctant}
 
+-- Kind 4 keeps the frame that it was given, the box included: nothing is folded anew.
+pub frame-as-given : (g : Mesh) → g .bound .kind ≡ 4 → frameFor g ≡ g .bound .frame
+unfolding frameFor
+frame-as-given g four =
+    let b = g .bound in
+    let p = g .counts .polygons in
+    ap (λ (k : ℕ). cond (eqb k 8 && not (eqb p 0)) (frameOf (treeOf8 b p (g .counts .vertices) (g .polygons) (g .vertices))) (b .frame)) four
+
 -- what a mesh has, of its frame, its polygons and their materials, and with or without what only one kind has
 abbrev made : Mesh → Frame → List ℕ → List ℕ → (List ℕ → List ℕ) → (List ℕ → List ℕ) → PreparedMesh
 made g frame polygons ms hull tree =
