@@ -7,10 +7,10 @@ use lib.ListN.{length, take, drop, length-append, take-append-drop}
 use lib.Seq.{take-at, drop-at}
 use Rattle.io.specs.Digits.{digits}
 use Rattle.replay.specs.Lines.{fieldsOf, lineOf}
-use Rattle.recorded.specs.Operations.{numberOf}
-use Rattle.recorded.specs.declared.operation.Operation.{Operation}
+use Rattle.replay.specs.Operations.{numberOf}
+use Rattle.replay.specs.declared.operation.Operation.{Operation}
 use Rattle.replay.proofs.FieldLaws.{length-fields}
-use Rattle.recorded.proofs.Numbering.{between}
+use Rattle.replay.proofs.Numbering.{between}
 use Rattle.replay.proofs.Spelling.{length-digits, digits-injective}
 
 pub line-length : (op : Operation) (ws : List ℕ) → length (lineOf op ws) ≡ 2 + 9 * length ws

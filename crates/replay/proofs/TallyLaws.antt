@@ -13,7 +13,7 @@ use Rattle.replay.specs.Outcomes.{Judged}
 use Rattle.replay.specs.Tallies.{State, stateOf, grown, After, Fed, Via, placeOf, casesAfter, missesAfter, totalFrom}
 use Rattle.replay.specs.declared.outcome.Outcome.{Outcome}
 use Rattle.replay.specs.declared.outcome.Outcome.the-variants.{Match, Mismatch, Bad}
-use Rattle.recorded.proofs.Numbering.{between}
+use Rattle.replay.proofs.Numbering.{between}
 
 -- Every outcome of a line is counted at one of 36 places.
 pub place-within : (line : List ℕ) (o : Outcome) → Judged line o → placeOf o < 36

@@ -6,8 +6,8 @@ use lib.Dec.{ltb}
 use mathlib.Core.List.{List, [], _∷_, _++_}
 use lib.ListN.{length, take}
 use Rattle.io.specs.Digits.{digits}
-use Rattle.recorded.specs.Operations.{numberOf, countOf}
-use Rattle.recorded.specs.declared.operation.Operation.{Operation}
+use Rattle.replay.specs.Operations.{numberOf, countOf}
+use Rattle.replay.specs.declared.operation.Operation.{Operation}
 use Rattle.replay.specs.declared.line.Spelled.{Spelled}
 use Rattle.replay.specs.declared.line.Spelled.the-variants as S
 use Rattle.replay.specs.declared.line.Parsed.{Parsed}

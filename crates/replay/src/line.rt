@@ -1,6 +1,6 @@
 // A line: the operation's number in two hexadecimal digits, then each word in eight, after a space.
-use recorded::operation::Named;
-use recorded::operation::Operation;
+use crate::operation::Named;
+use crate::operation::Operation;
 ghost use mathlib.Core.Path.{_≡_};
 ghost use mathlib.Core.Bool.{true, false};
 ghost use Prim.Native.Nat.{_*_, _≤_};
@@ -83,10 +83,10 @@ pub fn parse(line: &[u8], words: &mut [u32]) -> Parsed
     let Spelled::Number(n) = number(&line[..2]) else {
         return Parsed::Bad;
     };
-    let Named::Known(op) = recorded::operation::of_number(n) else {
+    let Named::Known(op) = crate::operation::of_number(n) else {
         return Parsed::Bad;
     };
-    let count = recorded::operation::inputs(op) + recorded::operation::outputs(op);
+    let count = crate::operation::inputs(op) + crate::operation::outputs(op);
     if line.len() != 2 + 9 * count {
         return Parsed::Bad;
     }

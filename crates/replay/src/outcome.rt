@@ -1,12 +1,12 @@
 // Whether our answer to a line is the recorded one.
+use crate::answer::Answer;
 use crate::line::Parsed;
-use recorded::answer::Answer;
-use recorded::operation::Operation;
+use crate::operation::Operation;
 ghost use mathlib.Core.Path.{_≡_};
 ghost use mathlib.Core.Bool.{true, false};
 ghost use lib.ListN.{length};
-ghost use Rattle.recorded.specs.Answers.{wordsOf};
-ghost use Rattle.recorded.specs.Operations.{countOf};
+ghost use Rattle.replay.specs.Answers.{wordsOf};
+ghost use Rattle.replay.specs.Operations.{countOf};
 ghost use Rattle.replay.specs.Outcomes.{Holds, Words, Agrees, Judged};
 
 pub enum Outcome {
@@ -49,8 +49,8 @@ fn judge(op: Operation, words: &[u32]) -> bool
     ensures { λ r. ⌜ Holds (Agrees op (now (words .entry))) r ⌝ }
     ensures { λ _. ⌜ Words (now (words .entry)) ⌝ }
 {
-    let n = recorded::operation::inputs(op);
-    gives(recorded::answer::of(op, &words[..n]), &words[n..])
+    let n = crate::operation::inputs(op);
+    gives(crate::answer::of(op, &words[..n]), &words[n..])
 }
 
 pub fn of(line: &[u8]) -> Outcome
@@ -60,7 +60,7 @@ pub fn of(line: &[u8]) -> Outcome
     match crate::line::parse(line, &mut words) {
         Parsed::Bad => Outcome::Bad,
         Parsed::Case(n, op) => {
-            let count = recorded::operation::inputs(op) + recorded::operation::outputs(op);
+            let count = crate::operation::inputs(op) + crate::operation::outputs(op);
             if judge(op, &words[..count]) {
                 Outcome::Match(n)
             } else {

@@ -11,12 +11,12 @@ use lib.ListN.{length, take, drop, length-take, length-drop}
 use lib.Seq.{length-take-le, take-all}
 use Rattle.io.specs.Digits.{digits}
 use Rattle.replay.specs.Lines.{fieldsOf, lineOf, Spells, Fields}
-use Rattle.recorded.specs.Operations.{numberOf, countOf, Names}
+use Rattle.replay.specs.Operations.{numberOf, countOf, Names}
 use Rattle.replay.proofs.LineLaws.{line-length, line-number, line-fields, line-made, line-names}
-use Rattle.recorded.proofs.Numbering.{count-most, number-injective}
+use Rattle.replay.proofs.Numbering.{count-most, number-injective}
 use Rattle.replay.proofs.Spelling.{spelt-in, none-in}
 use Rattle.replay.specs.declared.line.Spelled.the-variants as S
-use Rattle.recorded.specs.declared.operation.Operation.{Operation}
+use Rattle.replay.specs.declared.operation.Operation.{Operation}
 
 -- The line, and the number that its first two bytes spell.
 abbrev line-at : tie.After-of-number → List ℕ

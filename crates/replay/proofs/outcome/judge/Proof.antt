@@ -8,9 +8,9 @@ use Prim.Native.Nat.{ℕ, _-_, _≤_}
 use native.Mathlib.Omega.{arith}
 use lib.ListN.{length, take, drop, length-drop}
 use lib.Seq.{length-take-le, take-all}
-use Rattle.recorded.specs.Answers.{answerOf, wordsOf}
+use Rattle.replay.specs.Answers.{answerOf, wordsOf}
 use Rattle.replay.specs.Outcomes.{Holds, Words}
-use Rattle.recorded.specs.declared.answer.Answer.{Answer}
+use Rattle.replay.specs.declared.answer.Answer.{Answer}
 
 inputs-requires : tie.Need-inputs-requires
 inputs-requires c κs = search needs

@@ -11,9 +11,9 @@ use mathlib.Core.List.{List}
 use Rattle.replay.specs.Lines.{lineOf, Parses}
 use Rattle.replay.specs.Outcomes.{Holds, Agrees, Case}
 use Rattle.replay.specs.declared.line.Parsed.the-variants as Parsed
-use Rattle.recorded.specs.Operations.{countOf}
-use Rattle.recorded.specs.declared.operation.Operation.{Operation}
-use Rattle.recorded.proofs.Numbering.{count-most}
+use Rattle.replay.specs.Operations.{countOf}
+use Rattle.replay.specs.declared.operation.Operation.{Operation}
+use Rattle.replay.proofs.Numbering.{count-most}
 
 -- The case that the line was read as: its operation, how many words that has, the words that were read, and the line.
 abbrev op-at : tie.After-outputs → Operation

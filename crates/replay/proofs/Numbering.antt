@@ -1,0 +1,169 @@
+-- The operations' numbers: they lie between 1 and 35, and no two operations share one. Assumes nothing.
+use mathlib.Core.Path.{_≡_, refl, sym, ap, _∙_}
+use mathlib.Core.List.{List, [], _∷_}
+use lib.ListN.{getD}
+use Prim.Native.Nat.{ℕ, zero, suc, _≤_, _<_}
+use native.Mathlib.Omega.{arith}
+use Rattle.replay.specs.Operations.{numberOf, countOf}
+use Rattle.replay.specs.declared.operation.Operation.{Operation}
+use Rattle.replay.specs.declared.operation.Operation.the-variants as Op
+use Rattle.replay.specs.declared.operation.WordStep.the-variants as W
+use Rattle.replay.specs.declared.operation.PairStep.the-variants as P
+use Rattle.replay.specs.declared.operation.PointsStep.the-variants as Vs
+use Rattle.replay.specs.declared.operation.PointStep.the-variants as Vp
+use Rattle.replay.specs.declared.operation.FactorStep.the-variants as F
+
+pub record Between (n : ℕ) : Type 0 where
+  pub least : 1 ≤ n
+  pub most : n ≤ 35
+
+pub between : (op : Operation) → Between (numberOf op)
+between (Op.Word W.ValueBits) = record { least = omega arith; most = omega arith }
+between (Op.Word W.ToI32) = record { least = omega arith; most = omega arith }
+between (Op.Word W.ToShort) = record { least = omega arith; most = omega arith }
+between (Op.Word W.VertexValue) = record { least = omega arith; most = omega arith }
+between (Op.Word W.Sqrt) = record { least = omega arith; most = omega arith }
+between (Op.Word W.OfCount) = record { least = omega arith; most = omega arith }
+between (Op.Pair P.Relate) = record { least = omega arith; most = omega arith }
+between (Op.Pair P.CmpF32) = record { least = omega arith; most = omega arith }
+between (Op.Pair P.KeyOrder) = record { least = omega arith; most = omega arith }
+between (Op.Pair P.VminWord) = record { least = omega arith; most = omega arith }
+between (Op.Pair P.VmaxWord) = record { least = omega arith; most = omega arith }
+between (Op.Pair P.MinNumber) = record { least = omega arith; most = omega arith }
+between (Op.Pair P.MaxNumber) = record { least = omega arith; most = omega arith }
+between Op.Length = record { least = omega arith; most = omega arith }
+between Op.Norm = record { least = omega arith; most = omega arith }
+between (Op.Points Vs.Dot) = record { least = omega arith; most = omega arith }
+between (Op.Points Vs.Cross) = record { least = omega arith; most = omega arith }
+between (Op.Points Vs.CmpVec3) = record { least = omega arith; most = omega arith }
+between Op.TransformPoint = record { least = omega arith; most = omega arith }
+between Op.TransformVector = record { least = omega arith; most = omega arith }
+between Op.TransformBox = record { least = omega arith; most = omega arith }
+between (Op.Word W.OrderKey) = record { least = omega arith; most = omega arith }
+between (Op.Word W.Abs) = record { least = omega arith; most = omega arith }
+between (Op.Pair P.Vmin) = record { least = omega arith; most = omega arith }
+between (Op.Pair P.Vmax) = record { least = omega arith; most = omega arith }
+between (Op.Points Vs.Add) = record { least = omega arith; most = omega arith }
+between (Op.Points Vs.Sub) = record { least = omega arith; most = omega arith }
+between (Op.Points Vs.Vmul) = record { least = omega arith; most = omega arith }
+between (Op.Points Vs.Vdiv) = record { least = omega arith; most = omega arith }
+between (Op.Points Vs.Vmin) = record { least = omega arith; most = omega arith }
+between (Op.Points Vs.Vmax) = record { least = omega arith; most = omega arith }
+between (Op.Point Vp.Neg) = record { least = omega arith; most = omega arith }
+between (Op.Point Vp.Abs) = record { least = omega arith; most = omega arith }
+between (Op.Factor F.Scale) = record { least = omega arith; most = omega arith }
+between (Op.Factor F.VaddF) = record { least = omega arith; most = omega arith }
+
+-- the operations in the order of their numbers
+ordered : List Operation
+ordered =
+    Op.TransformBox
+    ∷ Op.Word W.ValueBits
+    ∷ Op.Pair P.Relate
+    ∷ Op.Pair P.CmpF32
+    ∷ Op.Pair P.KeyOrder
+    ∷ Op.Pair P.VminWord
+    ∷ Op.Pair P.VmaxWord
+    ∷ Op.Pair P.MinNumber
+    ∷ Op.Pair P.MaxNumber
+    ∷ Op.Word W.ToI32
+    ∷ Op.Word W.ToShort
+    ∷ Op.Word W.VertexValue
+    ∷ Op.Word W.Sqrt
+    ∷ Op.Word W.OfCount
+    ∷ Op.Length
+    ∷ Op.Norm
+    ∷ Op.Points Vs.Dot
+    ∷ Op.Points Vs.Cross
+    ∷ Op.Points Vs.CmpVec3
+    ∷ Op.TransformPoint
+    ∷ Op.TransformVector
+    ∷ Op.TransformBox
+    ∷ Op.Word W.OrderKey
+    ∷ Op.Word W.Abs
+    ∷ Op.Pair P.Vmin
+    ∷ Op.Pair P.Vmax
+    ∷ Op.Points Vs.Add
+    ∷ Op.Points Vs.Sub
+    ∷ Op.Points Vs.Vmul
+    ∷ Op.Points Vs.Vdiv
+    ∷ Op.Points Vs.Vmin
+    ∷ Op.Points Vs.Vmax
+    ∷ Op.Point Vp.Neg
+    ∷ Op.Point Vp.Abs
+    ∷ Op.Factor F.Scale
+    ∷ Op.Factor F.VaddF
+    ∷ []
+
+found : (op : Operation) → getD ordered (numberOf op) Op.TransformBox ≡ op
+unfolding ordered
+found (Op.Word W.ValueBits) = refl
+found (Op.Word W.ToI32) = refl
+found (Op.Word W.ToShort) = refl
+found (Op.Word W.VertexValue) = refl
+found (Op.Word W.Sqrt) = refl
+found (Op.Word W.OfCount) = refl
+found (Op.Pair P.Relate) = refl
+found (Op.Pair P.CmpF32) = refl
+found (Op.Pair P.KeyOrder) = refl
+found (Op.Pair P.VminWord) = refl
+found (Op.Pair P.VmaxWord) = refl
+found (Op.Pair P.MinNumber) = refl
+found (Op.Pair P.MaxNumber) = refl
+found Op.Length = refl
+found Op.Norm = refl
+found (Op.Points Vs.Dot) = refl
+found (Op.Points Vs.Cross) = refl
+found (Op.Points Vs.CmpVec3) = refl
+found Op.TransformPoint = refl
+found Op.TransformVector = refl
+found Op.TransformBox = refl
+found (Op.Word W.OrderKey) = refl
+found (Op.Word W.Abs) = refl
+found (Op.Pair P.Vmin) = refl
+found (Op.Pair P.Vmax) = refl
+found (Op.Points Vs.Add) = refl
+found (Op.Points Vs.Sub) = refl
+found (Op.Points Vs.Vmul) = refl
+found (Op.Points Vs.Vdiv) = refl
+found (Op.Points Vs.Vmin) = refl
+found (Op.Points Vs.Vmax) = refl
+found (Op.Point Vp.Neg) = refl
+found (Op.Point Vp.Abs) = refl
+found (Op.Factor F.Scale) = refl
+found (Op.Factor F.VaddF) = refl
+
+pub number-injective : (a b : Operation) → numberOf a ≡ numberOf b → a ≡ b
+number-injective a b e = sym (found a) ∙ ap (λ (n : ℕ). getD ordered n Op.TransformBox) e ∙ found b
+
+-- n is none of the numbers from 1 to k, as a `match` with those arms leaves it.
+abbrev pub Apart : ℕ → ℕ → Type 0
+Apart zero n = Unit {0}
+Apart (suc k) n = Apart k n × (n ≡ suc k → ⊥)
+
+pub beyond : (k n : ℕ) → Apart k n → 1 ≤ n → k < n
+beyond zero n a h = h
+beyond (suc k) n a h =
+    let b : k < n = beyond k n (a .0) h in
+    let d : n ≡ suc k → ⊥ = a .1 in
+    omega arith
+
+pub count-most : (op : Operation) → countOf op ≤ 28
+count-most (Op.Word s) = omega arith
+count-most (Op.Pair s) = omega arith
+count-most Op.Length = omega arith
+count-most Op.Norm = omega arith
+count-most (Op.Points Vs.Dot) = omega arith
+count-most (Op.Points Vs.Cross) = omega arith
+count-most (Op.Points Vs.CmpVec3) = omega arith
+count-most (Op.Points Vs.Add) = omega arith
+count-most (Op.Points Vs.Sub) = omega arith
+count-most (Op.Points Vs.Vmul) = omega arith
+count-most (Op.Points Vs.Vdiv) = omega arith
+count-most (Op.Points Vs.Vmin) = omega arith
+count-most (Op.Points Vs.Vmax) = omega arith
+count-most Op.TransformPoint = omega arith
+count-most Op.TransformVector = omega arith
+count-most Op.TransformBox = omega arith
+count-most (Op.Point s) = omega arith
+count-most (Op.Factor s) = omega arith
