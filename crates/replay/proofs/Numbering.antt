@@ -12,6 +12,7 @@ use Rattle.replay.specs.declared.operation.PairStep.the-variants as P
 use Rattle.replay.specs.declared.operation.PointsStep.the-variants as Vs
 use Rattle.replay.specs.declared.operation.PointStep.the-variants as Vp
 use Rattle.replay.specs.declared.operation.FactorStep.the-variants as F
+use Rattle.replay.specs.declared.operation.TransformStep.the-variants as T
 
 pub record Between (n : ℕ) : Type 0 where
   pub least : 1 ≤ n
@@ -31,13 +32,13 @@ between (Op.Pair P.VminWord) = record { least = omega arith; most = omega arith 
 between (Op.Pair P.VmaxWord) = record { least = omega arith; most = omega arith }
 between (Op.Pair P.MinNumber) = record { least = omega arith; most = omega arith }
 between (Op.Pair P.MaxNumber) = record { least = omega arith; most = omega arith }
-between Op.Length = record { least = omega arith; most = omega arith }
-between Op.Norm = record { least = omega arith; most = omega arith }
+between (Op.Point Vp.Length) = record { least = omega arith; most = omega arith }
+between (Op.Point Vp.Norm) = record { least = omega arith; most = omega arith }
 between (Op.Points Vs.Dot) = record { least = omega arith; most = omega arith }
 between (Op.Points Vs.Cross) = record { least = omega arith; most = omega arith }
 between (Op.Points Vs.CmpVec3) = record { least = omega arith; most = omega arith }
-between Op.TransformPoint = record { least = omega arith; most = omega arith }
-between Op.TransformVector = record { least = omega arith; most = omega arith }
+between (Op.Transform T.Point) = record { least = omega arith; most = omega arith }
+between (Op.Transform T.Vector) = record { least = omega arith; most = omega arith }
 between Op.TransformBox = record { least = omega arith; most = omega arith }
 between (Op.Word W.OrderKey) = record { least = omega arith; most = omega arith }
 between (Op.Word W.Abs) = record { least = omega arith; most = omega arith }
@@ -71,13 +72,13 @@ ordered =
     ∷ Op.Word W.VertexValue
     ∷ Op.Word W.Sqrt
     ∷ Op.Word W.OfCount
-    ∷ Op.Length
-    ∷ Op.Norm
+    ∷ Op.Point Vp.Length
+    ∷ Op.Point Vp.Norm
     ∷ Op.Points Vs.Dot
     ∷ Op.Points Vs.Cross
     ∷ Op.Points Vs.CmpVec3
-    ∷ Op.TransformPoint
-    ∷ Op.TransformVector
+    ∷ Op.Transform T.Point
+    ∷ Op.Transform T.Vector
     ∷ Op.TransformBox
     ∷ Op.Word W.OrderKey
     ∷ Op.Word W.Abs
@@ -110,13 +111,13 @@ found (Op.Pair P.VminWord) = refl
 found (Op.Pair P.VmaxWord) = refl
 found (Op.Pair P.MinNumber) = refl
 found (Op.Pair P.MaxNumber) = refl
-found Op.Length = refl
-found Op.Norm = refl
+found (Op.Point Vp.Length) = refl
+found (Op.Point Vp.Norm) = refl
 found (Op.Points Vs.Dot) = refl
 found (Op.Points Vs.Cross) = refl
 found (Op.Points Vs.CmpVec3) = refl
-found Op.TransformPoint = refl
-found Op.TransformVector = refl
+found (Op.Transform T.Point) = refl
+found (Op.Transform T.Vector) = refl
 found Op.TransformBox = refl
 found (Op.Word W.OrderKey) = refl
 found (Op.Word W.Abs) = refl
@@ -151,8 +152,8 @@ beyond (suc k) n a h =
 pub count-most : (op : Operation) → countOf op ≤ 28
 count-most (Op.Word s) = omega arith
 count-most (Op.Pair s) = omega arith
-count-most Op.Length = omega arith
-count-most Op.Norm = omega arith
+count-most (Op.Point Vp.Length) = omega arith
+count-most (Op.Point Vp.Norm) = omega arith
 count-most (Op.Points Vs.Dot) = omega arith
 count-most (Op.Points Vs.Cross) = omega arith
 count-most (Op.Points Vs.CmpVec3) = omega arith
@@ -162,8 +163,9 @@ count-most (Op.Points Vs.Vmul) = omega arith
 count-most (Op.Points Vs.Vdiv) = omega arith
 count-most (Op.Points Vs.Vmin) = omega arith
 count-most (Op.Points Vs.Vmax) = omega arith
-count-most Op.TransformPoint = omega arith
-count-most Op.TransformVector = omega arith
+count-most (Op.Transform T.Point) = omega arith
+count-most (Op.Transform T.Vector) = omega arith
 count-most Op.TransformBox = omega arith
-count-most (Op.Point s) = omega arith
+count-most (Op.Point Vp.Neg) = omega arith
+count-most (Op.Point Vp.Abs) = omega arith
 count-most (Op.Factor s) = omega arith

@@ -30,6 +30,8 @@ use Rattle.replay.specs.declared.operation.PointStep.{PointStep}
 use Rattle.replay.specs.declared.operation.PointStep.the-variants as Vp
 use Rattle.replay.specs.declared.operation.FactorStep.{FactorStep}
 use Rattle.replay.specs.declared.operation.FactorStep.the-variants as F
+use Rattle.replay.specs.declared.operation.TransformStep.{TransformStep}
+use Rattle.replay.specs.declared.operation.TransformStep.the-variants as T
 use Rattle.replay.specs.declared.answer.Answer.{Answer}
 use Rattle.replay.specs.declared.answer.Answer.the-variants.{One, Three, Four, Six}
 
@@ -91,6 +93,12 @@ abbrev pub six : Aabb → Answer
 six b =
     Six (word (b .min .x)) (word (b .min .y)) (word (b .min .z)) (word (b .max .x)) (word (b .max .y)) (word (b .max .z))
 
+abbrev pub pointAnswer : PointStep → Vec3 → Answer
+pointAnswer Vp.Length v = One (word (lengthOf v))
+pointAnswer Vp.Norm v = three (normOf v)
+pointAnswer Vp.Neg v = three (negOf v)
+pointAnswer Vp.Abs v = three (absOf v)
+
 abbrev pub pointsAnswer : PointsStep → Vec3 → Vec3 → Answer
 pointsAnswer Vs.Dot a b = One (word (dotOf a b))
 pointsAnswer Vs.Cross a b = three (crossOf a b)
@@ -102,25 +110,22 @@ pointsAnswer Vs.Vdiv a b = three (vdivOf a b)
 pointsAnswer Vs.Vmin a b = three (vmin3Of a b)
 pointsAnswer Vs.Vmax a b = three (vmax3Of a b)
 
-abbrev pub pointAnswer : PointStep → Vec3 → Answer
-pointAnswer Vp.Neg v = three (negOf v)
-pointAnswer Vp.Abs v = three (absOf v)
-
 abbrev pub factorAnswer : FactorStep → Vec3 → Float → Answer
 factorAnswer F.Scale v k = three (scaleOf v k)
 factorAnswer F.VaddF v k = three (vaddOf v k)
 
+abbrev pub transformAnswer : TransformStep → Mat4 → Vec3 → Answer
+transformAnswer T.Point m v = four (pointOf m v)
+transformAnswer T.Vector m v = three (vectorOf m v)
+
 abbrev pub answerOf : Operation → List ℕ → Answer
 answerOf (Op.Word s) ws = One (wordAnswer s (getD ws 0 0))
 answerOf (Op.Pair s) ws = One (pairAnswer s (getD ws 0 0) (getD ws 1 0))
-answerOf Op.Length ws = One (word (lengthOf (pointAt ws 0)))
-answerOf Op.Norm ws = three (normOf (pointAt ws 0))
-answerOf (Op.Points s) ws = pointsAnswer s (pointAt ws 0) (pointAt ws 3)
-answerOf Op.TransformPoint ws = four (pointOf (matrixAt ws 0) (pointAt ws 16))
-answerOf Op.TransformVector ws = three (vectorOf (matrixAt ws 0) (pointAt ws 16))
-answerOf Op.TransformBox ws = six (transformBox (boxAt ws 0) (matrixAt ws 6))
 answerOf (Op.Point s) ws = pointAnswer s (pointAt ws 0)
+answerOf (Op.Points s) ws = pointsAnswer s (pointAt ws 0) (pointAt ws 3)
 answerOf (Op.Factor s) ws = factorAnswer s (pointAt ws 0) (float (getD ws 3 0))
+answerOf (Op.Transform s) ws = transformAnswer s (matrixAt ws 0) (pointAt ws 16)
+answerOf Op.TransformBox ws = six (transformBox (boxAt ws 0) (matrixAt ws 6))
 
 -- the words of an answer, in order
 abbrev pub wordsOf : Answer → List ℕ

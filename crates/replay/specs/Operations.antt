@@ -13,6 +13,8 @@ use Rattle.replay.specs.declared.operation.PointStep.{PointStep}
 use Rattle.replay.specs.declared.operation.PointStep.the-variants as Vp
 use Rattle.replay.specs.declared.operation.FactorStep.{FactorStep}
 use Rattle.replay.specs.declared.operation.FactorStep.the-variants as F
+use Rattle.replay.specs.declared.operation.TransformStep.{TransformStep}
+use Rattle.replay.specs.declared.operation.TransformStep.the-variants as T
 use Rattle.replay.specs.declared.operation.Named.{Named}
 use Rattle.replay.specs.declared.operation.Named.the-variants as Nm
 
@@ -50,6 +52,8 @@ pointsNumber Vs.Vmin = 0x1e
 pointsNumber Vs.Vmax = 0x1f
 
 abbrev pub pointNumber : PointStep → ℕ
+pointNumber Vp.Length = 0x0e
+pointNumber Vp.Norm = 0x0f
 pointNumber Vp.Neg = 0x20
 pointNumber Vp.Abs = 0x21
 
@@ -57,17 +61,18 @@ abbrev pub factorNumber : FactorStep → ℕ
 factorNumber F.Scale = 0x22
 factorNumber F.VaddF = 0x23
 
+abbrev pub transformNumber : TransformStep → ℕ
+transformNumber T.Point = 0x13
+transformNumber T.Vector = 0x14
+
 abbrev pub numberOf : Operation → ℕ
 numberOf (Op.Word s) = wordNumber s
 numberOf (Op.Pair s) = pairNumber s
-numberOf Op.Length = 0x0e
-numberOf Op.Norm = 0x0f
-numberOf (Op.Points s) = pointsNumber s
-numberOf Op.TransformPoint = 0x13
-numberOf Op.TransformVector = 0x14
-numberOf Op.TransformBox = 0x15
 numberOf (Op.Point s) = pointNumber s
+numberOf (Op.Points s) = pointsNumber s
 numberOf (Op.Factor s) = factorNumber s
+numberOf (Op.Transform s) = transformNumber s
+numberOf Op.TransformBox = 0x15
 
 -- What a number names: the operation that has it, or nothing where none has.
 abbrev pub Names : ℕ → Named → Type 0
@@ -78,16 +83,19 @@ Names n Nm.Unknown = (op : Operation) → n ≡ numberOf op → ⊥
 abbrev pub inputsOf : Operation → ℕ
 inputsOf (Op.Word s) = 1
 inputsOf (Op.Pair s) = 2
-inputsOf Op.Length = 3
-inputsOf Op.Norm = 3
-inputsOf (Op.Points s) = 6
-inputsOf Op.TransformPoint = 19
-inputsOf Op.TransformVector = 19
-inputsOf Op.TransformBox = 22
 inputsOf (Op.Point s) = 3
+inputsOf (Op.Points s) = 6
 inputsOf (Op.Factor s) = 4
+inputsOf (Op.Transform s) = 19
+inputsOf Op.TransformBox = 22
 
 -- How many words it gives.
+abbrev pub pointOutputs : PointStep → ℕ
+pointOutputs Vp.Length = 1
+pointOutputs Vp.Norm = 3
+pointOutputs Vp.Neg = 3
+pointOutputs Vp.Abs = 3
+
 abbrev pub pointsOutputs : PointsStep → ℕ
 pointsOutputs Vs.Dot = 1
 pointsOutputs Vs.Cross = 3
@@ -99,17 +107,18 @@ pointsOutputs Vs.Vdiv = 3
 pointsOutputs Vs.Vmin = 3
 pointsOutputs Vs.Vmax = 3
 
+abbrev pub transformOutputs : TransformStep → ℕ
+transformOutputs T.Point = 4
+transformOutputs T.Vector = 3
+
 abbrev pub outputsOf : Operation → ℕ
 outputsOf (Op.Word s) = 1
 outputsOf (Op.Pair s) = 1
-outputsOf Op.Length = 1
-outputsOf Op.Norm = 3
+outputsOf (Op.Point s) = pointOutputs s
 outputsOf (Op.Points s) = pointsOutputs s
-outputsOf Op.TransformPoint = 4
-outputsOf Op.TransformVector = 3
-outputsOf Op.TransformBox = 6
-outputsOf (Op.Point s) = 3
 outputsOf (Op.Factor s) = 3
+outputsOf (Op.Transform s) = transformOutputs s
+outputsOf Op.TransformBox = 6
 
 -- As many words as it takes and gives.
 abbrev pub countOf : Operation → ℕ

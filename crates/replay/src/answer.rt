@@ -4,6 +4,7 @@ use crate::operation::Operation;
 use crate::operation::PairStep;
 use crate::operation::PointStep;
 use crate::operation::PointsStep;
+use crate::operation::TransformStep;
 use crate::operation::WordStep;
 use crate::words::order;
 use crate::words::ordering;
@@ -21,7 +22,7 @@ use math::words3::Words3;
 ghost use mathlib.Core.Path.{_≡_};
 ghost use Prim.Native.Nat.{_+_, _≤_};
 ghost use lib.ListN.{length};
-ghost use Rattle.replay.specs.Answers.{wordAnswer, pairAnswer, pointAt, rowAt, matrixAt, pointsAnswer, pointAnswer, factorAnswer, answerOf};
+ghost use Rattle.replay.specs.Answers.{wordAnswer, pairAnswer, pointAt, rowAt, matrixAt, pointsAnswer, pointAnswer, factorAnswer, transformAnswer, answerOf};
 ghost use Rattle.replay.specs.Answers.{three as threeOf, four as fourOf, six as sixOf};
 ghost use Rattle.replay.specs.Operations.{inputsOf};
 
@@ -128,6 +129,17 @@ fn six(b: Aabb) -> Answer
     )
 }
 
+fn of_point(step: PointStep, v: Vec3) -> Answer
+    ensures { λ r. ⌜ r ≡ pointAnswer step v ⌝ }
+{
+    match step {
+        PointStep::Length => Answer::One(bits(v.length())),
+        PointStep::Norm => three(math::vec3::norm(v)),
+        PointStep::Neg => three(v.neg()),
+        PointStep::Abs => three(v.abs()),
+    }
+}
+
 fn of_points(step: PointsStep, a: Vec3, b: Vec3) -> Answer
     ensures { λ r. ⌜ r ≡ pointsAnswer step a b ⌝ }
 {
@@ -144,21 +156,21 @@ fn of_points(step: PointsStep, a: Vec3, b: Vec3) -> Answer
     }
 }
 
-fn of_point(step: PointStep, v: Vec3) -> Answer
-    ensures { λ r. ⌜ r ≡ pointAnswer step v ⌝ }
-{
-    match step {
-        PointStep::Neg => three(v.neg()),
-        PointStep::Abs => three(v.abs()),
-    }
-}
-
 fn of_factor(step: FactorStep, v: Vec3, k: f32) -> Answer
     ensures { λ r. ⌜ r ≡ factorAnswer step v k ⌝ }
 {
     match step {
         FactorStep::Scale => three(v.scale(k)),
         FactorStep::VaddF => three(math::vec3::vadd_f(v, k)),
+    }
+}
+
+fn of_transform(step: TransformStep, m: Mat4, v: Vec3) -> Answer
+    ensures { λ r. ⌜ r ≡ transformAnswer step m v ⌝ }
+{
+    match step {
+        TransformStep::Point => four(m.transform_point(v)),
+        TransformStep::Vector => three(m.transform_vector(v)),
     }
 }
 
@@ -181,13 +193,10 @@ pub fn of(op: Operation, words: &[u32]) -> Answer
     match op {
         Operation::Word(step) => Answer::One(of_word(step, words[0])),
         Operation::Pair(step) => Answer::One(of_pair(step, words[0], words[1])),
-        Operation::Length => Answer::One(bits(point(words, 0).length())),
-        Operation::Norm => three(math::vec3::norm(point(words, 0))),
-        Operation::Points(step) => of_points(step, point(words, 0), point(words, 3)),
-        Operation::TransformPoint => four(matrix(words, 0).transform_point(point(words, 16))),
-        Operation::TransformVector => three(matrix(words, 0).transform_vector(point(words, 16))),
-        Operation::TransformBox => of_box(words),
         Operation::Point(step) => of_point(step, point(words, 0)),
+        Operation::Points(step) => of_points(step, point(words, 0), point(words, 3)),
         Operation::Factor(step) => of_factor(step, point(words, 0), value(words[3])),
+        Operation::Transform(step) => of_transform(step, matrix(words, 0), point(words, 16)),
+        Operation::TransformBox => of_box(words),
     }
 }

@@ -1,6 +1,6 @@
 // The operations that a case may name, by what they take: words, points, a matrix.
 ghost use mathlib.Core.Path.{_≡_};
-ghost use Rattle.replay.specs.Operations.{Names, inputsOf, outputsOf};
+ghost use Rattle.replay.specs.Operations.{Names, inputsOf, pointOutputs, pointsOutputs, transformOutputs, outputsOf};
 
 // One word.
 pub enum WordStep {
@@ -27,6 +27,14 @@ pub enum PairStep {
     Vmax,
 }
 
+// One point.
+pub enum PointStep {
+    Length,
+    Norm,
+    Neg,
+    Abs,
+}
+
 // Two points.
 pub enum PointsStep {
     Dot,
@@ -40,29 +48,26 @@ pub enum PointsStep {
     Vmax,
 }
 
-// One point.
-pub enum PointStep {
-    Neg,
-    Abs,
-}
-
 // A point and a word.
 pub enum FactorStep {
     Scale,
     VaddF,
 }
 
+// A matrix and a point.
+pub enum TransformStep {
+    Point,
+    Vector,
+}
+
 pub enum Operation {
     Word(WordStep),
     Pair(PairStep),
-    Length,
-    Norm,
-    Points(PointsStep),
-    TransformPoint,
-    TransformVector,
-    TransformBox,
     Point(PointStep),
+    Points(PointsStep),
     Factor(FactorStep),
+    Transform(TransformStep),
+    TransformBox,
 }
 
 // What a number names.
@@ -88,13 +93,13 @@ pub fn of_number(n: u32) -> Named
         0x0b => Named::Known(Operation::Word(WordStep::VertexValue)),
         0x0c => Named::Known(Operation::Word(WordStep::Sqrt)),
         0x0d => Named::Known(Operation::Word(WordStep::OfCount)),
-        0x0e => Named::Known(Operation::Length),
-        0x0f => Named::Known(Operation::Norm),
+        0x0e => Named::Known(Operation::Point(PointStep::Length)),
+        0x0f => Named::Known(Operation::Point(PointStep::Norm)),
         0x10 => Named::Known(Operation::Points(PointsStep::Dot)),
         0x11 => Named::Known(Operation::Points(PointsStep::Cross)),
         0x12 => Named::Known(Operation::Points(PointsStep::CmpVec3)),
-        0x13 => Named::Known(Operation::TransformPoint),
-        0x14 => Named::Known(Operation::TransformVector),
+        0x13 => Named::Known(Operation::Transform(TransformStep::Point)),
+        0x14 => Named::Known(Operation::Transform(TransformStep::Vector)),
         0x15 => Named::Known(Operation::TransformBox),
         0x16 => Named::Known(Operation::Word(WordStep::OrderKey)),
         0x17 => Named::Known(Operation::Word(WordStep::Abs)),
@@ -121,14 +126,47 @@ pub fn inputs(op: Operation) -> usize
     match op {
         Operation::Word(_) => 1,
         Operation::Pair(_) => 2,
-        Operation::Length => 3,
-        Operation::Norm => 3,
-        Operation::Points(_) => 6,
-        Operation::TransformPoint => 19,
-        Operation::TransformVector => 19,
-        Operation::TransformBox => 22,
         Operation::Point(_) => 3,
+        Operation::Points(_) => 6,
         Operation::Factor(_) => 4,
+        Operation::Transform(_) => 19,
+        Operation::TransformBox => 22,
+    }
+}
+
+fn point_outputs(step: PointStep) -> usize
+    ensures { λ r. ⌜ r ≡ pointOutputs step ⌝ }
+{
+    match step {
+        PointStep::Length => 1,
+        PointStep::Norm => 3,
+        PointStep::Neg => 3,
+        PointStep::Abs => 3,
+    }
+}
+
+fn points_outputs(step: PointsStep) -> usize
+    ensures { λ r. ⌜ r ≡ pointsOutputs step ⌝ }
+{
+    match step {
+        PointsStep::Dot => 1,
+        PointsStep::Cross => 3,
+        PointsStep::CmpVec3 => 1,
+        PointsStep::Add => 3,
+        PointsStep::Sub => 3,
+        PointsStep::Vmul => 3,
+        PointsStep::Vdiv => 3,
+        PointsStep::Vmin => 3,
+        PointsStep::Vmax => 3,
+    }
+}
+
+fn transform_outputs(step: TransformStep) -> usize
+    ensures { λ r. ⌜ r ≡ transformOutputs step ⌝ }
+{
+    match step {
+        TransformStep::Point => 4,
+        TransformStep::Vector => 3,
     }
 }
 
@@ -139,23 +177,10 @@ pub fn outputs(op: Operation) -> usize
     match op {
         Operation::Word(_) => 1,
         Operation::Pair(_) => 1,
-        Operation::Length => 1,
-        Operation::Norm => 3,
-        Operation::Points(step) => match step {
-            PointsStep::Dot => 1,
-            PointsStep::Cross => 3,
-            PointsStep::CmpVec3 => 1,
-            PointsStep::Add => 3,
-            PointsStep::Sub => 3,
-            PointsStep::Vmul => 3,
-            PointsStep::Vdiv => 3,
-            PointsStep::Vmin => 3,
-            PointsStep::Vmax => 3,
-        },
-        Operation::TransformPoint => 4,
-        Operation::TransformVector => 3,
-        Operation::TransformBox => 6,
-        Operation::Point(_) => 3,
+        Operation::Point(step) => point_outputs(step),
+        Operation::Points(step) => points_outputs(step),
         Operation::Factor(_) => 3,
+        Operation::Transform(step) => transform_outputs(step),
+        Operation::TransformBox => 6,
     }
 }
