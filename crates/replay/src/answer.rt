@@ -83,10 +83,11 @@ fn row(words: &[u32], at: usize) -> Vec4
     requires { ⌜ at + 4 ≤ length (now words) ⌝ }
     ensures { λ r. ⌜ r ≡ rowAt (now (words .entry)) at ⌝ }
 {
+    let first = point(words, at);
     Vec4 {
-        x: value(words[at]),
-        y: value(words[at + 1]),
-        z: value(words[at + 2]),
+        x: first.x,
+        y: first.y,
+        z: first.z,
         w: value(words[at + 3]),
     }
 }

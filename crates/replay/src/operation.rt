@@ -1,6 +1,7 @@
 // The operations that a case may name, by what they take: words, points, a matrix.
 ghost use mathlib.Core.Path.{_≡_};
-ghost use Rattle.replay.specs.Operations.{Names, inputsOf, pointOutputs, pointsOutputs, transformOutputs, outputsOf};
+ghost use Prim.Native.Nat.{_≤_};
+ghost use Rattle.replay.specs.Operations.{numberOf, Names, inputsOf, pointOutputs, pointsOutputs, transformOutputs, outputsOf};
 
 // One word.
 pub enum WordStep {
@@ -76,47 +77,60 @@ pub enum Named {
     Unknown,
 }
 
+// The operation that has the number.
+fn known(n: u32) -> Operation
+    requires { ⌜ (1 ≤ n) × (n ≤ 35) ⌝ }
+    ensures { λ r. ⌜ n ≡ numberOf r ⌝ }
+{
+    match n {
+        0x01 => Operation::Word(WordStep::ValueBits),
+        0x02 => Operation::Pair(PairStep::Relate),
+        0x03 => Operation::Pair(PairStep::CmpF32),
+        0x04 => Operation::Pair(PairStep::KeyOrder),
+        0x05 => Operation::Pair(PairStep::VminWord),
+        0x06 => Operation::Pair(PairStep::VmaxWord),
+        0x07 => Operation::Pair(PairStep::MinNumber),
+        0x08 => Operation::Pair(PairStep::MaxNumber),
+        0x09 => Operation::Word(WordStep::ToI32),
+        0x0a => Operation::Word(WordStep::ToShort),
+        0x0b => Operation::Word(WordStep::VertexValue),
+        0x0c => Operation::Word(WordStep::Sqrt),
+        0x0d => Operation::Word(WordStep::OfCount),
+        0x0e => Operation::Point(PointStep::Length),
+        0x0f => Operation::Point(PointStep::Norm),
+        0x10 => Operation::Points(PointsStep::Dot),
+        0x11 => Operation::Points(PointsStep::Cross),
+        0x12 => Operation::Points(PointsStep::CmpVec3),
+        0x13 => Operation::Transform(TransformStep::Point),
+        0x14 => Operation::Transform(TransformStep::Vector),
+        0x15 => Operation::TransformBox,
+        0x16 => Operation::Word(WordStep::OrderKey),
+        0x17 => Operation::Word(WordStep::Abs),
+        0x18 => Operation::Pair(PairStep::Vmin),
+        0x19 => Operation::Pair(PairStep::Vmax),
+        0x1a => Operation::Points(PointsStep::Add),
+        0x1b => Operation::Points(PointsStep::Sub),
+        0x1c => Operation::Points(PointsStep::Vmul),
+        0x1d => Operation::Points(PointsStep::Vdiv),
+        0x1e => Operation::Points(PointsStep::Vmin),
+        0x1f => Operation::Points(PointsStep::Vmax),
+        0x20 => Operation::Point(PointStep::Neg),
+        0x21 => Operation::Point(PointStep::Abs),
+        0x22 => Operation::Factor(FactorStep::Scale),
+        _ => Operation::Factor(FactorStep::VaddF),
+    }
+}
+
 pub fn of_number(n: u32) -> Named
     ensures { λ r. ⌜ Names n r ⌝ }
 {
-    match n {
-        0x01 => Named::Known(Operation::Word(WordStep::ValueBits)),
-        0x02 => Named::Known(Operation::Pair(PairStep::Relate)),
-        0x03 => Named::Known(Operation::Pair(PairStep::CmpF32)),
-        0x04 => Named::Known(Operation::Pair(PairStep::KeyOrder)),
-        0x05 => Named::Known(Operation::Pair(PairStep::VminWord)),
-        0x06 => Named::Known(Operation::Pair(PairStep::VmaxWord)),
-        0x07 => Named::Known(Operation::Pair(PairStep::MinNumber)),
-        0x08 => Named::Known(Operation::Pair(PairStep::MaxNumber)),
-        0x09 => Named::Known(Operation::Word(WordStep::ToI32)),
-        0x0a => Named::Known(Operation::Word(WordStep::ToShort)),
-        0x0b => Named::Known(Operation::Word(WordStep::VertexValue)),
-        0x0c => Named::Known(Operation::Word(WordStep::Sqrt)),
-        0x0d => Named::Known(Operation::Word(WordStep::OfCount)),
-        0x0e => Named::Known(Operation::Point(PointStep::Length)),
-        0x0f => Named::Known(Operation::Point(PointStep::Norm)),
-        0x10 => Named::Known(Operation::Points(PointsStep::Dot)),
-        0x11 => Named::Known(Operation::Points(PointsStep::Cross)),
-        0x12 => Named::Known(Operation::Points(PointsStep::CmpVec3)),
-        0x13 => Named::Known(Operation::Transform(TransformStep::Point)),
-        0x14 => Named::Known(Operation::Transform(TransformStep::Vector)),
-        0x15 => Named::Known(Operation::TransformBox),
-        0x16 => Named::Known(Operation::Word(WordStep::OrderKey)),
-        0x17 => Named::Known(Operation::Word(WordStep::Abs)),
-        0x18 => Named::Known(Operation::Pair(PairStep::Vmin)),
-        0x19 => Named::Known(Operation::Pair(PairStep::Vmax)),
-        0x1a => Named::Known(Operation::Points(PointsStep::Add)),
-        0x1b => Named::Known(Operation::Points(PointsStep::Sub)),
-        0x1c => Named::Known(Operation::Points(PointsStep::Vmul)),
-        0x1d => Named::Known(Operation::Points(PointsStep::Vdiv)),
-        0x1e => Named::Known(Operation::Points(PointsStep::Vmin)),
-        0x1f => Named::Known(Operation::Points(PointsStep::Vmax)),
-        0x20 => Named::Known(Operation::Point(PointStep::Neg)),
-        0x21 => Named::Known(Operation::Point(PointStep::Abs)),
-        0x22 => Named::Known(Operation::Factor(FactorStep::Scale)),
-        0x23 => Named::Known(Operation::Factor(FactorStep::VaddF)),
-        _ => Named::Unknown,
+    if n < 1 {
+        return Named::Unknown;
     }
+    if n > 35 {
+        return Named::Unknown;
+    }
+    Named::Known(known(n))
 }
 
 // How many words it takes.

@@ -1,17 +1,20 @@
--- `answer::row` meets its contract: what the calls ensure, field by field.
+-- `answer::row` meets its contract: a point, and the word after it.
 use Rattle.replay.proofs.answer.row.Statement.{statement}
 use Rattle.replay.proofs.answer.row.Tie as tie
-use mathlib.Core.Path.{_≡_, ap₂, _∙_}
+use mathlib.Core.Path.{ap₂}
 use lib.Ieee.{Float}
+use Rattle.math.specs.declared.vec3.Vec3.{Vec3}
 use Rattle.math.specs.declared.mat4.Vec4.{Vec4}
 use native.Mathlib.Omega.{arith}
 
-abbrev row : Float → Float → Float → Float → Vec4
-row x y z w = record { x = x; y = y; z = z; w = w }
+abbrev row : Vec3 → Float → Vec4
+row p w = record { x = p .x; y = p .y; z = p .z; w = w }
 
-row-same : {x x′ y y′ z z′ w w′ : Float} → x ≡ x′ → y ≡ y′ → z ≡ z′ → w ≡ w′ → row x y z w ≡ row x′ y′ z′ w′
-row-same {x} {x′} {y} {y′} {z} {z′} {w} {w′} p q r s =
-    ap₂ (λ (a b : Float). row a b z w) p q ∙ ap₂ (λ (a b : Float). row x′ y′ a b) r s
+point-requires : tie.Need-point-requires
+point-requires c κs = omega arith
+
+add-value : tie.Need-add-value
+add-value c = omega arith
 
 mul-value : tie.Need-mul-value
 mul-value c = omega arith
@@ -22,63 +25,10 @@ shared-slice-read-value c = omega arith
 value-requires : tie.Need-value-requires
 value-requires c κs = tt
 
-add-value : tie.Need-add-value
-add-value c = omega arith
-
-mul-value-2 : tie.Need-mul-value-2
-mul-value-2 c = omega arith
-
-shared-slice-read-value-2 : tie.Need-shared-slice-read-value-2
-shared-slice-read-value-2 c = omega arith
-
-value-requires-2 : tie.Need-value-requires-2
-value-requires-2 c κs = tt
-
-add-value-2 : tie.Need-add-value-2
-add-value-2 c = omega arith
-
-mul-value-3 : tie.Need-mul-value-3
-mul-value-3 c = omega arith
-
-shared-slice-read-value-3 : tie.Need-shared-slice-read-value-3
-shared-slice-read-value-3 c = omega arith
-
-value-requires-3 : tie.Need-value-requires-3
-value-requires-3 c κs = tt
-
-add-value-3 : tie.Need-add-value-3
-add-value-3 c = omega arith
-
-mul-value-4 : tie.Need-mul-value-4
-mul-value-4 c = omega arith
-
-shared-slice-read-value-4 : tie.Need-shared-slice-read-value-4
-shared-slice-read-value-4 c = omega arith
-
-value-requires-4 : tie.Need-value-requires-4
-value-requires-4 c κs = tt
-
 returns : tie.Need-returns
-returns c =
-    row-same (c .before .before .before .before .before .before .value .ensures) (c .before .before .before .before .value2 .ensures) (c .before .before .value3 .ensures) (c .value4 .ensures)
+returns c = ap₂ row (c .before .before .point .ensures) (c .value .ensures)
 
 pub row-spec : {M : Type 1} → statement M
 row-spec =
     tie.close
-    (tie.spec
-    mul-value
-    shared-slice-read-value
-    value-requires
-    add-value
-    mul-value-2
-    shared-slice-read-value-2
-    value-requires-2
-    add-value-2
-    mul-value-3
-    shared-slice-read-value-3
-    value-requires-3
-    add-value-3
-    mul-value-4
-    shared-slice-read-value-4
-    value-requires-4
-    returns)
+    (tie.spec point-requires add-value mul-value shared-slice-read-value value-requires returns)
