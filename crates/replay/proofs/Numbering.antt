@@ -1,10 +1,10 @@
--- The operations' numbers: they lie between 1 and 35, and no two operations share one. Assumes nothing.
+-- The operations' numbers: they lie between 1 and 35, no two operations share one, and tables are read by them. Assumes nothing.
 use mathlib.Core.Path.{_≡_, refl, sym, ap, _∙_}
 use mathlib.Core.List.{List, [], _∷_}
 use lib.ListN.{getD}
 use Prim.Native.Nat.{ℕ, zero, suc, _≤_, _<_}
 use native.Mathlib.Omega.{arith}
-use Rattle.replay.specs.Operations.{numberOf, countOf}
+use Rattle.replay.specs.Operations.{numberOf, inputsOf, countOf}
 use Rattle.replay.specs.declared.operation.Operation.{Operation}
 use Rattle.replay.specs.declared.operation.Operation.the-variants as Op
 use Rattle.replay.specs.declared.operation.WordStep.the-variants as W
@@ -14,46 +14,61 @@ use Rattle.replay.specs.declared.operation.PointStep.the-variants as Vp
 use Rattle.replay.specs.declared.operation.FactorStep.the-variants as F
 use Rattle.replay.specs.declared.operation.TransformStep.the-variants as T
 
-pub record Between (n : ℕ) : Type 0 where
-  pub least : 1 ≤ n
-  pub most : n ≤ 35
+-- how many words the operations take, and take and give, in the order of their numbers
+unfoldable pub inputTable : List ℕ
+inputTable =
+    0 ∷ 1 ∷ 2 ∷ 2 ∷ 2 ∷ 2 ∷ 2 ∷ 2 ∷ 2 ∷ 1 ∷ 1 ∷ 1 ∷ 1 ∷ 1 ∷ 3 ∷ 3 ∷ 6 ∷ 6 ∷ 6 ∷ 19 ∷ 19 ∷ 22 ∷ 1 ∷ 1 ∷ 2 ∷ 2 ∷ 6 ∷
+    6 ∷ 6 ∷ 6 ∷ 6 ∷ 6 ∷ 3 ∷ 3 ∷ 4 ∷ 4 ∷ []
 
-pub between : (op : Operation) → Between (numberOf op)
-between (Op.Word W.ValueBits) = record { least = omega arith; most = omega arith }
-between (Op.Word W.ToI32) = record { least = omega arith; most = omega arith }
-between (Op.Word W.ToShort) = record { least = omega arith; most = omega arith }
-between (Op.Word W.VertexValue) = record { least = omega arith; most = omega arith }
-between (Op.Word W.Sqrt) = record { least = omega arith; most = omega arith }
-between (Op.Word W.OfCount) = record { least = omega arith; most = omega arith }
-between (Op.Pair P.Relate) = record { least = omega arith; most = omega arith }
-between (Op.Pair P.CmpF32) = record { least = omega arith; most = omega arith }
-between (Op.Pair P.KeyOrder) = record { least = omega arith; most = omega arith }
-between (Op.Pair P.VminWord) = record { least = omega arith; most = omega arith }
-between (Op.Pair P.VmaxWord) = record { least = omega arith; most = omega arith }
-between (Op.Pair P.MinNumber) = record { least = omega arith; most = omega arith }
-between (Op.Pair P.MaxNumber) = record { least = omega arith; most = omega arith }
-between (Op.Point Vp.Length) = record { least = omega arith; most = omega arith }
-between (Op.Point Vp.Norm) = record { least = omega arith; most = omega arith }
-between (Op.Points Vs.Dot) = record { least = omega arith; most = omega arith }
-between (Op.Points Vs.Cross) = record { least = omega arith; most = omega arith }
-between (Op.Points Vs.CmpVec3) = record { least = omega arith; most = omega arith }
-between (Op.Transform T.Point) = record { least = omega arith; most = omega arith }
-between (Op.Transform T.Vector) = record { least = omega arith; most = omega arith }
-between Op.TransformBox = record { least = omega arith; most = omega arith }
-between (Op.Word W.OrderKey) = record { least = omega arith; most = omega arith }
-between (Op.Word W.Abs) = record { least = omega arith; most = omega arith }
-between (Op.Pair P.Vmin) = record { least = omega arith; most = omega arith }
-between (Op.Pair P.Vmax) = record { least = omega arith; most = omega arith }
-between (Op.Points Vs.Add) = record { least = omega arith; most = omega arith }
-between (Op.Points Vs.Sub) = record { least = omega arith; most = omega arith }
-between (Op.Points Vs.Vmul) = record { least = omega arith; most = omega arith }
-between (Op.Points Vs.Vdiv) = record { least = omega arith; most = omega arith }
-between (Op.Points Vs.Vmin) = record { least = omega arith; most = omega arith }
-between (Op.Points Vs.Vmax) = record { least = omega arith; most = omega arith }
-between (Op.Point Vp.Neg) = record { least = omega arith; most = omega arith }
-between (Op.Point Vp.Abs) = record { least = omega arith; most = omega arith }
-between (Op.Factor F.Scale) = record { least = omega arith; most = omega arith }
-between (Op.Factor F.VaddF) = record { least = omega arith; most = omega arith }
+unfoldable pub countTable : List ℕ
+countTable =
+    0 ∷ 2 ∷ 3 ∷ 3 ∷ 3 ∷ 3 ∷ 3 ∷ 3 ∷ 3 ∷ 2 ∷ 2 ∷ 2 ∷ 2 ∷ 2 ∷ 4 ∷ 6 ∷ 7 ∷ 9 ∷ 7 ∷ 23 ∷ 22 ∷ 28 ∷ 2 ∷ 2 ∷ 3 ∷ 3 ∷ 9 ∷
+    9 ∷ 9 ∷ 9 ∷ 9 ∷ 9 ∷ 6 ∷ 6 ∷ 7 ∷ 7 ∷ []
+
+pub record Numbered (op : Operation) : Type 0 where
+  pub least : 1 ≤ numberOf op
+  pub most : numberOf op ≤ 35
+  pub few : countOf op ≤ 28
+  pub inputs : getD inputTable (numberOf op) 0 ≡ inputsOf op
+  pub count : getD countTable (numberOf op) 0 ≡ countOf op
+
+pub numbered : (op : Operation) → Numbered op
+unfolding inputTable countTable
+numbered (Op.Word W.ValueBits) = record { least = omega arith; most = omega arith; few = omega arith; inputs = refl; count = refl }
+numbered (Op.Word W.ToI32) = record { least = omega arith; most = omega arith; few = omega arith; inputs = refl; count = refl }
+numbered (Op.Word W.ToShort) = record { least = omega arith; most = omega arith; few = omega arith; inputs = refl; count = refl }
+numbered (Op.Word W.VertexValue) = record { least = omega arith; most = omega arith; few = omega arith; inputs = refl; count = refl }
+numbered (Op.Word W.Sqrt) = record { least = omega arith; most = omega arith; few = omega arith; inputs = refl; count = refl }
+numbered (Op.Word W.OfCount) = record { least = omega arith; most = omega arith; few = omega arith; inputs = refl; count = refl }
+numbered (Op.Pair P.Relate) = record { least = omega arith; most = omega arith; few = omega arith; inputs = refl; count = refl }
+numbered (Op.Pair P.CmpF32) = record { least = omega arith; most = omega arith; few = omega arith; inputs = refl; count = refl }
+numbered (Op.Pair P.KeyOrder) = record { least = omega arith; most = omega arith; few = omega arith; inputs = refl; count = refl }
+numbered (Op.Pair P.VminWord) = record { least = omega arith; most = omega arith; few = omega arith; inputs = refl; count = refl }
+numbered (Op.Pair P.VmaxWord) = record { least = omega arith; most = omega arith; few = omega arith; inputs = refl; count = refl }
+numbered (Op.Pair P.MinNumber) = record { least = omega arith; most = omega arith; few = omega arith; inputs = refl; count = refl }
+numbered (Op.Pair P.MaxNumber) = record { least = omega arith; most = omega arith; few = omega arith; inputs = refl; count = refl }
+numbered (Op.Point Vp.Length) = record { least = omega arith; most = omega arith; few = omega arith; inputs = refl; count = refl }
+numbered (Op.Point Vp.Norm) = record { least = omega arith; most = omega arith; few = omega arith; inputs = refl; count = refl }
+numbered (Op.Points Vs.Dot) = record { least = omega arith; most = omega arith; few = omega arith; inputs = refl; count = refl }
+numbered (Op.Points Vs.Cross) = record { least = omega arith; most = omega arith; few = omega arith; inputs = refl; count = refl }
+numbered (Op.Points Vs.CmpVec3) = record { least = omega arith; most = omega arith; few = omega arith; inputs = refl; count = refl }
+numbered (Op.Transform T.Point) = record { least = omega arith; most = omega arith; few = omega arith; inputs = refl; count = refl }
+numbered (Op.Transform T.Vector) = record { least = omega arith; most = omega arith; few = omega arith; inputs = refl; count = refl }
+numbered Op.TransformBox = record { least = omega arith; most = omega arith; few = omega arith; inputs = refl; count = refl }
+numbered (Op.Word W.OrderKey) = record { least = omega arith; most = omega arith; few = omega arith; inputs = refl; count = refl }
+numbered (Op.Word W.Abs) = record { least = omega arith; most = omega arith; few = omega arith; inputs = refl; count = refl }
+numbered (Op.Pair P.Vmin) = record { least = omega arith; most = omega arith; few = omega arith; inputs = refl; count = refl }
+numbered (Op.Pair P.Vmax) = record { least = omega arith; most = omega arith; few = omega arith; inputs = refl; count = refl }
+numbered (Op.Points Vs.Add) = record { least = omega arith; most = omega arith; few = omega arith; inputs = refl; count = refl }
+numbered (Op.Points Vs.Sub) = record { least = omega arith; most = omega arith; few = omega arith; inputs = refl; count = refl }
+numbered (Op.Points Vs.Vmul) = record { least = omega arith; most = omega arith; few = omega arith; inputs = refl; count = refl }
+numbered (Op.Points Vs.Vdiv) = record { least = omega arith; most = omega arith; few = omega arith; inputs = refl; count = refl }
+numbered (Op.Points Vs.Vmin) = record { least = omega arith; most = omega arith; few = omega arith; inputs = refl; count = refl }
+numbered (Op.Points Vs.Vmax) = record { least = omega arith; most = omega arith; few = omega arith; inputs = refl; count = refl }
+numbered (Op.Point Vp.Neg) = record { least = omega arith; most = omega arith; few = omega arith; inputs = refl; count = refl }
+numbered (Op.Point Vp.Abs) = record { least = omega arith; most = omega arith; few = omega arith; inputs = refl; count = refl }
+numbered (Op.Factor F.Scale) = record { least = omega arith; most = omega arith; few = omega arith; inputs = refl; count = refl }
+numbered (Op.Factor F.VaddF) = record { least = omega arith; most = omega arith; few = omega arith; inputs = refl; count = refl }
 
 -- the operations in the order of their numbers
 ordered : List Operation
@@ -148,24 +163,3 @@ beyond (suc k) n a h =
     let b : k < n = beyond k n (a .0) h in
     let d : n ≡ suc k → ⊥ = a .1 in
     omega arith
-
-pub count-most : (op : Operation) → countOf op ≤ 28
-count-most (Op.Word s) = omega arith
-count-most (Op.Pair s) = omega arith
-count-most (Op.Point Vp.Length) = omega arith
-count-most (Op.Point Vp.Norm) = omega arith
-count-most (Op.Points Vs.Dot) = omega arith
-count-most (Op.Points Vs.Cross) = omega arith
-count-most (Op.Points Vs.CmpVec3) = omega arith
-count-most (Op.Points Vs.Add) = omega arith
-count-most (Op.Points Vs.Sub) = omega arith
-count-most (Op.Points Vs.Vmul) = omega arith
-count-most (Op.Points Vs.Vdiv) = omega arith
-count-most (Op.Points Vs.Vmin) = omega arith
-count-most (Op.Points Vs.Vmax) = omega arith
-count-most (Op.Transform T.Point) = omega arith
-count-most (Op.Transform T.Vector) = omega arith
-count-most Op.TransformBox = omega arith
-count-most (Op.Point Vp.Neg) = omega arith
-count-most (Op.Point Vp.Abs) = omega arith
-count-most (Op.Factor s) = omega arith

@@ -123,3 +123,7 @@ outputsOf Op.TransformBox = 6
 -- As many words as it takes and gives.
 abbrev pub countOf : Operation → ℕ
 countOf op = inputsOf op + outputsOf op
+
+-- A count of the words of the operation that has the number n.
+abbrev pub Counts : (Operation → ℕ) → ℕ → ℕ → Type 0
+Counts of n r = (op : Operation) → n ≡ numberOf op → r ≡ of op

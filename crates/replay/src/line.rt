@@ -86,7 +86,7 @@ pub fn parse(line: &[u8], words: &mut [u32]) -> Parsed
     let Named::Known(op) = crate::operation::of_number(n) else {
         return Parsed::Bad;
     };
-    let count = crate::operation::inputs(op) + crate::operation::outputs(op);
+    let count = crate::operation::count(n);
     if line.len() != 2 + 9 * count {
         return Parsed::Bad;
     }

@@ -1,7 +1,7 @@
 // The operations that a case may name, by what they take: words, points, a matrix.
 ghost use mathlib.Core.Path.{_≡_};
-ghost use Prim.Native.Nat.{_≤_};
-ghost use Rattle.replay.specs.Operations.{numberOf, Names, inputsOf, pointOutputs, pointsOutputs, transformOutputs, outputsOf};
+ghost use Prim.Native.Nat.{_≤_, _<_};
+ghost use Rattle.replay.specs.Operations.{numberOf, Names, inputsOf, countOf, Counts};
 
 // One word.
 pub enum WordStep {
@@ -133,68 +133,96 @@ pub fn of_number(n: u32) -> Named
     Named::Known(known(n))
 }
 
-// How many words it takes.
-pub fn inputs(op: Operation) -> usize
-    ensures { λ r. ⌜ r ≡ inputsOf op ⌝ }
+// How many words the operation of a number takes.
+const INPUTS: [usize; 36] = [
+    0,
+    1,
+    2,
+    2,
+    2,
+    2,
+    2,
+    2,
+    2,
+    1,
+    1,
+    1,
+    1,
+    1,
+    3,
+    3,
+    6,
+    6,
+    6,
+    19,
+    19,
+    22,
+    1,
+    1,
+    2,
+    2,
+    6,
+    6,
+    6,
+    6,
+    6,
+    6,
+    3,
+    3,
+    4,
+    4,
+];
+
+pub fn inputs(n: u32) -> usize
+    requires { ⌜ n < 36 ⌝ }
+    ensures { λ r. ⌜ Counts inputsOf n r ⌝ }
 {
-    match op {
-        Operation::Word(_) => 1,
-        Operation::Pair(_) => 2,
-        Operation::Point(_) => 3,
-        Operation::Points(_) => 6,
-        Operation::Factor(_) => 4,
-        Operation::Transform(_) => 19,
-        Operation::TransformBox => 22,
-    }
+    INPUTS[n as usize]
 }
 
-fn point_outputs(step: PointStep) -> usize
-    ensures { λ r. ⌜ r ≡ pointOutputs step ⌝ }
-{
-    match step {
-        PointStep::Length => 1,
-        PointStep::Norm => 3,
-        PointStep::Neg => 3,
-        PointStep::Abs => 3,
-    }
-}
+// How many words it takes and gives.
+const COUNTS: [usize; 36] = [
+    0,
+    2,
+    3,
+    3,
+    3,
+    3,
+    3,
+    3,
+    3,
+    2,
+    2,
+    2,
+    2,
+    2,
+    4,
+    6,
+    7,
+    9,
+    7,
+    23,
+    22,
+    28,
+    2,
+    2,
+    3,
+    3,
+    9,
+    9,
+    9,
+    9,
+    9,
+    9,
+    6,
+    6,
+    7,
+    7,
+];
 
-fn points_outputs(step: PointsStep) -> usize
-    ensures { λ r. ⌜ r ≡ pointsOutputs step ⌝ }
+pub fn count(n: u32) -> usize
+    requires { ⌜ n < 36 ⌝ }
+    ensures { λ r. ⌜ Counts countOf n r ⌝ }
 {
-    match step {
-        PointsStep::Dot => 1,
-        PointsStep::Cross => 3,
-        PointsStep::CmpVec3 => 1,
-        PointsStep::Add => 3,
-        PointsStep::Sub => 3,
-        PointsStep::Vmul => 3,
-        PointsStep::Vdiv => 3,
-        PointsStep::Vmin => 3,
-        PointsStep::Vmax => 3,
-    }
-}
-
-fn transform_outputs(step: TransformStep) -> usize
-    ensures { λ r. ⌜ r ≡ transformOutputs step ⌝ }
-{
-    match step {
-        TransformStep::Point => 4,
-        TransformStep::Vector => 3,
-    }
-}
-
-// How many words it gives.
-pub fn outputs(op: Operation) -> usize
-    ensures { λ r. ⌜ r ≡ outputsOf op ⌝ }
-{
-    match op {
-        Operation::Word(_) => 1,
-        Operation::Pair(_) => 1,
-        Operation::Point(step) => point_outputs(step),
-        Operation::Points(step) => points_outputs(step),
-        Operation::Factor(_) => 3,
-        Operation::Transform(step) => transform_outputs(step),
-        Operation::TransformBox => 6,
-    }
+    COUNTS[n as usize]
 }

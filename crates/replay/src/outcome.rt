@@ -6,7 +6,7 @@ ghost use mathlib.Core.Path.{_≡_};
 ghost use mathlib.Core.Bool.{true, false};
 ghost use lib.ListN.{length};
 ghost use Rattle.replay.specs.Answers.{wordsOf};
-ghost use Rattle.replay.specs.Operations.{countOf};
+ghost use Rattle.replay.specs.Operations.{inputsOf, countOf};
 ghost use Rattle.replay.specs.Outcomes.{Holds, Words, Agrees, Judged};
 
 pub enum Outcome {
@@ -44,13 +44,13 @@ fn gives(a: Answer, words: &[u32]) -> bool
     }
 }
 
-fn judge(op: Operation, words: &[u32]) -> bool
-    requires { ⌜ length (now words) ≡ countOf op ⌝ }
+// Whether the words after those that the operation takes are its answer.
+fn judge(op: Operation, taken: usize, words: &[u32]) -> bool
+    requires { ⌜ (taken ≡ inputsOf op) × (length (now words) ≡ countOf op) ⌝ }
     ensures { λ r. ⌜ Holds (Agrees op (now (words .entry))) r ⌝ }
     ensures { λ _. ⌜ Words (now (words .entry)) ⌝ }
 {
-    let n = crate::operation::inputs(op);
-    gives(crate::answer::of(op, &words[..n]), &words[n..])
+    gives(crate::answer::of(op, &words[..taken]), &words[taken..])
 }
 
 pub fn of(line: &[u8]) -> Outcome
@@ -60,8 +60,9 @@ pub fn of(line: &[u8]) -> Outcome
     match crate::line::parse(line, &mut words) {
         Parsed::Bad => Outcome::Bad,
         Parsed::Case(n, op) => {
-            let count = crate::operation::inputs(op) + crate::operation::outputs(op);
-            if judge(op, &words[..count]) {
+            let count = crate::operation::count(n);
+            let taken = crate::operation::inputs(n);
+            if judge(op, taken, &words[..count]) {
                 Outcome::Match(n)
             } else {
                 Outcome::Mismatch(n)

@@ -2,10 +2,10 @@
 use borrow.Author.Needs.{needs}
 use Rattle.replay.proofs.line.parse.Statement.{statement}
 use Rattle.replay.proofs.line.parse.Tie as tie
-use mathlib.Core.Path.{_≡_, sym, ap, ap₂, _∙_, subst}
+use mathlib.Core.Path.{_≡_, sym, ap, _∙_, subst}
 use mathlib.Core.Bool.{true, false}
 use mathlib.Core.List.{List}
-use Prim.Native.Nat.{ℕ, _+_, _-_, _^_, _<_}
+use Prim.Native.Nat.{ℕ, _-_, _^_, _<_}
 use native.Mathlib.Omega.{arith}
 use lib.ListN.{length, take, drop, length-take, length-drop}
 use lib.Seq.{length-take-le, take-all}
@@ -13,7 +13,7 @@ use Rattle.io.specs.Digits.{digits}
 use Rattle.replay.specs.Lines.{fieldsOf, lineOf, Spells, Fields}
 use Rattle.replay.specs.Operations.{numberOf, countOf, Names}
 use Rattle.replay.proofs.LineLaws.{line-length, line-number, line-fields, line-made, line-names}
-use Rattle.replay.proofs.Numbering.{count-most, number-injective}
+use Rattle.replay.proofs.Numbering.{numbered, number-injective}
 use Rattle.replay.proofs.Spelling.{spelt-in, none-in}
 use Rattle.replay.specs.declared.line.Spelled.the-variants as S
 use Rattle.replay.specs.declared.operation.Operation.{Operation}
@@ -26,14 +26,14 @@ abbrev number-at : tie.After-of-number → ℕ
 number-at c = c .before .before .n .given .0 .0
 
 -- Where the number was looked up, the operation that it names, and how many words that has.
-abbrev looked-up : tie.After-outputs → tie.After-of-number
-looked-up c = c .before .before .before .before .before
+abbrev looked-up : tie.After-count → tie.After-of-number
+looked-up c = c .before .before .before .before
 
-abbrev op-at : tie.After-outputs → Operation
-op-at c = c .before .before .before .op .given .0 .0
+abbrev op-at : tie.After-count → Operation
+op-at c = c .before .before .op .given .0 .0
 
-abbrev count-at : tie.After-outputs → ℕ
-count-at c = c .before .inputs .result + c .outputs .result
+abbrev count-at : tie.After-count → ℕ
+count-at c = c .count .result
 
 digits-read : (c : tie.After-of-number) → (take 2 (line-at c) ≡ digits 16 2 (number-at c)) × (number-at c < 16 ^ 2)
 digits-read c =
@@ -41,14 +41,14 @@ digits-read c =
     let long = length-take-le 2 (line-at c) (c .before .before .before .before .before .before .if1 .left) in
     spelt-in two 2 (number-at c) long (subst (Spells two) (c .before .before .n .given .1) (c .before .before .before .before .number .ensures))
 
-named : (c : tie.After-outputs) → number-at (looked-up c) ≡ numberOf (op-at c)
-named c = subst (Names (number-at (looked-up c))) (c .before .before .before .op .given .1) (looked-up c .of-number .ensures)
+named : (c : tie.After-count) → number-at (looked-up c) ≡ numberOf (op-at c)
+named c = subst (Names (number-at (looked-up c))) (c .before .before .op .given .1) (looked-up c .of-number .ensures)
 
-counted : (c : tie.After-outputs) → count-at c ≡ countOf (op-at c)
-counted c = ap₂ _+_ (c .before .inputs .ensures) (c .outputs .ensures)
+counted : (c : tie.After-count) → count-at c ≡ countOf (op-at c)
+counted c = c .count .ensures (op-at c) (named c)
 
 -- Whatever the line is the line of has that operation.
-same-count : (c : tie.After-outputs) (op : Operation) (vs : List ℕ) → length vs ≡ countOf op → line-at (looked-up c) ≡ lineOf op vs → length vs ≡ count-at c
+same-count : (c : tie.After-count) (op : Operation) (vs : List ℕ) → length vs ≡ countOf op → line-at (looked-up c) ≡ lineOf op vs → length vs ≡ count-at c
 same-count c op vs n e =
     let at = looked-up c in
     let number : number-at at ≡ numberOf op = line-names (line-at at) (number-at at) op vs (digits-read at .0) (digits-read at .1) e in
@@ -97,20 +97,18 @@ returns-3 c =
     let number = line-names (line-at at) (number-at at) op vs (digits-read at .0) (digits-read at .1) e in
     subst (Names (number-at at)) (c .enum-told2 .given .1) (at .of-number .ensures) op number
 
-inputs-requires : tie.Need-inputs-requires
-inputs-requires c κs = search needs
-
-outputs-requires : tie.Need-outputs-requires
-outputs-requires c κs = search needs
-
-add-count : tie.Need-add-count
-add-count c = record { fits = omega (arith, counted c, count-most (op-at c)) }
+count-requires : tie.Need-count-requires
+count-requires c κs =
+    let at = c .before .before .before in
+    let op = c .before .op .given .0 .0 in
+    let is : number-at at ≡ numberOf op = subst (Names (number-at at)) (c .before .op .given .1) (at .of-number .ensures) in
+    omega (arith, is, numbered op .most)
 
 mul-if2 : tie.Need-mul-if2
-mul-if2 c = record { fits = omega (arith, counted c, count-most (op-at c)) }
+mul-if2 c = record { fits = omega (arith, counted c, numbered (op-at c) .few) }
 
 add-if2 : tie.Need-add-if2
-add-if2 c = record { fits = omega (arith, counted c, count-most (op-at c)) }
+add-if2 c = record { fits = omega (arith, counted c, numbered (op-at c) .few) }
 
 returns-4 : tie.Need-returns-4
 returns-4 c = λ op vs n e. c .if2 .taken (omega (arith, ap length e, line-length op vs, same-count (c .before) op vs n e))
@@ -128,7 +126,7 @@ fields-requires : tie.Need-fields-requires
 fields-requires c κs =
     let o = c .before .before .before in
     let line = line-at (looked-up o) in
-    (omega (arith, ap length (lent line), length-drop 2 line, c .before .before .if2 .left), omega (arith, counted o, count-most (op-at o)))
+    (omega (arith, ap length (lent line), length-drop 2 line, c .before .before .if2 .left), omega (arith, counted o, numbered (op-at o) .few))
 
 same-length : tie.Need-same-length
 same-length c = search needs
@@ -171,9 +169,7 @@ parse-spec =
     enum-known-op
     enum-told-2
     returns-3
-    inputs-requires
-    outputs-requires
-    add-count
+    count-requires
     mul-if2
     add-if2
     returns-4

@@ -1,14 +1,14 @@
--- `operation::of_number` meets its contract: every operation's number lies between 1 and 35.
+-- `operation::of_number` meets its contract: every operation's number lies numbered 1 and 35.
 use Rattle.replay.proofs.operation.of_number.Statement.{statement}
 use Rattle.replay.proofs.operation.of_number.Tie as tie
 use native.Mathlib.Omega.{arith}
-use Rattle.replay.proofs.Numbering.{between}
+use Rattle.replay.proofs.Numbering.{numbered}
 
 returns : tie.Need-returns
-returns c = λ op e. omega (arith, between op .least)
+returns c = λ op e. omega (arith, numbered op .least)
 
 returns-2 : tie.Need-returns-2
-returns-2 c = λ op e. omega (arith, between op .most)
+returns-2 c = λ op e. omega (arith, numbered op .most)
 
 known-requires : tie.Need-known-requires
 known-requires c κs = (omega arith, omega arith)

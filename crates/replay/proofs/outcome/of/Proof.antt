@@ -2,8 +2,8 @@
 use borrow.Author.Needs.{needs}
 use Rattle.replay.proofs.outcome.of.Statement.{statement}
 use Rattle.replay.proofs.outcome.of.Tie as tie
-use mathlib.Core.Path.{_≡_, sym, ap, ap₂, _∙_, subst}
-use Prim.Native.Nat.{ℕ, _+_, _≤_}
+use mathlib.Core.Path.{_≡_, sym, ap, _∙_, subst}
+use Prim.Native.Nat.{ℕ, _≤_}
 use native.Mathlib.Omega.{arith}
 use lib.ListN.{length, take}
 use lib.Seq.{length-take-le}
@@ -11,30 +11,40 @@ use mathlib.Core.List.{List}
 use Rattle.replay.specs.Lines.{lineOf, Parses}
 use Rattle.replay.specs.Outcomes.{Holds, Agrees, Case}
 use Rattle.replay.specs.declared.line.Parsed.the-variants as Parsed
-use Rattle.replay.specs.Operations.{countOf}
+use Rattle.replay.specs.Operations.{numberOf, countOf}
 use Rattle.replay.specs.declared.operation.Operation.{Operation}
-use Rattle.replay.proofs.Numbering.{count-most}
+use Rattle.replay.proofs.Numbering.{numbered}
 
 -- The case that the line was read as: its operation, how many words that has, the words that were read, and the line.
-abbrev op-at : tie.After-outputs → Operation
+abbrev op-at : tie.After-inputs → Operation
 op-at c = c .before .before .before .n .given .0 .1 .0
 
-abbrev count-at : tie.After-outputs → ℕ
-count-at c = c .before .inputs .result + c .outputs .result
+abbrev count-at : tie.After-inputs → ℕ
+count-at c = c .before .count .result
 
-abbrev read-at : tie.After-outputs → List ℕ
+abbrev read-at : tie.After-inputs → List ℕ
 read-at c = c .before .before .before .before .before .before .parse .last .1 .0
 
-abbrev line-at : tie.After-outputs → List ℕ
+abbrev line-at : tie.After-inputs → List ℕ
 line-at c = c .before .before .before .before .before .before .before .before .before .args .line .now
 
-counted : (c : tie.After-outputs) → count-at c ≡ countOf (op-at c)
-counted c = ap₂ _+_ (c .before .inputs .ensures) (c .outputs .ensures)
+-- The number that the line was read with is its operation's.
+named : (c : tie.After-known-told) → c .before .n .given .0 .0 ≡ numberOf (c .before .n .given .0 .1 .0)
+named c =
+    let at = c .before .before .before .before in
+    let n = c .before .n .given in
+    let line = at .before .before .before .args .line .now in
+    let words = at .parse .last .1 .0 in
+    let read : Parses line words (Parsed.Case (n .0 .0) (n .0 .1 .0)) = subst (Parses line words) (n .1) (at .parse .ensures) in
+    read .0
 
-room : (c : tie.After-outputs) → count-at c ≤ length (read-at c)
+counted : (c : tie.After-inputs) → count-at c ≡ countOf (op-at c)
+counted c = c .before .count .ensures (op-at c) (named (c .before .before))
+
+room : (c : tie.After-inputs) → count-at c ≤ length (read-at c)
 room c =
     let parse = c .before .before .before .before .before .before .parse in
-    omega (arith, counted c, count-most (op-at c), parse .kept .1 .0)
+    omega (arith, counted c, numbered (op-at c) .few, parse .kept .1 .0)
 
 -- The line is that of the case that was judged, whatever was found of it.
 case-of : (c : tie.After-judge) (P : Operation → List ℕ → Type 0)
@@ -70,14 +80,11 @@ enum-told c = search needs
 enum-known-n : tie.Need-enum-known-n
 enum-known-n c = search needs
 
+count-requires : tie.Need-count-requires
+count-requires c κs = omega (arith, named c, numbered (c .before .n .given .0 .1 .0) .most)
+
 inputs-requires : tie.Need-inputs-requires
-inputs-requires c κs = search needs
-
-outputs-requires : tie.Need-outputs-requires
-outputs-requires c κs = search needs
-
-add-count : tie.Need-add-count
-add-count c = record { fits = omega (arith, counted c, count-most (op-at c)) }
+inputs-requires c κs = omega (arith, named (c .before), numbered (c .before .before .n .given .0 .1 .0) .most)
 
 array-share-prefix-words : tie.Need-array-share-prefix-words
 array-share-prefix-words c = room c
@@ -86,7 +93,10 @@ slice-aggregate-judge : tie.Need-slice-aggregate-judge
 slice-aggregate-judge c = sym (length-take-le (count-at (c .before)) (read-at (c .before)) (room (c .before)))
 
 judge-requires : tie.Need-judge-requires
-judge-requires c κs = length-take-le (count-at (c .before)) (read-at (c .before)) (room (c .before)) ∙ counted (c .before)
+judge-requires c κs =
+    let at = c .before in
+    let taken = at .inputs .ensures (op-at at) (named (at .before .before)) in
+    (taken, length-take-le (count-at at) (read-at at) (room at) ∙ counted at)
 
 returns : tie.Need-returns
 returns c =
@@ -113,9 +123,8 @@ of-spec =
     parse-requires
     enum-told
     enum-known-n
+    count-requires
     inputs-requires
-    outputs-requires
-    add-count
     array-share-prefix-words
     slice-aggregate-judge
     judge-requires
