@@ -1,6 +1,8 @@
 -- The operations' numbers: they lie between 1 and 35, no two operations share one, and tables are read by them. Assumes nothing.
 use mathlib.Core.Path.{_≡_, refl, sym, ap, _∙_}
+use mathlib.Core.Bool.{Bool, true, false}
 use mathlib.Core.List.{List, [], _∷_}
+use lib.Dec.{T, leb, leb→le}
 use lib.ListN.{getD}
 use Prim.Native.Nat.{ℕ, zero, suc, _≤_, _<_}
 use native.Mathlib.Omega.{arith}
@@ -28,47 +30,46 @@ countTable =
 pub record Numbered (op : Operation) : Type 0 where
   pub least : 1 ≤ numberOf op
   pub most : numberOf op ≤ 35
-  pub few : countOf op ≤ 28
   pub inputs : getD inputTable (numberOf op) 0 ≡ inputsOf op
   pub count : getD countTable (numberOf op) 0 ≡ countOf op
 
 pub numbered : (op : Operation) → Numbered op
 unfolding inputTable countTable
-numbered (Op.Word W.ValueBits) = record { least = omega arith; most = omega arith; few = omega arith; inputs = refl; count = refl }
-numbered (Op.Word W.ToI32) = record { least = omega arith; most = omega arith; few = omega arith; inputs = refl; count = refl }
-numbered (Op.Word W.ToShort) = record { least = omega arith; most = omega arith; few = omega arith; inputs = refl; count = refl }
-numbered (Op.Word W.VertexValue) = record { least = omega arith; most = omega arith; few = omega arith; inputs = refl; count = refl }
-numbered (Op.Word W.Sqrt) = record { least = omega arith; most = omega arith; few = omega arith; inputs = refl; count = refl }
-numbered (Op.Word W.OfCount) = record { least = omega arith; most = omega arith; few = omega arith; inputs = refl; count = refl }
-numbered (Op.Pair P.Relate) = record { least = omega arith; most = omega arith; few = omega arith; inputs = refl; count = refl }
-numbered (Op.Pair P.CmpF32) = record { least = omega arith; most = omega arith; few = omega arith; inputs = refl; count = refl }
-numbered (Op.Pair P.KeyOrder) = record { least = omega arith; most = omega arith; few = omega arith; inputs = refl; count = refl }
-numbered (Op.Pair P.VminWord) = record { least = omega arith; most = omega arith; few = omega arith; inputs = refl; count = refl }
-numbered (Op.Pair P.VmaxWord) = record { least = omega arith; most = omega arith; few = omega arith; inputs = refl; count = refl }
-numbered (Op.Pair P.MinNumber) = record { least = omega arith; most = omega arith; few = omega arith; inputs = refl; count = refl }
-numbered (Op.Pair P.MaxNumber) = record { least = omega arith; most = omega arith; few = omega arith; inputs = refl; count = refl }
-numbered (Op.Point Vp.Length) = record { least = omega arith; most = omega arith; few = omega arith; inputs = refl; count = refl }
-numbered (Op.Point Vp.Norm) = record { least = omega arith; most = omega arith; few = omega arith; inputs = refl; count = refl }
-numbered (Op.Points Vs.Dot) = record { least = omega arith; most = omega arith; few = omega arith; inputs = refl; count = refl }
-numbered (Op.Points Vs.Cross) = record { least = omega arith; most = omega arith; few = omega arith; inputs = refl; count = refl }
-numbered (Op.Points Vs.CmpVec3) = record { least = omega arith; most = omega arith; few = omega arith; inputs = refl; count = refl }
-numbered (Op.Transform T.Point) = record { least = omega arith; most = omega arith; few = omega arith; inputs = refl; count = refl }
-numbered (Op.Transform T.Vector) = record { least = omega arith; most = omega arith; few = omega arith; inputs = refl; count = refl }
-numbered Op.TransformBox = record { least = omega arith; most = omega arith; few = omega arith; inputs = refl; count = refl }
-numbered (Op.Word W.OrderKey) = record { least = omega arith; most = omega arith; few = omega arith; inputs = refl; count = refl }
-numbered (Op.Word W.Abs) = record { least = omega arith; most = omega arith; few = omega arith; inputs = refl; count = refl }
-numbered (Op.Pair P.Vmin) = record { least = omega arith; most = omega arith; few = omega arith; inputs = refl; count = refl }
-numbered (Op.Pair P.Vmax) = record { least = omega arith; most = omega arith; few = omega arith; inputs = refl; count = refl }
-numbered (Op.Points Vs.Add) = record { least = omega arith; most = omega arith; few = omega arith; inputs = refl; count = refl }
-numbered (Op.Points Vs.Sub) = record { least = omega arith; most = omega arith; few = omega arith; inputs = refl; count = refl }
-numbered (Op.Points Vs.Vmul) = record { least = omega arith; most = omega arith; few = omega arith; inputs = refl; count = refl }
-numbered (Op.Points Vs.Vdiv) = record { least = omega arith; most = omega arith; few = omega arith; inputs = refl; count = refl }
-numbered (Op.Points Vs.Vmin) = record { least = omega arith; most = omega arith; few = omega arith; inputs = refl; count = refl }
-numbered (Op.Points Vs.Vmax) = record { least = omega arith; most = omega arith; few = omega arith; inputs = refl; count = refl }
-numbered (Op.Point Vp.Neg) = record { least = omega arith; most = omega arith; few = omega arith; inputs = refl; count = refl }
-numbered (Op.Point Vp.Abs) = record { least = omega arith; most = omega arith; few = omega arith; inputs = refl; count = refl }
-numbered (Op.Factor F.Scale) = record { least = omega arith; most = omega arith; few = omega arith; inputs = refl; count = refl }
-numbered (Op.Factor F.VaddF) = record { least = omega arith; most = omega arith; few = omega arith; inputs = refl; count = refl }
+numbered (Op.Word W.ValueBits) = record { least = omega arith; most = omega arith; inputs = refl; count = refl }
+numbered (Op.Word W.ToI32) = record { least = omega arith; most = omega arith; inputs = refl; count = refl }
+numbered (Op.Word W.ToShort) = record { least = omega arith; most = omega arith; inputs = refl; count = refl }
+numbered (Op.Word W.VertexValue) = record { least = omega arith; most = omega arith; inputs = refl; count = refl }
+numbered (Op.Word W.Sqrt) = record { least = omega arith; most = omega arith; inputs = refl; count = refl }
+numbered (Op.Word W.OfCount) = record { least = omega arith; most = omega arith; inputs = refl; count = refl }
+numbered (Op.Pair P.Relate) = record { least = omega arith; most = omega arith; inputs = refl; count = refl }
+numbered (Op.Pair P.CmpF32) = record { least = omega arith; most = omega arith; inputs = refl; count = refl }
+numbered (Op.Pair P.KeyOrder) = record { least = omega arith; most = omega arith; inputs = refl; count = refl }
+numbered (Op.Pair P.VminWord) = record { least = omega arith; most = omega arith; inputs = refl; count = refl }
+numbered (Op.Pair P.VmaxWord) = record { least = omega arith; most = omega arith; inputs = refl; count = refl }
+numbered (Op.Pair P.MinNumber) = record { least = omega arith; most = omega arith; inputs = refl; count = refl }
+numbered (Op.Pair P.MaxNumber) = record { least = omega arith; most = omega arith; inputs = refl; count = refl }
+numbered (Op.Point Vp.Length) = record { least = omega arith; most = omega arith; inputs = refl; count = refl }
+numbered (Op.Point Vp.Norm) = record { least = omega arith; most = omega arith; inputs = refl; count = refl }
+numbered (Op.Points Vs.Dot) = record { least = omega arith; most = omega arith; inputs = refl; count = refl }
+numbered (Op.Points Vs.Cross) = record { least = omega arith; most = omega arith; inputs = refl; count = refl }
+numbered (Op.Points Vs.CmpVec3) = record { least = omega arith; most = omega arith; inputs = refl; count = refl }
+numbered (Op.Transform T.Point) = record { least = omega arith; most = omega arith; inputs = refl; count = refl }
+numbered (Op.Transform T.Vector) = record { least = omega arith; most = omega arith; inputs = refl; count = refl }
+numbered Op.TransformBox = record { least = omega arith; most = omega arith; inputs = refl; count = refl }
+numbered (Op.Word W.OrderKey) = record { least = omega arith; most = omega arith; inputs = refl; count = refl }
+numbered (Op.Word W.Abs) = record { least = omega arith; most = omega arith; inputs = refl; count = refl }
+numbered (Op.Pair P.Vmin) = record { least = omega arith; most = omega arith; inputs = refl; count = refl }
+numbered (Op.Pair P.Vmax) = record { least = omega arith; most = omega arith; inputs = refl; count = refl }
+numbered (Op.Points Vs.Add) = record { least = omega arith; most = omega arith; inputs = refl; count = refl }
+numbered (Op.Points Vs.Sub) = record { least = omega arith; most = omega arith; inputs = refl; count = refl }
+numbered (Op.Points Vs.Vmul) = record { least = omega arith; most = omega arith; inputs = refl; count = refl }
+numbered (Op.Points Vs.Vdiv) = record { least = omega arith; most = omega arith; inputs = refl; count = refl }
+numbered (Op.Points Vs.Vmin) = record { least = omega arith; most = omega arith; inputs = refl; count = refl }
+numbered (Op.Points Vs.Vmax) = record { least = omega arith; most = omega arith; inputs = refl; count = refl }
+numbered (Op.Point Vp.Neg) = record { least = omega arith; most = omega arith; inputs = refl; count = refl }
+numbered (Op.Point Vp.Abs) = record { least = omega arith; most = omega arith; inputs = refl; count = refl }
+numbered (Op.Factor F.Scale) = record { least = omega arith; most = omega arith; inputs = refl; count = refl }
+numbered (Op.Factor F.VaddF) = record { least = omega arith; most = omega arith; inputs = refl; count = refl }
 
 -- the operations in the order of their numbers
 ordered : List Operation
@@ -163,3 +164,30 @@ beyond (suc k) n a h =
     let b : k < n = beyond k n (a .0) h in
     let d : n ≡ suc k → ⊥ = a .1 in
     omega arith
+
+-- ---- no entry of the table of counts is above 28
+
+abbrev both : Bool → Bool → Bool
+both true b = b
+both false b = false
+
+both-left : (a b : Bool) → T (both a b) → T a
+both-left true b t = tt
+both-left false b t = t
+
+both-right : (a b : Bool) → T (both a b) → T b
+both-right true b t = t
+both-right false b t = absurd t
+
+abbrev all-few : List ℕ → Bool
+all-few [] = true
+all-few (x ∷ xs) = both (leb x 28) (all-few xs)
+
+few-in : (xs : List ℕ) (i : ℕ) → T (all-few xs) → getD xs i 0 ≤ 28
+few-in [] i t = omega arith
+few-in (x ∷ xs) zero t = leb→le x 28 (both-left (leb x 28) (all-few xs) t)
+few-in (x ∷ xs) (suc i) t = few-in xs i (both-right (leb x 28) (all-few xs) t)
+
+pub count-few : (i : ℕ) → getD countTable i 0 ≤ 28
+unfolding countTable
+count-few i = few-in countTable i tt

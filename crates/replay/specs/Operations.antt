@@ -15,8 +15,6 @@ use Rattle.replay.specs.declared.operation.FactorStep.{FactorStep}
 use Rattle.replay.specs.declared.operation.FactorStep.the-variants as F
 use Rattle.replay.specs.declared.operation.TransformStep.{TransformStep}
 use Rattle.replay.specs.declared.operation.TransformStep.the-variants as T
-use Rattle.replay.specs.declared.operation.Named.{Named}
-use Rattle.replay.specs.declared.operation.Named.the-variants as Nm
 
 -- The number by which a case names its operation.
 abbrev pub wordNumber : WordStep → ℕ
@@ -73,11 +71,6 @@ numberOf (Op.Points s) = pointsNumber s
 numberOf (Op.Factor s) = factorNumber s
 numberOf (Op.Transform s) = transformNumber s
 numberOf Op.TransformBox = 0x15
-
--- What a number names: the operation that has it, or nothing where none has.
-abbrev pub Names : ℕ → Named → Type 0
-Names n (Nm.Known op) = n ≡ numberOf op
-Names n Nm.Unknown = (op : Operation) → n ≡ numberOf op → ⊥
 
 -- How many words an operation takes. A matrix has sixteen, a point three, a box six.
 abbrev pub inputsOf : Operation → ℕ

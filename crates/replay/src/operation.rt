@@ -1,7 +1,7 @@
 // The operations that a case may name, by what they take: words, points, a matrix.
 ghost use mathlib.Core.Path.{_≡_};
 ghost use Prim.Native.Nat.{_≤_, _<_};
-ghost use Rattle.replay.specs.Operations.{numberOf, Names, inputsOf, countOf, Counts};
+ghost use Rattle.replay.specs.Operations.{numberOf, inputsOf, countOf, Counts};
 
 // One word.
 pub enum WordStep {
@@ -71,14 +71,8 @@ pub enum Operation {
     TransformBox,
 }
 
-// What a number names.
-pub enum Named {
-    Known(Operation),
-    Unknown,
-}
-
 // The operation that has the number.
-fn known(n: u32) -> Operation
+pub fn of_number(n: u32) -> Operation
     requires { ⌜ (1 ≤ n) × (n ≤ 35) ⌝ }
     ensures { λ r. ⌜ n ≡ numberOf r ⌝ }
 {
@@ -119,18 +113,6 @@ fn known(n: u32) -> Operation
         0x22 => Operation::Factor(FactorStep::Scale),
         _ => Operation::Factor(FactorStep::VaddF),
     }
-}
-
-pub fn of_number(n: u32) -> Named
-    ensures { λ r. ⌜ Names n r ⌝ }
-{
-    if n < 1 {
-        return Named::Unknown;
-    }
-    if n > 35 {
-        return Named::Unknown;
-    }
-    Named::Known(known(n))
 }
 
 // How many words the operation of a number takes.
@@ -223,6 +205,7 @@ const COUNTS: [usize; 36] = [
 pub fn count(n: u32) -> usize
     requires { ⌜ n < 36 ⌝ }
     ensures { λ r. ⌜ Counts countOf n r ⌝ }
+    ensures { λ r. ⌜ r ≤ 28 ⌝ }
 {
     COUNTS[n as usize]
 }

@@ -59,7 +59,8 @@ pub fn of(line: &[u8]) -> Outcome
     let mut words = [0u32; 28];
     match crate::line::parse(line, &mut words) {
         Parsed::Bad => Outcome::Bad,
-        Parsed::Case(n, op) => {
+        Parsed::Case(n) => {
+            let op = crate::operation::of_number(n);
             let count = crate::operation::count(n);
             let taken = crate::operation::inputs(n);
             if judge(op, taken, &words[..count]) {
