@@ -1,4 +1,6 @@
 mod FieldLaws
 mod LineLaws
+mod Numbering
+mod SignedWords
 mod Spelling
 mod TallyLaws

@@ -7,10 +7,10 @@ use lib.ListN.{length, take, drop, length-append, take-append-drop}
 use lib.Seq.{take-at, drop-at}
 use Rattle.io.specs.Digits.{digits}
 use Rattle.replay.specs.Lines.{fieldsOf, lineOf}
-use Rattle.recorded.specs.Operations.{numberOf}
-use Rattle.recorded.specs.declared.operation.Operation.{Operation}
+use Rattle.replay.specs.Operations.{numberOf}
+use Rattle.replay.specs.declared.operation.Operation.{Operation}
 use Rattle.replay.proofs.FieldLaws.{length-fields}
-use Rattle.recorded.proofs.Numbering.{between}
+use Rattle.replay.proofs.Numbering.{numbered}
 use Rattle.replay.proofs.Spelling.{length-digits, digits-injective}
 
 pub line-length : (op : Operation) (ws : List ℕ) → length (lineOf op ws) ≡ 2 + 9 * length ws
@@ -32,4 +32,4 @@ line-made line op ws n f = sym (take-append-drop 2 line) ∙ ap₂ _++_ n f
 -- The digits of a line name one operation.
 pub line-names : (line : List ℕ) (n : ℕ) (op : Operation) (ws : List ℕ) → take 2 line ≡ digits 16 2 n → n < 16 ^ 2 → line ≡ lineOf op ws → n ≡ numberOf op
 line-names line n op ws d h e =
-    digits-injective 2 n (numberOf op) h (omega (arith, between op .most)) (sym d ∙ ap (take 2) e ∙ line-number op ws)
+    digits-injective 2 n (numberOf op) h (omega (arith, numbered op .most)) (sym d ∙ ap (take 2) e ∙ line-number op ws)

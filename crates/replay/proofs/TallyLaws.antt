@@ -13,12 +13,12 @@ use Rattle.replay.specs.Outcomes.{Judged}
 use Rattle.replay.specs.Tallies.{State, stateOf, grown, After, Fed, Via, placeOf, casesAfter, missesAfter, totalFrom}
 use Rattle.replay.specs.declared.outcome.Outcome.{Outcome}
 use Rattle.replay.specs.declared.outcome.Outcome.the-variants.{Match, Mismatch, Bad}
-use Rattle.recorded.proofs.Numbering.{between}
+use Rattle.replay.proofs.Numbering.{numbered}
 
 -- Every outcome of a line is counted at one of 36 places.
 pub place-within : (line : List ℕ) (o : Outcome) → Judged line o → placeOf o < 36
-place-within line (Match n) j = omega (arith, j .named, between (j .op) .most)
-place-within line (Mismatch n) j = omega (arith, j .named, between (j .op) .most)
+place-within line (Match n) j = omega (arith, j .named, numbered (j .op) .most)
+place-within line (Mismatch n) j = omega (arith, j .named, numbered (j .op) .most)
 place-within line Bad j = omega arith
 
 pub record Taking (text : List ℕ) (i : ℕ) (s₀ s : State) : Type 0 where

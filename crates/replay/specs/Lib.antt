@@ -1,3 +1,6 @@
+pub mod Answers
 pub mod Lines
+pub mod Numbers
+pub mod Operations
 pub mod Outcomes
 pub mod Tallies

@@ -1,13 +1,13 @@
 -- The line of a recorded case, without its end. Definitions only.
-use Prim.Native.Nat.{ℕ, _-_, _^_, _<_}
+use Prim.Native.Nat.{ℕ, _-_, _^_, _≤_, _<_}
 use mathlib.Core.Path.{_≡_}
 use mathlib.Core.Bool.{Bool, true, false, cond}
 use lib.Dec.{ltb}
 use mathlib.Core.List.{List, [], _∷_, _++_}
 use lib.ListN.{length, take}
 use Rattle.io.specs.Digits.{digits}
-use Rattle.recorded.specs.Operations.{numberOf, countOf}
-use Rattle.recorded.specs.declared.operation.Operation.{Operation}
+use Rattle.replay.specs.Operations.{numberOf, countOf}
+use Rattle.replay.specs.declared.operation.Operation.{Operation}
 use Rattle.replay.specs.declared.line.Spelled.{Spelled}
 use Rattle.replay.specs.declared.line.Spelled.the-variants as S
 use Rattle.replay.specs.declared.line.Parsed.{Parsed}
@@ -40,7 +40,7 @@ abbrev pub Fields : List ℕ → ℕ → List ℕ → Bool → Type 0
 Fields text n ws true = text ≡ fieldsOf ws
 Fields text n ws false = (vs : List ℕ) → length vs ≡ n → text ≡ fieldsOf vs → ⊥
 
--- What a line says: the operation and words of which it is the line, or Bad where there are none.
+-- What a line says: a number from 1 to 35, which is one operation's, and words of which it is that operation's line; or Bad where it is no such line.
 abbrev pub Parses : List ℕ → List ℕ → Parsed → Type 0
-Parses line ws (P.Case n op) = (n ≡ numberOf op) × (line ≡ lineOf op (take (countOf op) ws))
+Parses line ws (P.Case n) = (1 ≤ n) × (n ≤ 35) × ((op : Operation) → n ≡ numberOf op → line ≡ lineOf op (take (countOf op) ws))
 Parses line ws P.Bad = (op : Operation) (vs : List ℕ) → length vs ≡ countOf op → line ≡ lineOf op vs → ⊥

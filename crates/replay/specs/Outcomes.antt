@@ -4,10 +4,10 @@ use mathlib.Core.Path.{_≡_}
 use mathlib.Core.Bool.{Bool, true, false}
 use mathlib.Core.List.{List}
 use lib.ListN.{length, getD, take, drop}
-use Rattle.recorded.specs.Answers.{answerOf, wordsOf}
+use Rattle.replay.specs.Answers.{answerOf, wordsOf}
 use Rattle.replay.specs.Lines.{lineOf}
-use Rattle.recorded.specs.Operations.{numberOf, inputsOf, countOf}
-use Rattle.recorded.specs.declared.operation.Operation.{Operation}
+use Rattle.replay.specs.Operations.{numberOf, inputsOf, countOf}
+use Rattle.replay.specs.declared.operation.Operation.{Operation}
 use Rattle.replay.specs.declared.outcome.Outcome.{Outcome}
 use Rattle.replay.specs.declared.outcome.Outcome.the-variants.{Match, Mismatch, Bad}
 

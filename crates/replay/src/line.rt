@@ -1,6 +1,4 @@
 // A line: the operation's number in two hexadecimal digits, then each word in eight, after a space.
-use recorded::operation::Named;
-use recorded::operation::Operation;
 ghost use mathlib.Core.Path.{_≡_};
 ghost use mathlib.Core.Bool.{true, false};
 ghost use Prim.Native.Nat.{_*_, _≤_};
@@ -68,11 +66,11 @@ fn fields(text: &[u8], words: &mut [u32], count: usize) -> bool
 }
 
 pub enum Parsed {
-    Case(u32, Operation),
+    Case(u32),
     Bad,
 }
 
-// The line's operation, whose words are put at the start of `words`.
+// The number of the line's operation, whose words are put at the start of `words`.
 pub fn parse(line: &[u8], words: &mut [u32]) -> Parsed
     requires { ⌜ 28 ≤ length (now words) ⌝ }
     ensures { λ r. ⌜ Parses (now (line .entry)) (now (words .exit)) r ⌝ }
@@ -83,15 +81,18 @@ pub fn parse(line: &[u8], words: &mut [u32]) -> Parsed
     let Spelled::Number(n) = number(&line[..2]) else {
         return Parsed::Bad;
     };
-    let Named::Known(op) = recorded::operation::of_number(n) else {
+    if n < 1 {
         return Parsed::Bad;
-    };
-    let count = recorded::operation::inputs(op) + recorded::operation::outputs(op);
+    }
+    if n > 35 {
+        return Parsed::Bad;
+    }
+    let count = crate::operation::count(n);
     if line.len() != 2 + 9 * count {
         return Parsed::Bad;
     }
     if fields(&line[2..], words, count) {
-        Parsed::Case(n, op)
+        Parsed::Case(n)
     } else {
         Parsed::Bad
     }

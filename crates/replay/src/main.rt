@@ -1,8 +1,11 @@
 // Reads recorded cases, a line each, and says of each operation how many there were and in how many our answer is another, and how many lines were
 // no case. Rust's own operators and the reference say what is recorded; some lines are wrong or no case, so that the counts are not all zeros.
+mod answer;
 mod line;
+mod operation;
 mod outcome;
 mod tally;
+mod words;
 
 use libc::STDIN_FILENO;
 use libc::STDOUT_FILENO;

@@ -1,12 +1,12 @@
 // Whether our answer to a line is the recorded one.
+use crate::answer::Answer;
 use crate::line::Parsed;
-use recorded::answer::Answer;
-use recorded::operation::Operation;
+use crate::operation::Operation;
 ghost use mathlib.Core.Path.{_≡_};
 ghost use mathlib.Core.Bool.{true, false};
 ghost use lib.ListN.{length};
-ghost use Rattle.recorded.specs.Answers.{wordsOf};
-ghost use Rattle.recorded.specs.Operations.{countOf};
+ghost use Rattle.replay.specs.Answers.{wordsOf};
+ghost use Rattle.replay.specs.Operations.{inputsOf, countOf};
 ghost use Rattle.replay.specs.Outcomes.{Holds, Words, Agrees, Judged};
 
 pub enum Outcome {
@@ -44,13 +44,13 @@ fn gives(a: Answer, words: &[u32]) -> bool
     }
 }
 
-fn judge(op: Operation, words: &[u32]) -> bool
-    requires { ⌜ length (now words) ≡ countOf op ⌝ }
+// Whether the words after those that the operation takes are its answer.
+fn judge(op: Operation, taken: usize, words: &[u32]) -> bool
+    requires { ⌜ (taken ≡ inputsOf op) × (length (now words) ≡ countOf op) ⌝ }
     ensures { λ r. ⌜ Holds (Agrees op (now (words .entry))) r ⌝ }
     ensures { λ _. ⌜ Words (now (words .entry)) ⌝ }
 {
-    let n = recorded::operation::inputs(op);
-    gives(recorded::answer::of(op, &words[..n]), &words[n..])
+    gives(crate::answer::of(op, &words[..taken]), &words[taken..])
 }
 
 pub fn of(line: &[u8]) -> Outcome
@@ -59,9 +59,11 @@ pub fn of(line: &[u8]) -> Outcome
     let mut words = [0u32; 28];
     match crate::line::parse(line, &mut words) {
         Parsed::Bad => Outcome::Bad,
-        Parsed::Case(n, op) => {
-            let count = recorded::operation::inputs(op) + recorded::operation::outputs(op);
-            if judge(op, &words[..count]) {
+        Parsed::Case(n) => {
+            let op = crate::operation::of_number(n);
+            let count = crate::operation::count(n);
+            let taken = crate::operation::inputs(n);
+            if judge(op, taken, &words[..count]) {
                 Outcome::Match(n)
             } else {
                 Outcome::Mismatch(n)

@@ -8,23 +8,20 @@ use Prim.Native.Nat.{ℕ, _-_, _≤_}
 use native.Mathlib.Omega.{arith}
 use lib.ListN.{length, take, drop, length-drop}
 use lib.Seq.{length-take-le, take-all}
-use Rattle.recorded.specs.Answers.{answerOf, wordsOf}
+use Rattle.replay.specs.Answers.{answerOf, wordsOf}
 use Rattle.replay.specs.Outcomes.{Holds, Words}
-use Rattle.recorded.specs.declared.answer.Answer.{Answer}
-
-inputs-requires : tie.Need-inputs-requires
-inputs-requires c κs = search needs
+use Rattle.replay.specs.declared.answer.Answer.{Answer}
 
 slice-aggregate-of : tie.Need-slice-aggregate-of
 slice-aggregate-of c =
-    let words = c .before .before .before .args .words .now in
-    sym (length-take-le (c .before .inputs .result) words (omega (arith, c .before .inputs .ensures)))
+    let a = c .before .before .args in
+    sym (length-take-le (a .taken) (a .words .now) (omega arith))
 
 of-requires : tie.Need-of-requires
 of-requires c κs =
-    let n = c .before .inputs .result in
-    let fit : n ≤ length (c .before .before .before .args .words .now) = omega (arith, c .before .inputs .ensures) in
-    omega (arith, length-take-le n (c .before .before .before .args .words .now) fit, c .before .inputs .ensures)
+    let a = c .before .before .args in
+    let fit : a .taken ≤ length (a .words .now) = omega arith in
+    omega (arith, length-take-le (a .taken) (a .words .now) fit)
 
 mul-gives : tie.Need-mul-gives
 mul-gives c = search needs
@@ -43,16 +40,16 @@ gives-requires c κs = search needs
 
 returns : tie.Need-returns
 returns c =
-    let asked = c .before .before .before .before in
-    let known = asked .before in
-    let n = asked .inputs .result in
-    let ws = known .before .args .words .now in
-    let op = known .before .args .op in
+    let known = c .before .before .before .before in
+    let start = known .before in
+    let n = start .args .taken in
+    let ws = start .args .words .now in
+    let op = start .args .op in
     let words : Words ws = λ i. known .shared-slice-known .given i .fits in
     let r = c .gives .result in
     let g : Holds (take (length ws - n) (drop n ws) ≡ wordsOf (c .before .before .of .result)) r = c .gives .ensures in
     let all : take (length ws - n) (drop n ws) ≡ drop n ws = take-all (length ws - n) (drop n ws) (simp length-drop (omega arith)) in (
-      subst (λ (k : ℕ). Holds (drop k ws ≡ wordsOf (answerOf op (take k ws))) r) (asked .inputs .ensures)
+      subst (λ (k : ℕ). Holds (drop k ws ≡ wordsOf (answerOf op (take k ws))) r) (start .pre .0)
           (subst (λ (a : Answer). Holds (drop n ws ≡ wordsOf a) r) (c .before .before .of .ensures)
           (subst (λ (s : List ℕ). Holds (s ≡ wordsOf (c .before .before .of .result)) r) all g)),
       words,
@@ -62,7 +59,6 @@ pub judge-spec : {M : Type 1} → statement M
 judge-spec =
     tie.close
     (tie.spec
-    inputs-requires
     slice-aggregate-of
     of-requires
     mul-gives

@@ -2,8 +2,8 @@
 use borrow.Author.Needs.{needs}
 use Rattle.replay.proofs.outcome.of.Statement.{statement}
 use Rattle.replay.proofs.outcome.of.Tie as tie
-use mathlib.Core.Path.{_≡_, sym, ap, ap₂, _∙_, subst}
-use Prim.Native.Nat.{ℕ, _+_, _≤_}
+use mathlib.Core.Path.{_≡_, sym, ap, _∙_, subst}
+use Prim.Native.Nat.{ℕ, _≤_}
 use native.Mathlib.Omega.{arith}
 use lib.ListN.{length, take}
 use lib.Seq.{length-take-le}
@@ -11,50 +11,55 @@ use mathlib.Core.List.{List}
 use Rattle.replay.specs.Lines.{lineOf, Parses}
 use Rattle.replay.specs.Outcomes.{Holds, Agrees, Case}
 use Rattle.replay.specs.declared.line.Parsed.the-variants as Parsed
-use Rattle.recorded.specs.Operations.{countOf}
-use Rattle.recorded.specs.declared.operation.Operation.{Operation}
-use Rattle.recorded.proofs.Numbering.{count-most}
+use Rattle.replay.specs.Operations.{countOf}
+use Rattle.replay.specs.declared.operation.Operation.{Operation}
+
+-- What the parser says of the line.
+read : (c : tie.After-known-told)
+    → Parses (c .before .before .before .before .before .before .before .args .line .now) (c .before .before .before .before .parse .last .1 .0)
+    (Parsed.Case (c .before .n .given .0 .0))
+read c =
+    let at = c .before .before .before .before in
+    subst (Parses (at .before .before .before .args .line .now) (at .parse .last .1 .0)) (c .before .n .given .1) (at .parse .ensures)
 
 -- The case that the line was read as: its operation, how many words that has, the words that were read, and the line.
-abbrev op-at : tie.After-outputs → Operation
-op-at c = c .before .before .before .n .given .0 .1 .0
+abbrev op-at : tie.After-inputs → Operation
+op-at c = c .before .before .of-number .result
 
-abbrev count-at : tie.After-outputs → ℕ
-count-at c = c .before .inputs .result + c .outputs .result
+abbrev count-at : tie.After-inputs → ℕ
+count-at c = c .before .count .result
 
-abbrev read-at : tie.After-outputs → List ℕ
-read-at c = c .before .before .before .before .before .before .parse .last .1 .0
+abbrev read-at : tie.After-inputs → List ℕ
+read-at c = c .before .before .before .before .before .before .before .parse .last .1 .0
 
-abbrev line-at : tie.After-outputs → List ℕ
-line-at c = c .before .before .before .before .before .before .before .before .before .args .line .now
+abbrev line-at : tie.After-inputs → List ℕ
+line-at c = c .before .before .before .before .before .before .before .before .before .before .args .line .now
 
-counted : (c : tie.After-outputs) → count-at c ≡ countOf (op-at c)
-counted c = ap₂ _+_ (c .before .inputs .ensures) (c .outputs .ensures)
+counted : (c : tie.After-inputs) → count-at c ≡ countOf (op-at c)
+counted c = c .before .count .ensures .0 (op-at c) (c .before .before .of-number .ensures)
 
-room : (c : tie.After-outputs) → count-at c ≤ length (read-at c)
+room : (c : tie.After-inputs) → count-at c ≤ length (read-at c)
 room c =
-    let parse = c .before .before .before .before .before .before .parse in
-    omega (arith, counted c, count-most (op-at c), parse .kept .1 .0)
+    let parse = c .before .before .before .before .before .before .before .parse in
+    omega (arith, c .before .count .ensures .1, parse .kept .1 .0)
 
 -- The line is that of the case that was judged, whatever was found of it.
 case-of : (c : tie.After-judge) (P : Operation → List ℕ → Type 0)
     → P (op-at (c .before .before)) (take (count-at (c .before .before)) (read-at (c .before .before)))
-    → Case P (c .before .before .before .before .before .n .given .0 .0) (line-at (c .before .before))
+    → Case P (c .before .before .before .before .before .before .n .given .0 .0) (line-at (c .before .before))
 case-of c P found =
     let at = c .before .before in
     let op = op-at at in
     let all = read-at at in
     let count = count-at at in
-    let n = at .before .before .before .n .given in
-    let parse = at .before .before .before .before .before .before .parse in
-    let read : Parses (line-at at) all (Parsed.Case (n .0 .0) op) = subst (Parses (line-at at) all) (n .1) (parse .ensures) in
+    let named = at .before .before .of-number .ensures in
     record {
       op = op;
       words = take count all;
-      named = read .0;
+      named = named;
       whole = length-take-le count all (room at) ∙ counted at;
       fits = c .judge .ensures .1;
-      same = read .1 ∙ ap (λ (k : ℕ). lineOf op (take k all)) (sym (counted at));
+      same = read (at .before .before .before) .2 op named ∙ ap (λ (k : ℕ). lineOf op (take k all)) (sym (counted at));
       judged = found;
     }
 
@@ -70,14 +75,14 @@ enum-told c = search needs
 enum-known-n : tie.Need-enum-known-n
 enum-known-n c = search needs
 
+of-number-requires : tie.Need-of-number-requires
+of-number-requires c κs = (read c .0, read c .1)
+
+count-requires : tie.Need-count-requires
+count-requires c κs = omega (arith, read (c .before) .1)
+
 inputs-requires : tie.Need-inputs-requires
-inputs-requires c κs = search needs
-
-outputs-requires : tie.Need-outputs-requires
-outputs-requires c κs = search needs
-
-add-count : tie.Need-add-count
-add-count c = record { fits = omega (arith, counted c, count-most (op-at c)) }
+inputs-requires c κs = omega (arith, read (c .before .before) .1)
 
 array-share-prefix-words : tie.Need-array-share-prefix-words
 array-share-prefix-words c = room c
@@ -86,7 +91,10 @@ slice-aggregate-judge : tie.Need-slice-aggregate-judge
 slice-aggregate-judge c = sym (length-take-le (count-at (c .before)) (read-at (c .before)) (room (c .before)))
 
 judge-requires : tie.Need-judge-requires
-judge-requires c κs = length-take-le (count-at (c .before)) (read-at (c .before)) (room (c .before)) ∙ counted (c .before)
+judge-requires c κs =
+    let at = c .before in
+    let taken = at .inputs .ensures (op-at at) (at .before .before .of-number .ensures) in
+    (taken, length-take-le (count-at at) (read-at at) (room at) ∙ counted at)
 
 returns : tie.Need-returns
 returns c =
@@ -113,9 +121,9 @@ of-spec =
     parse-requires
     enum-told
     enum-known-n
+    of-number-requires
+    count-requires
     inputs-requires
-    outputs-requires
-    add-count
     array-share-prefix-words
     slice-aggregate-judge
     judge-requires

@@ -1,2 +1,0 @@
-pub mod Numbering
-mod SignedWords
