@@ -291,7 +291,7 @@ mod tests {
         let once = WALK.replace("  18:\tpcmpgtw %xmm0,%xmm3\n", "");
         assert!(judged(&format!("{once}{COUNTS}")).expect_err("one").contains("walk: 1 pcmpgtw"));
         let taken = format!("{WALK}  1c:\tpextrw $0x6,%xmm8,%esi\n");
-        assert!(judged(&format!("{taken}{COUNTS}")).expect_err("one").contains("walk: 1 pextrw in bounds_walk, none is wanted"));
+        assert!(judged(&format!("{taken}{COUNTS}")).expect_err("one").contains("walk: 1 pextrw in bounds_walk"));
     }
 
     #[test]
