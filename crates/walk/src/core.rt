@@ -2,7 +2,6 @@
 use base::numbers::Position;
 use math::aabb::Aabb;
 use math::vec3::Vec3;
-use records::BvhTree;
 use walk_steps::boxes::Lanes;
 use walk_steps::boxes::Query;
 use walk_steps::refusals::WalkRefusal;
@@ -15,6 +14,7 @@ ghost use Prim.Native.Nat.{_+_, _*_, _≤_, _<_};
 ghost use lib.ListN.{length, set};
 ghost use lib.Seq.{sets};
 ghost use Rattle.base.specs.Lists.{upFrom};
+ghost use Rattle.records.specs.Records.{treeAt};
 ghost use Rattle.walk_steps.specs.Step.{lentOf, started, more};
 ghost use Rattle.walk.specs.Walks.{left, walkFrom, statusNumber, numberOf, countsOf, unread, tooMany, tooShort, walkOf, Promise};
 ghost use Rattle.walk_steps.specs.steps.Contracts.{Steppable, Ran, insideRange};
@@ -96,14 +96,15 @@ fn hand_out(out: &mut [u16], from: usize, first: Position, n: usize)
 }
 
 // Whether a tree misses and is sound, so that nothing below it is read.
-fn passes(query: Lanes, nodes: usize, t: BvhTree) -> bool
-    requires { ⌜ Topped query ⌝ }
-    ensures { λ r. ⌜ r ≡ passesOver (plainOf query) nodes t ⌝ }
+fn passes(query: Lanes, nodes: usize, tree_bytes: &[u8], at: usize) -> bool
+    requires { ⌜ (Topped query) × (at + 16 ≤ length (now «tree_bytes»)) ⌝ }
+    ensures { λ r. ⌜ r ≡ passesOver (plainOf query) nodes (treeAt (now («tree_bytes» .entry)) at) ⌝ }
 {
+    let t = records::tree_at(tree_bytes, at);
     if walk_steps::boxes::meets(query, t.min, t.max, t.node_index1, t.node_index2) {
         return false;
     }
-    !walk_steps::refusals::range_refused(t, nodes)
+    !walk_steps::refusals::range_refused(walk_steps::numbers::tree_apart(tree_bytes, at), nodes)
 }
 
 // The first tree from `from` on that is refused or meets, or `upto`.
@@ -113,7 +114,7 @@ fn pass_trees(query: Lanes, nodes: usize, tree_bytes: &[u8], from: usize, upto: 
     ensures { λ r. ⌜ PassedUpTo (plainOf query) nodes (now («tree_bytes» .entry)) from upto r ⌝ }
 {
     let mut t = from;
-    while t < upto && passes(query, nodes, records::tree_at(tree_bytes, 16 * t)) {
+    while t < upto && passes(query, nodes, tree_bytes, 16 * t) {
         t += 1;
     }
     t

@@ -22,11 +22,12 @@ pub fn quantise_box(b: Aabb, cen: Vec3, inverse: Vec3) -> Query
     }
 }
 
-// A query in the order of a record's eight numbers, its lower corner turned, so that every number of a record is compared in one way.
-// No number of a record is above the last two.
+// A query as it is compared with a record's eight numbers, its lower corner turned, so that every number of a record is compared in one way.
+// No number of a record is above the last two. The corners stand in the order in which a box has them: a box that was passed is then read as
+// it was stored, and no load waits for two stores.
 pub struct Lanes {
-    pub high: BoundVertex,
     pub low: BoundVertex,
+    pub high: BoundVertex,
     pub first: i16,
     pub second: i16,
 }
@@ -44,8 +45,8 @@ pub fn lanes_of(q: Query) -> Lanes
     let max = q.max;
     let min = q.min;
     Lanes {
-        high: max,
         low: BoundVertex(turned(min.0), turned(min.1), turned(min.2)),
+        high: max,
         first: 32767,
         second: 32767,
     }

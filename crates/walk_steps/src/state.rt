@@ -225,15 +225,16 @@ impl WalkState {
         ensures { λ r. ⌜ Stepped (atNode (plainOf query) items (nodeAt (now («node_bytes» .entry)) (16 * self .at)) self) r ⌝ }
     {
         let n = node_numbered(node_bytes, self.at);
-        if crate::refusals::node_refused(n, self.at, self.last, items) {
+        let apart = crate::numbers::node_apart(node_bytes, 16 * self.at);
+        if crate::refusals::node_refused(apart, self.at, self.last, items) {
             return quiet(self.refused(WalkRefusal::NodeRecord));
         }
         if crate::boxes::meets(query, n.min, n.max, n.item_id, n.item_count) {
-            return self.hand_over(n, items);
+            return self.hand_over(apart, items);
         }
         quiet(WalkState {
             tree: self.tree,
-            at: self.at + stride(n),
+            at: self.at + stride(apart),
             last: self.last,
             reads: self.reads + 1,
             handed: self.handed,

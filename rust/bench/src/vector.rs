@@ -79,12 +79,18 @@ fn names(functions: &[&Function]) -> String {
     functions.iter().map(|f| f.name).collect::<Vec<_>>().join(", ")
 }
 
-/// One compare for the eight numbers of a record, where trees are passed over and where nodes are read.
+/// One compare for the eight numbers of a record, where trees are passed over and where nodes are read; and no number
+/// taken out of the vector, for which the loops would wait.
 fn walk(functions: &[Function]) -> Result<String, String> {
     let of = named(functions, &["walk"]);
-    let found = of.iter().flat_map(|f| &f.code).filter(|i| i.name == "pcmpgtw").count();
+    let count = |name: &str| of.iter().flat_map(|f| &f.code).filter(|i| i.name == name).count();
+    let (found, taken) = (count("pcmpgtw"), count("pextrw"));
     match found {
         _ if of.is_empty() => Err("walk: no function of that name in the archive".to_string()),
+        _ if taken > 0 => Err(format!(
+            "walk: {taken} pextrw in {}, none is wanted: a record's numbers are taken out of the vector, and not read again",
+            names(&of)
+        )),
         2.. => Ok(format!("walk: {found} pcmpgtw in {}", names(&of))),
         _ => Err(format!(
             "walk: {found} pcmpgtw in {}, two are wanted, of the tree loop and of the node loop: a record's numbers are \
@@ -284,6 +290,8 @@ mod tests {
         assert!(why.starts_with("has     walk") && why.contains("LACKS   counts: no function named"), "{why}");
         let once = WALK.replace("  18:\tpcmpgtw %xmm0,%xmm3\n", "");
         assert!(judged(&format!("{once}{COUNTS}")).expect_err("one").contains("walk: 1 pcmpgtw"));
+        let taken = format!("{WALK}  1c:\tpextrw $0x6,%xmm8,%esi\n");
+        assert!(judged(&format!("{taken}{COUNTS}")).expect_err("one").contains("walk: 1 pextrw in bounds_walk"));
     }
 
     #[test]

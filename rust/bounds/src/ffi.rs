@@ -220,7 +220,9 @@ pub fn tree_header(out: &mut [u8], bvh: Bvh) -> u32 {
     unsafe { bounds_tree_header(out.as_mut_ptr(), out.len(), bvh) }
 }
 
-/// `bounds_walk`.
+/// `bounds_walk`. Inlined: else the box is put together by eight bytes and four, and the copy that is passed waits for
+/// all of them.
+#[inline]
 pub fn walk(query: Aabb, cen: Vec3, inverse: Vec3, records: &Records, out: &mut [u16]) -> WalkAnswer {
     let &Records { node_bytes, nodes_count, tree_bytes, trees_count, items_count } = records;
     // SAFETY: each pointer comes from a slice and goes with that slice's length; the output, an exclusive borrow,

@@ -95,6 +95,7 @@ impl std::error::Error for Refused {}
 /// assert_eq!(all(&mut []).unwrap_err().refusal, Refusal::BufferTooShort);
 /// # Ok::<(), Box<dyn std::error::Error>>(())
 /// ```
+#[inline]
 pub fn walk(
     min: Vec3,
     max: Vec3,

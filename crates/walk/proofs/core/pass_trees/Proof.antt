@@ -2,10 +2,10 @@
 use Rattle.walk.proofs.core.pass_trees.Statement.{statement}
 use Rattle.walk.proofs.core.pass_trees.Tie as tie
 use Prim.Native.Nat.{_-_}
-use mathlib.Core.Path.{sym, ap, _∙_}
+use mathlib.Core.Path.{sym, _∙_}
 use native.Mathlib.Omega.{arith}
 use Rattle.walk_steps.specs.steps.Lanes.{plainOf}
-use Rattle.walk.specs.steps.Passing.{passesOver, PassedUpTo}
+use Rattle.walk.specs.steps.Passing.{PassedUpTo}
 use Rattle.walk.proofs.PassLaws.{none-passed, next-passed}
 
 abbrev Inv-loop : tie.InvT-loop
@@ -17,30 +17,27 @@ abbrev μ-loop : tie.MeasureT-loop
 loop-holds : tie.Need-loop-holds Inv-loop μ-loop
 loop-holds c = none-passed _ _ _ _ _ (c .before .pre .0 .0)
 
-mul-tree-at : tie.Need-mul-tree-at Inv-loop μ-loop
-mul-tree-at c = omega (arith, c .before .before .before .pre .0)
-
-tree-at-requires : tie.Need-tree-at-requires Inv-loop μ-loop
-tree-at-requires c κs = omega (arith, c .before .before .before .pre .0)
+mul-passes : tie.Need-mul-passes Inv-loop μ-loop
+mul-passes c = omega (arith, c .before .before .before .pre .0)
 
 passes-requires : tie.Need-passes-requires Inv-loop μ-loop
-passes-requires c κs = c .before .before .before .before .pre .1
+passes-requires c κs =
+    let p = c .before .before .before .pre in
+    (p .1, omega (arith, p .0))
 
 add-t : tie.Need-add-t Inv-loop μ-loop
-add-t c = omega (arith, c .before .before .before .before .before .before .pre .0)
+add-t c = omega (arith, c .before .before .before .before .before .pre .0)
 
 loop-less : tie.Need-loop-less Inv-loop μ-loop
-loop-less c = omega (arith, c .before .before .before .before .before .before .pre .0)
+loop-less c = omega (arith, c .before .before .before .before .before .pre .0)
 
 loop-again : tie.Need-loop-again Inv-loop μ-loop
 loop-again c =
-    let read = c .before .before in
-    let a = read .before .before .before .before .args in
-    let over = ap (passesOver (plainOf (a .query)) (a .nodes)) (sym (read .tree-at .ensures)) ∙ sym (c .before .passes .ensures) ∙ c .if1 .taken in
-    next-passed _ _ _ _ _ _ (read .before .before .loop .inv) (omega arith) over
+    let test = c .before in
+    next-passed _ _ _ _ _ _ (test .before .before .loop .inv) (omega arith) (sym (test .passes .ensures) ∙ c .if1 .taken)
 
 returns : tie.Need-returns Inv-loop μ-loop
-returns c = c .before .before .before .before .loop .inv
+returns c = c .before .before .before .loop .inv
 
 returns-2 : tie.Need-returns-2 Inv-loop μ-loop
 returns-2 c = c .before .loop .inv
@@ -52,8 +49,7 @@ pass-trees-spec =
     Inv-loop
     μ-loop
     loop-holds
-    mul-tree-at
-    tree-at-requires
+    mul-passes
     passes-requires
     add-t
     loop-less

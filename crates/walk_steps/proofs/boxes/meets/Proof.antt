@@ -25,8 +25,8 @@ returns c =
     let nf = min-read (max-read c) .struct-told .given in
     let xf = max-read c .struct-told7 .given in
     let lanes = c .struct-told14 .given in
-    let high = lanes .0 .1 .1 in
-    let low = lanes .1 .0 .1 .1 in
+    let low = lanes .0 .1 .1 in
+    let high = lanes .1 .0 .1 .1 in
     all-eight
     (below-high (n .0) (q .high .0) (nf .0 .1) (high .0 .1))
     (below-high (n .1) (q .high .1) (nf .1 .0 .1) (high .1 .0 .1))
