@@ -1,6 +1,6 @@
 -- The operations' numbers: those from 1 to 35, each of one operation; tables are read by them. Assumes nothing.
 use mathlib.Core.Path.{_≡_, refl, sym, ap, _∙_}
-use mathlib.Core.Bool.{Bool, true, false}
+use mathlib.Core.Bool.{Bool, true, false, _&&_}
 use mathlib.Core.List.{List, [], _∷_}
 use lib.Dec.{T, leb, eqb, leb→le, eqb→eq}
 use lib.ListN.{length, getD}
@@ -156,29 +156,26 @@ number-injective a b e = sym (found a) ∙ ap (λ (n : ℕ). getD ordered (n - 1
 
 -- ---- each number from 1 to 35 is an operation's
 
-abbrev both : Bool → Bool → Bool
-both true b = b
-both false b = false
+and-left : (a b : Bool) → T (a && b) → T a
+and-left true b t = tt
+and-left false b t = t
 
-both-left : (a b : Bool) → T (both a b) → T a
-both-left true b t = tt
-both-left false b t = t
-
-both-right : (a b : Bool) → T (both a b) → T b
-both-right true b t = t
-both-right false b t = absurd t
+and-right : (a b : Bool) → T (a && b) → T b
+and-right true b t = t
+and-right false b t = absurd t
 
 abbrev in-order : ℕ → List Operation → Bool
 in-order k [] = true
-in-order k (op ∷ ops) = both (eqb k (numberOf op)) (in-order (suc k) ops)
+in-order k (op ∷ ops) = eqb k (numberOf op) && in-order (suc k) ops
 
 in-place : (ops : List Operation) (k i : ℕ) → T (in-order k ops) → i < length ops → k + i ≡ numberOf (getD ops i Op.TransformBox)
 in-place [] k i t h = absurd (omega arith)
 in-place (op ∷ ops) k zero t h =
-    let e : k ≡ numberOf op = eqb→eq k (numberOf op) (both-left (eqb k (numberOf op)) (in-order (suc k) ops) t) in
+    let e : k ≡ numberOf op = eqb→eq k (numberOf op) (and-left (eqb k (numberOf op)) (in-order (suc k) ops) t) in
     omega arith
 in-place (op ∷ ops) k (suc i) t h =
-    let e : suc k + i ≡ numberOf (getD ops i Op.TransformBox) = in-place ops (suc k) i (both-right (eqb k (numberOf op)) (in-order (suc k) ops) t) (omega arith) in
+    let rest = and-right (eqb k (numberOf op)) (in-order (suc k) ops) t in
+    let e : suc k + i ≡ numberOf (getD ops i Op.TransformBox) = in-place ops (suc k) i rest (omega arith) in
     omega arith
 
 pub record Has (n : ℕ) : Type 0 where
@@ -208,12 +205,12 @@ beyond (suc k) n a h =
 
 abbrev all-few : List ℕ → Bool
 all-few [] = true
-all-few (x ∷ xs) = both (leb x 28) (all-few xs)
+all-few (x ∷ xs) = leb x 28 && all-few xs
 
 few-in : (xs : List ℕ) (i : ℕ) → T (all-few xs) → getD xs i 0 ≤ 28
 few-in [] i t = omega arith
-few-in (x ∷ xs) zero t = leb→le x 28 (both-left (leb x 28) (all-few xs) t)
-few-in (x ∷ xs) (suc i) t = few-in xs i (both-right (leb x 28) (all-few xs) t)
+few-in (x ∷ xs) zero t = leb→le x 28 (and-left (leb x 28) (all-few xs) t)
+few-in (x ∷ xs) (suc i) t = few-in xs i (and-right (leb x 28) (all-few xs) t)
 
 pub count-few : (i : ℕ) → getD countTable i 0 ≤ 28
 unfolding countTable
