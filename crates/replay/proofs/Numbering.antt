@@ -1,10 +1,10 @@
--- The operations' numbers: they lie between 1 and 35, no two operations share one, and tables are read by them. Assumes nothing.
+-- The operations' numbers: those from 1 to 35, each of one operation; tables are read by them. Assumes nothing.
 use mathlib.Core.Path.{_≡_, refl, sym, ap, _∙_}
-use mathlib.Core.Bool.{Bool, true, false}
+use mathlib.Core.Bool.{Bool, true, false, _&&_}
 use mathlib.Core.List.{List, [], _∷_}
-use lib.Dec.{T, leb, leb→le}
-use lib.ListN.{getD}
-use Prim.Native.Nat.{ℕ, zero, suc, _≤_, _<_}
+use lib.Dec.{T, leb, eqb, leb→le, eqb→eq}
+use lib.ListN.{length, getD}
+use Prim.Native.Nat.{ℕ, zero, suc, _+_, _-_, _≤_, _<_}
 use native.Mathlib.Omega.{arith}
 use Rattle.replay.specs.Operations.{numberOf, inputsOf, countOf}
 use Rattle.replay.specs.declared.operation.Operation.{Operation}
@@ -71,11 +71,12 @@ numbered (Op.Point Vp.Abs) = record { least = omega arith; most = omega arith; i
 numbered (Op.Factor F.Scale) = record { least = omega arith; most = omega arith; inputs = refl; count = refl }
 numbered (Op.Factor F.VaddF) = record { least = omega arith; most = omega arith; inputs = refl; count = refl }
 
+-- ---- no two operations share a number
+
 -- the operations in the order of their numbers
 ordered : List Operation
 ordered =
-    Op.TransformBox
-    ∷ Op.Word W.ValueBits
+    Op.Word W.ValueBits
     ∷ Op.Pair P.Relate
     ∷ Op.Pair P.CmpF32
     ∷ Op.Pair P.KeyOrder
@@ -112,7 +113,7 @@ ordered =
     ∷ Op.Factor F.VaddF
     ∷ []
 
-found : (op : Operation) → getD ordered (numberOf op) Op.TransformBox ≡ op
+found : (op : Operation) → getD ordered (numberOf op - 1) Op.TransformBox ≡ op
 unfolding ordered
 found (Op.Word W.ValueBits) = refl
 found (Op.Word W.ToI32) = refl
@@ -151,7 +152,42 @@ found (Op.Factor F.Scale) = refl
 found (Op.Factor F.VaddF) = refl
 
 pub number-injective : (a b : Operation) → numberOf a ≡ numberOf b → a ≡ b
-number-injective a b e = sym (found a) ∙ ap (λ (n : ℕ). getD ordered n Op.TransformBox) e ∙ found b
+number-injective a b e = sym (found a) ∙ ap (λ (n : ℕ). getD ordered (n - 1) Op.TransformBox) e ∙ found b
+
+-- ---- each number from 1 to 35 is an operation's
+
+and-left : (a b : Bool) → T (a && b) → T a
+and-left true b t = tt
+and-left false b t = t
+
+and-right : (a b : Bool) → T (a && b) → T b
+and-right true b t = t
+and-right false b t = absurd t
+
+abbrev in-order : ℕ → List Operation → Bool
+in-order k [] = true
+in-order k (op ∷ ops) = eqb k (numberOf op) && in-order (suc k) ops
+
+in-place : (ops : List Operation) (k i : ℕ) → T (in-order k ops) → i < length ops → k + i ≡ numberOf (getD ops i Op.TransformBox)
+in-place [] k i t h = absurd (omega arith)
+in-place (op ∷ ops) k zero t h =
+    let e : k ≡ numberOf op = eqb→eq k (numberOf op) (and-left (eqb k (numberOf op)) (in-order (suc k) ops) t) in
+    omega arith
+in-place (op ∷ ops) k (suc i) t h =
+    let rest = and-right (eqb k (numberOf op)) (in-order (suc k) ops) t in
+    let e : suc k + i ≡ numberOf (getD ops i Op.TransformBox) = in-place ops (suc k) i rest (omega arith) in
+    omega arith
+
+pub record Has (n : ℕ) : Type 0 where
+  pub op : Operation
+  pub named : n ≡ numberOf op
+
+pub has : (n : ℕ) → 1 ≤ n → n ≤ 35 → Has n
+unfolding ordered
+has n h l =
+    let within : n - 1 < 35 = omega arith in
+    let e : 1 + (n - 1) ≡ numberOf (getD ordered (n - 1) Op.TransformBox) = in-place ordered 1 (n - 1) tt within in
+    record { op = getD ordered (n - 1) Op.TransformBox; named = omega arith }
 
 -- n is none of the numbers from 1 to k, as a `match` with those arms leaves it.
 abbrev pub Apart : ℕ → ℕ → Type 0
@@ -167,26 +203,14 @@ beyond (suc k) n a h =
 
 -- ---- no entry of the table of counts is above 28
 
-abbrev both : Bool → Bool → Bool
-both true b = b
-both false b = false
-
-both-left : (a b : Bool) → T (both a b) → T a
-both-left true b t = tt
-both-left false b t = t
-
-both-right : (a b : Bool) → T (both a b) → T b
-both-right true b t = t
-both-right false b t = absurd t
-
 abbrev all-few : List ℕ → Bool
 all-few [] = true
-all-few (x ∷ xs) = both (leb x 28) (all-few xs)
+all-few (x ∷ xs) = leb x 28 && all-few xs
 
 few-in : (xs : List ℕ) (i : ℕ) → T (all-few xs) → getD xs i 0 ≤ 28
 few-in [] i t = omega arith
-few-in (x ∷ xs) zero t = leb→le x 28 (both-left (leb x 28) (all-few xs) t)
-few-in (x ∷ xs) (suc i) t = few-in xs i (both-right (leb x 28) (all-few xs) t)
+few-in (x ∷ xs) zero t = leb→le x 28 (and-left (leb x 28) (all-few xs) t)
+few-in (x ∷ xs) (suc i) t = few-in xs i (and-right (leb x 28) (all-few xs) t)
 
 pub count-few : (i : ℕ) → getD countTable i 0 ≤ 28
 unfolding countTable

@@ -1,5 +1,5 @@
 -- The line of a recorded case, without its end. Definitions only.
-use Prim.Native.Nat.{ℕ, _-_, _^_, _≤_, _<_}
+use Prim.Native.Nat.{ℕ, _-_, _^_, _<_}
 use mathlib.Core.Path.{_≡_}
 use mathlib.Core.Bool.{Bool, true, false, cond}
 use lib.Dec.{ltb}
@@ -40,7 +40,13 @@ abbrev pub Fields : List ℕ → ℕ → List ℕ → Bool → Type 0
 Fields text n ws true = text ≡ fieldsOf ws
 Fields text n ws false = (vs : List ℕ) → length vs ≡ n → text ≡ fieldsOf vs → ⊥
 
--- What a line says: a number from 1 to 35, which is one operation's, and words of which it is that operation's line; or Bad where it is no such line.
+-- The line is that of the operation of number n, with the words at the start of ws.
+pub record Says (n : ℕ) (line ws : List ℕ) : Type 0 where
+  pub op : Operation
+  pub named : n ≡ numberOf op
+  pub same : line ≡ lineOf op (take (countOf op) ws)
+
+-- What a line says: the number of its operation, with its words, or Bad where it is the line of none.
 abbrev pub Parses : List ℕ → List ℕ → Parsed → Type 0
-Parses line ws (P.Case n) = (1 ≤ n) × (n ≤ 35) × ((op : Operation) → n ≡ numberOf op → line ≡ lineOf op (take (countOf op) ws))
+Parses line ws (P.Case n) = Says n line ws
 Parses line ws P.Bad = (op : Operation) (vs : List ℕ) → length vs ≡ countOf op → line ≡ lineOf op vs → ⊥

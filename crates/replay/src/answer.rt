@@ -22,7 +22,8 @@ use math::words3::Words3;
 ghost use mathlib.Core.Path.{_≡_};
 ghost use Prim.Native.Nat.{_+_, _≤_};
 ghost use lib.ListN.{length};
-ghost use Rattle.replay.specs.Answers.{wordAnswer, pairAnswer, pointAt, rowAt, matrixAt, pointsAnswer, pointAnswer, factorAnswer, transformAnswer, answerOf};
+ghost use Rattle.replay.specs.Answers.{pointAt, rowAt, matrixAt, answerOf};
+ghost use Rattle.replay.specs.Answers.{wordAnswer, pairAnswer, pointAnswer, pointsAnswer, factorAnswer, transformAnswer};
 ghost use Rattle.replay.specs.Answers.{three as threeOf, four as fourOf, six as sixOf};
 ghost use Rattle.replay.specs.Operations.{inputsOf};
 

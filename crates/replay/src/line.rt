@@ -81,6 +81,7 @@ pub fn parse(line: &[u8], words: &mut [u32]) -> Parsed
     let Spelled::Number(n) = number(&line[..2]) else {
         return Parsed::Bad;
     };
+    // The operations' numbers are those from 1 to 35.
     if n < 1 {
         return Parsed::Bad;
     }

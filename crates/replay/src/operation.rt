@@ -115,7 +115,7 @@ pub fn of_number(n: u32) -> Operation
     }
 }
 
-// How many words the operation of a number takes.
+// How many words the operation of a number takes. Number 0 has none.
 const INPUTS: [usize; 36] = [
     0,
     1,

@@ -2,12 +2,18 @@
 use borrow.Author.Needs.{needs}
 use Rattle.replay.proofs.answer.of_pair.Statement.{statement}
 use Rattle.replay.proofs.answer.of_pair.Tie as tie
-use mathlib.Core.Path.{ap, ap₂, _∙_}
+use mathlib.Core.Path.{_≡_, ap, ap₂, _∙_}
+use lib.Ieee.{Float}
 use Rattle.float32.specs.Comparison.{relationOf}
 use Rattle.float32.specs.Extremes.{vminOf, vmaxOf, minNumberOf, maxNumberOf}
 use Rattle.float32.specs.SortOrder.{cmpOf}
-use Rattle.replay.specs.Answers.{word}
+use Rattle.replay.specs.Answers.{float, word}
 use Rattle.replay.specs.Numbers.{relationNumber, orderingNumber, orderOf}
+
+-- what is made of the two floats is made of the words' values
+of-values : {A : Type 0} (f : Float → Float → A) (c : tie.After-value2)
+    → f (c .before .value .result) (c .value2 .result) ≡ f (float (c .before .before .args .a)) (float (c .before .before .args .b))
+of-values f c = ap₂ f (c .before .value .ensures) (c .value2 .ensures)
 
 value-requires : tie.Need-value-requires
 value-requires c κs = tt
@@ -98,11 +104,13 @@ bits-requires-4 c κs = tt
 
 returns : tie.Need-returns
 returns c =
-    rw (c .before .before .enum-told .given .1) (c .relation .ensures ∙ ap relationNumber (c .before .relate .ensures ∙ ap₂ relationOf (c .before .before .before .before .before .value .ensures) (c .before .before .before .before .value2 .ensures)))
+    let of-words = c .before .relate .ensures ∙ of-values relationOf (c .before .before .before .before) in
+    rw (c .before .before .enum-told .given .1) (c .relation .ensures ∙ ap relationNumber of-words)
 
 returns-2 : tie.Need-returns-2
 returns-2 c =
-    rw (c .before .before .enum-told2 .given .1) (c .ordering .ensures ∙ ap orderingNumber (c .before .cmp-f32 .ensures ∙ ap₂ cmpOf (c .before .before .before .before .before .value .ensures) (c .before .before .before .before .value2 .ensures)))
+    let of-words = c .before .cmp-f32 .ensures ∙ of-values cmpOf (c .before .before .before .before) in
+    rw (c .before .before .enum-told2 .given .1) (c .ordering .ensures ∙ ap orderingNumber of-words)
 
 returns-3 : tie.Need-returns-3
 returns-3 c =
@@ -117,19 +125,23 @@ returns-5 c = rw (c .before .enum-told5 .given .1) (c .vmax-word .ensures)
 
 returns-6 : tie.Need-returns-6
 returns-6 c =
-    rw (c .before .before .enum-told6 .given .1) (c .bits .ensures ∙ ap word (c .before .min-number .ensures ∙ ap₂ minNumberOf (c .before .before .before .before .before .value .ensures) (c .before .before .before .before .value2 .ensures)))
+    let of-words = c .before .min-number .ensures ∙ of-values minNumberOf (c .before .before .before .before) in
+    rw (c .before .before .enum-told6 .given .1) (c .bits .ensures ∙ ap word of-words)
 
 returns-7 : tie.Need-returns-7
 returns-7 c =
-    rw (c .before .before .enum-told7 .given .1) (c .bits2 .ensures ∙ ap word (c .before .max-number .ensures ∙ ap₂ maxNumberOf (c .before .before .before .before .before .value .ensures) (c .before .before .before .before .value2 .ensures)))
+    let of-words = c .before .max-number .ensures ∙ of-values maxNumberOf (c .before .before .before .before) in
+    rw (c .before .before .enum-told7 .given .1) (c .bits2 .ensures ∙ ap word of-words)
 
 returns-8 : tie.Need-returns-8
 returns-8 c =
-    rw (c .before .before .enum-told8 .given .1) (c .bits3 .ensures ∙ ap word (c .before .vmin .ensures ∙ ap₂ vminOf (c .before .before .before .before .before .value .ensures) (c .before .before .before .before .value2 .ensures)))
+    let of-words = c .before .vmin .ensures ∙ of-values vminOf (c .before .before .before .before) in
+    rw (c .before .before .enum-told8 .given .1) (c .bits3 .ensures ∙ ap word of-words)
 
 returns-9 : tie.Need-returns-9
 returns-9 c =
-    rw (c .before .before .enum-told9 .given .1) (c .bits4 .ensures ∙ ap word (c .before .vmax .ensures ∙ ap₂ vmaxOf (c .before .before .before .before .before .value .ensures) (c .before .before .before .before .value2 .ensures)))
+    let of-words = c .before .vmax .ensures ∙ of-values vmaxOf (c .before .before .before .before) in
+    rw (c .before .before .enum-told9 .given .1) (c .bits4 .ensures ∙ ap word of-words)
 
 pub of-pair-spec : {M : Type 1} → statement M
 of-pair-spec =

@@ -91,21 +91,25 @@ returns c = rw (c .before .enum-told .given .1) (c .bits .ensures ∙ ap word (c
 returns-2 : tie.Need-returns-2
 returns-2 c =
     let f : SFits w32 (c .before .to-i32 .result) = record { sfits = c .before .to-i32 .ok } in
-    rw (c .before .before .enum-told2 .given .1) (c .signed .ensures ∙ ap signedWord (toZ-ofZ f ∙ c .before .to-i32 .ensures ∙ ap castI32 (c .before .before .before .before .value .ensures)))
+    let cast-is = toZ-ofZ f ∙ c .before .to-i32 .ensures ∙ ap castI32 (c .before .before .before .before .value .ensures) in
+    rw (c .before .before .enum-told2 .given .1) (c .signed .ensures ∙ ap signedWord cast-is)
 
 returns-3 : tie.Need-returns-3
 returns-3 c =
     let f : SFits w16 (c .before .to-short .result) = record { sfits = c .before .to-short .ok } in
-    rw (c .before .before .enum-told3 .given .1) (c .signed-short .ensures ∙ ap signedWord (toZ-ofZ f ∙ c .before .to-short .ensures ∙ ap shortOf (c .before .before .before .before .value .ensures)))
+    let cast-is = toZ-ofZ f ∙ c .before .to-short .ensures ∙ ap shortOf (c .before .before .before .before .value .ensures) in
+    rw (c .before .before .enum-told3 .given .1) (c .signed-short .ensures ∙ ap signedWord cast-is)
 
 returns-4 : tie.Need-returns-4
 returns-4 c =
     let f : SFits w16 (c .before .vertex-value .result) = record { sfits = c .before .vertex-value .ok } in
-    rw (c .before .before .enum-told4 .given .1) (c .signed-short2 .ensures ∙ ap signedWord (toZ-ofZ f ∙ c .before .vertex-value .ensures ∙ ap vertexOf (c .before .before .before .before .value .ensures)))
+    let cast-is = toZ-ofZ f ∙ c .before .vertex-value .ensures ∙ ap vertexOf (c .before .before .before .before .value .ensures) in
+    rw (c .before .before .enum-told4 .given .1) (c .signed-short2 .ensures ∙ ap signedWord cast-is)
 
 returns-5 : tie.Need-returns-5
 returns-5 c =
-    rw (c .before .before .enum-told5 .given .1) (c .bits2 .ensures ∙ ap word (c .before .sqrt .ensures ∙ ap (sqrtOf binary32) (c .before .before .before .before .value .ensures)))
+    let sqrt-is = c .before .sqrt .ensures ∙ ap (sqrtOf binary32) (c .before .before .before .before .value .ensures) in
+    rw (c .before .before .enum-told5 .given .1) (c .bits2 .ensures ∙ ap word sqrt-is)
 
 returns-6 : tie.Need-returns-6
 returns-6 c = rw (c .before .before .enum-told6 .given .1) (c .bits3 .ensures ∙ ap word (c .before .of-count .ensures))
@@ -115,7 +119,8 @@ returns-7 c = rw (c .before .enum-told7 .given .1) (c .order-key .ensures)
 
 returns-8 : tie.Need-returns-8
 returns-8 c =
-    rw (c .before .before .enum-told8 .given .1) (c .bits4 .ensures ∙ ap word (c .before .abs .ensures ∙ ap absOf (c .before .before .before .before .value .ensures)))
+    let abs-is = c .before .abs .ensures ∙ ap absOf (c .before .before .before .before .value .ensures) in
+    rw (c .before .before .enum-told8 .given .1) (c .bits4 .ensures ∙ ap word abs-is)
 
 pub of-word-spec : {M : Type 1} → statement M
 of-word-spec =

@@ -15,7 +15,7 @@ use Rattle.replay.specs.Operations.{numberOf, countOf}
 use Rattle.replay.specs.declared.line.Spelled.the-variants as S
 use Rattle.replay.specs.declared.operation.Operation.{Operation}
 use Rattle.replay.proofs.LineLaws.{line-length, line-number, line-fields, line-made, line-names}
-use Rattle.replay.proofs.Numbering.{numbered}
+use Rattle.replay.proofs.Numbering.{numbered, has}
 use Rattle.replay.proofs.Spelling.{spelt-in, none-in}
 
 -- The line, and the number that its first two bytes spell.
@@ -118,14 +118,11 @@ returns-6 c =
     let words = c .before .before .before .fields .last .1 .0 in
     let Found = Fields (take (length line - 2) (drop 2 line)) (count-at o) (take (count-at o) words) in
     let read : Found true = subst Found (c .if5 .taken) (c .before .before .before .fields .ensures) in
-    let number-is = digits-read (spelt o) .0 in (
-      omega (arith, o .before .before .if2 .left),
-      omega (arith, o .before .if3 .left),
-      λ op e.
-          let counted = o .count .ensures .0 op e in
-          let fields-are = sym (lent line) ∙ read ∙ ap (λ (k : ℕ). fieldsOf (take k words)) counted in
-          line-made line op (take (countOf op) words) (number-is ∙ ap (digits 16 2) e) fields-are,
-    )
+    let it = has (number-at (spelt o)) (omega (arith, o .before .before .if2 .left)) (omega (arith, o .before .if3 .left)) in
+    let number-is = digits-read (spelt o) .0 ∙ ap (digits 16 2) (it .named) in
+    let counted = o .count .ensures .0 (it .op) (it .named) in
+    let fields-are = sym (lent line) ∙ read ∙ ap (λ (k : ℕ). fieldsOf (take k words)) counted in
+    record { op = it .op; named = it .named; same = line-made line (it .op) (take (countOf (it .op)) words) number-is fields-are }
 
 same-length-2 : tie.Need-same-length-2
 same-length-2 c = search needs

@@ -12,6 +12,7 @@ use Rattle.replay.specs.Lines.{lineOf, Parses}
 use Rattle.replay.specs.Outcomes.{Holds, Agrees, Case}
 use Rattle.replay.specs.declared.line.Parsed.the-variants as Parsed
 use Rattle.replay.specs.Operations.{countOf}
+use Rattle.replay.proofs.Numbering.{numbered, number-injective}
 use Rattle.replay.specs.declared.operation.Operation.{Operation}
 
 -- What the parser says of the line.
@@ -52,14 +53,17 @@ case-of c P found =
     let op = op-at at in
     let all = read-at at in
     let count = count-at at in
+    let said = read (at .before .before .before) in
     let named = at .before .before .of-number .ensures in
+    let is = number-injective (said .op) op (sym (said .named) ∙ named) in
+    let whole-line = subst (λ (o : Operation). line-at at ≡ lineOf o (take (countOf o) all)) is (said .same) in
     record {
       op = op;
       words = take count all;
       named = named;
       whole = length-take-le count all (room at) ∙ counted at;
       fits = c .judge .ensures .1;
-      same = read (at .before .before .before) .2 op named ∙ ap (λ (k : ℕ). lineOf op (take k all)) (sym (counted at));
+      same = whole-line ∙ ap (λ (k : ℕ). lineOf op (take k all)) (sym (counted at));
       judged = found;
     }
 
@@ -76,13 +80,19 @@ enum-known-n : tie.Need-enum-known-n
 enum-known-n c = search needs
 
 of-number-requires : tie.Need-of-number-requires
-of-number-requires c κs = (read c .0, read c .1)
+of-number-requires c κs =
+    let said = read c in
+    (omega (arith, said .named, numbered (said .op) .least), omega (arith, said .named, numbered (said .op) .most))
 
 count-requires : tie.Need-count-requires
-count-requires c κs = omega (arith, read (c .before) .1)
+count-requires c κs =
+    let said = read (c .before) in
+    omega (arith, said .named, numbered (said .op) .most)
 
 inputs-requires : tie.Need-inputs-requires
-inputs-requires c κs = omega (arith, read (c .before .before) .1)
+inputs-requires c κs =
+    let said = read (c .before .before) in
+    omega (arith, said .named, numbered (said .op) .most)
 
 array-share-prefix-words : tie.Need-array-share-prefix-words
 array-share-prefix-words c = room c

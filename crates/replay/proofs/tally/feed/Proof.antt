@@ -40,26 +40,29 @@ loop-again c =
     let turn = stepped .before .before .before .before .before in
     let l = turn .before .loop in
     let k = l .inv in
-    let next = taken _ _ _ _ _ (turn .loop-test .taken) (k .8) (stepped .step .ensures .1) in (
+    let kept = stepped .step .kept in
+    let last = stepped .step .last in
+    let now = stateOf (take (stepped .step .result) (last .0)) (last .1 .1 .1 .0) (last .1 .1 .1 .1 .0) in
+    let next = taken _ _ _ _ now (turn .loop-test .taken) (k .8) (stepped .step .ensures .1) in (
       omega arith,
       stepped .step .ensures .0,
-      search needs,
-      search needs,
-      search needs,
-      search needs,
-      search needs,
-      search needs,
+      omega (arith, kept .0, k .2),
+      omega (arith, kept .1 .1 .1 .0, k .3),
+      omega (arith, kept .1 .1 .1 .1 .0, k .4),
+      omega (arith, kept .0, k .5),
+      omega (arith, kept .1 .1 .1 .0, k .6),
+      omega (arith, kept .1 .1 .1 .1 .0, k .7),
       next,
     )
 
 same-length : tie.Need-same-length Inv-loop μ-loop
-same-length c = search needs
+same-length c = c .before .loop .inv .5
 
 same-length-2 : tie.Need-same-length-2 Inv-loop μ-loop
-same-length-2 c = search needs
+same-length-2 c = c .before .loop .inv .6
 
 same-length-3 : tie.Need-same-length-3 Inv-loop μ-loop
-same-length-3 c = search needs
+same-length-3 c = c .before .loop .inv .7
 
 returns : tie.Need-returns Inv-loop μ-loop
 returns c =
