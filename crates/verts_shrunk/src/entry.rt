@@ -1,13 +1,14 @@
 // The shrunk vertices of polygon records over their vertices.
-use crate::whole::Geometry;
 use corners::kinds_known;
 use shrink::margin::Margin;
+use shrinking::whole::Geometry;
+use shrinking::whole::infinite_start;
 ghost use mathlib.Core.Path.{_≡_};
 ghost use Prim.Native.Nat.{_+_, _*_, _≤_};
 ghost use lib.ListN.{length};
-ghost use Rattle.shrinking.specs.Whole.{ShrunkTo};
-ghost use Rattle.shrinking.specs.Answers.{meshIn, shortOf, short, infiniteStart, shrunkBy, Answered};
-ghost use Rattle.shrinking.specs.steps.Work.{Lent};
+ghost use Rattle.shrinking.specs.Whole.{meshIn, ShrunkTo};
+ghost use Rattle.verts_shrunk.specs.Answers.{shortOf, short, shrunkBy, Answered};
+ghost use Rattle.verts_shrunk.specs.steps.Work.{Lent};
 
 // Why nothing is shrunk.
 pub enum ShrinkRefusal {
@@ -88,14 +89,6 @@ fn too_short(n: usize, v: usize, l: Lengths) -> bool
     l.news < 9 * n
 }
 
-// Whether the margin to begin with is +infinity, which a NaN is not.
-pub fn infinite_start(g: Geometry) -> bool
-    ensures { λ r. ⌜ r ≡ infiniteStart g ⌝ }
-{
-    let start = shrink::margin::start_margin(g.margin, g.extent.min, g.extent.max);
-    start == float32::words::value(0x7f80_0000)
-}
-
 fn shrunk_by(m: Margin) -> Shrunk
     ensures { λ r. ⌜ r ≡ shrunkBy m ⌝ }
 {
@@ -129,7 +122,7 @@ fn shrink_polygons(
     corners::unpack_corners(polygons, n, corners);
     let words = 3 * n;
     edges::links::links_of(&corners[..words], tri, firsts, spare, links);
-    crate::whole::shrunk_points(
+    shrinking::whole::shrunk_points(
         geometry,
         &corners[..words],
         &links[..words],

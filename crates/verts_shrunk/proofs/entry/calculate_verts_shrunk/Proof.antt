@@ -1,18 +1,28 @@
 -- `entry::calculate_verts_shrunk` meets its contract: each answer by its tests, with the laws of Answering.
 use borrow.Author.Needs.{needs}
-use Rattle.shrinking.proofs.entry.calculate_verts_shrunk.Statement.{statement}
-use Rattle.shrinking.proofs.entry.calculate_verts_shrunk.Tie as tie
+use Rattle.verts_shrunk.proofs.entry.calculate_verts_shrunk.Statement.{statement}
+use Rattle.verts_shrunk.proofs.entry.calculate_verts_shrunk.Tie as tie
 use mathlib.Core.Path.{sym, _∙_}
 use Prim.Native.Nat.{_*_}
-use lib.Seq.{length-take-le}
+use lib.Seq.{length-take-le, length-front}
 use borrow.Author.Tests.{not-true, not-false}
-use Rattle.shrinking.specs.declared.entry.Lengths.{Lengths}
-use Rattle.shrinking.proofs.entry.Answering.{room, lengthsOf, lent, many-polygons, many-vertices, too-small, unknown, none-there, infinite, served}
+use Rattle.verts_shrunk.specs.declared.entry.Lengths.{Lengths}
+use Rattle.verts_shrunk.proofs.entry.Answering.{room, lengthsOf, lent, many-polygons, many-vertices, too-small, unknown, none-there, infinite, served}
 
 abbrev sizes : tie.Start → Lengths
 sizes s =
     lengthsOf (s .args .polygons .now) (s .args .vertices .now) (s .args .points .now) (s .args .corners .now) (s .args .tri .now) (s .args .firsts .now)
     (s .args .spare .now) (s .args .links .now) (s .args .normals .now) (s .args .olds .now) (s .args .news .now)
+
+-- from the end back to the call, and to the start
+abbrev called : tie.After-shrunk-by → tie.After-shrink-polygons
+called c =
+    c .before .before .before .before .before .before .before .before .before .before .before .before .before .before .before .before .before .before .before
+
+abbrev begun : tie.After-shrunk-by → tie.Start
+begun c =
+    let t = called c .before .before .before .before .before .before .before .before .before .before .before .before .before .before .before .before in
+    t .before .before .before .before .before .before .before .before .before .before .before .before .before .before
 
 returns : tie.Need-returns
 returns c =
@@ -103,36 +113,37 @@ shrunk-by-requires : tie.Need-shrunk-by-requires
 shrunk-by-requires c κs = search needs
 
 same-length : tie.Need-same-length
-same-length c = search needs
+same-length c =
+    length-front (begun c .args .points .now) (called c .shrink-polygons .last .1 .1 .1 .1 .1 .0) (3 * begun c .args .v)
+    (called c .shrink-polygons .kept .1 .1 .1 .1 .1 .0)
 
 same-length-2 : tie.Need-same-length-2
-same-length-2 c = search needs
+same-length-2 c = called c .shrink-polygons .kept .1 .1 .1 .1 .1 .1 .0
 
 same-length-3 : tie.Need-same-length-3
-same-length-3 c = search needs
+same-length-3 c = called c .shrink-polygons .kept .1 .1 .1 .1 .1 .1 .1 .0
 
 same-length-4 : tie.Need-same-length-4
-same-length-4 c = search needs
+same-length-4 c = called c .shrink-polygons .kept .1 .1 .1 .1 .1 .1 .1 .1 .0
 
 same-length-5 : tie.Need-same-length-5
-same-length-5 c = search needs
+same-length-5 c = called c .shrink-polygons .kept .1 .1 .1 .1 .1 .1 .1 .1 .1 .0
 
 same-length-6 : tie.Need-same-length-6
-same-length-6 c = search needs
+same-length-6 c = called c .shrink-polygons .kept .1 .1 .1 .1 .1 .1 .1 .1 .1 .1 .0
 
 same-length-7 : tie.Need-same-length-7
-same-length-7 c = search needs
+same-length-7 c = called c .shrink-polygons .kept .1 .1 .1 .1 .1 .1 .1 .1 .1 .1 .1 .0
 
 same-length-8 : tie.Need-same-length-8
-same-length-8 c = search needs
+same-length-8 c = called c .shrink-polygons .kept .1 .1 .1 .1 .1 .1 .1 .1 .1 .1 .1 .1 .0
 
 same-length-9 : tie.Need-same-length-9
-same-length-9 c = search needs
+same-length-9 c = called c .shrink-polygons .kept .1 .1 .1 .1 .1 .1 .1 .1 .1 .1 .1 .1 .1 .0
 
 returns-7 : tie.Need-returns-7
 returns-7 c =
-    let call = c .before .before .before .before .before .before .before .before .before .before .before .before .before .before .before .before .before
-    .before .before in
+    let call = called c in
     let w = call .before .before .before .before .before .before .before .before .before .before in
     let u = w .before .before .before .before .before in
     let t = u .before in

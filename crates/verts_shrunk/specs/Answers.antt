@@ -4,26 +4,18 @@ use mathlib.Core.Bool.{Bool, cond, not, _||_}
 use mathlib.Core.List.{List}
 use mathlib.Core.Path.{_≡_}
 use lib.Dec.{eqb, ltb}
-use lib.Ieee.{Float, binary32, ofBits, eq}
 use Rattle.base.specs.Lists.{over}
-use Rattle.corners.specs.Corners.{kindsKnown, cornersOf}
-use Rattle.sides.specs.Links.{linksOf}
-use Rattle.rings.specs.Meshes.{Mesh, meshOf}
+use Rattle.corners.specs.Corners.{kindsKnown}
 use Rattle.shrink.specs.declared.margin.Margin.{Margin}
 use Rattle.shrink.specs.declared.margin.Margin.the-variants.{Passed, NonePasses}
-use Rattle.shrink.specs.Margins.{startOf}
 use Rattle.shrink.specs.Shrinking.{shrinkMargin}
+use Rattle.shrinking.specs.Whole.{meshIn, boundOf, infiniteStart, shrunkOf}
 use Rattle.shrinking.specs.declared.whole.Geometry.{Geometry}
-use Rattle.shrinking.specs.declared.entry.Lengths.{Lengths}
-use Rattle.shrinking.specs.declared.entry.ShrinkRefusal.{ShrinkRefusal}
-use Rattle.shrinking.specs.declared.entry.ShrinkRefusal.the-variants.{TooManyPolygons, TooManyVertices, BufferTooShort, UnknownKind, InfiniteMargin}
-use Rattle.shrinking.specs.declared.entry.Shrunk.{Shrunk}
-use Rattle.shrinking.specs.declared.entry.Shrunk.the-variants.{ByMargin, ByNormals, NoVertices, Refused}
-use Rattle.shrinking.specs.Whole.{boundOf, shrunkOf}
-
--- the mesh of n records and v vertices. The links are rule E2's: those in the records do not matter.
-abbrev pub meshIn : ℕ → List ℕ → ℕ → List ℕ → Mesh
-meshIn n polygons v vertices = meshOf (cornersOf n polygons) (linksOf (cornersOf n polygons)) n vertices v
+use Rattle.verts_shrunk.specs.declared.entry.Lengths.{Lengths}
+use Rattle.verts_shrunk.specs.declared.entry.ShrinkRefusal.{ShrinkRefusal}
+use Rattle.verts_shrunk.specs.declared.entry.ShrinkRefusal.the-variants.{TooManyPolygons, TooManyVertices, BufferTooShort, UnknownKind, InfiniteMargin}
+use Rattle.verts_shrunk.specs.declared.entry.Shrunk.{Shrunk}
+use Rattle.verts_shrunk.specs.declared.entry.Shrunk.the-variants.{ByMargin, ByNormals, NoVertices, Refused}
 
 -- ---- the sizes
 
@@ -42,14 +34,6 @@ short n v l =
     || ltb (l .normals) (3 * n) || ltb (l .olds) (9 * n) || ltb (l .news) (9 * n)
 
 -- ---- the answer
-
-abbrev pub infinity : Float
-infinity = ofBits binary32 0x7f80_0000
-
--- Rule S10 (01, Prepare, 7): the starting margin is +infinity.
-unfoldable pub infiniteStart : Geometry → Bool
-unfolding startOf
-infiniteStart g = eq (startOf (g .margin) (g .extent .min) (g .extent .max)) infinity
 
 abbrev pub shrunkBy : Margin → Shrunk
 shrunkBy (Passed m) = ByMargin m

@@ -14,10 +14,10 @@ use Rattle.sides.specs.Links.{linksOf, Room}
 use Rattle.rings.specs.Meshes.{meshOf}
 use Rattle.rings.proofs.LinkedLaws.{links-serve}
 use Rattle.shrink.specs.declared.margin.Margin.{Margin}
 use Rattle.shrinking.specs.declared.whole.Geometry.{Geometry}
-use Rattle.shrinking.specs.Answers.{meshIn}
-use Rattle.shrinking.specs.Whole.{ShrunkTo}
-use Rattle.shrinking.specs.steps.Work.{Meshed, Lent}
+use Rattle.shrinking.specs.Whole.{meshIn, ShrunkTo}
+use Rattle.shrinking.specs.steps.Work.{Meshed}
+use Rattle.verts_shrunk.specs.steps.Work.{Lent}
 
 module _ (n : ℕ) (polygons corners₀ corners : List ℕ) (e : corners ≡ over (cornersOf n polygons) corners₀) where
   unpacked : take (3 * n) corners ≡ cornersOf n polygons

@@ -1,9 +1,9 @@
 -- `entry::shrunk_by` meets its contract: each case of the margin.
 use borrow.Author.Needs.{needs}
-use Rattle.shrinking.proofs.entry.shrunk_by.Statement.{statement}
-use Rattle.shrinking.proofs.entry.shrunk_by.Tie as tie
+use Rattle.verts_shrunk.proofs.entry.shrunk_by.Statement.{statement}
+use Rattle.verts_shrunk.proofs.entry.shrunk_by.Tie as tie
 use mathlib.Core.Path.{sym, ap}
-use Rattle.shrinking.specs.Answers.{shrunkBy}
+use Rattle.verts_shrunk.specs.Answers.{shrunkBy}
 
 enum-known-m : tie.Need-enum-known-m
 enum-known-m c = search needs

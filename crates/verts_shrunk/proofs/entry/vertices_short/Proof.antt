@@ -1,7 +1,7 @@
 -- `entry::vertices_short` meets its contract: the tests are the definition's, in its order.
 use borrow.Author.Needs.{needs}
-use Rattle.shrinking.proofs.entry.vertices_short.Statement.{statement}
-use Rattle.shrinking.proofs.entry.vertices_short.Tie as tie
+use Rattle.verts_shrunk.proofs.entry.vertices_short.Statement.{statement}
+use Rattle.verts_shrunk.proofs.entry.vertices_short.Tie as tie
 use borrow.Author.Tests.{lt-ltb, le-ltb}
 
 mul-if1 : tie.Need-mul-if1

@@ -1,10 +1,10 @@
--- `entry::infinite_start` meets its contract: the start, compared with the float of +infinity.
+-- `whole::infinite_start` meets its contract: the start, compared with the float of +infinity.
 use borrow.Author.Needs.{needs}
-use Rattle.shrinking.proofs.entry.infinite_start.Statement.{statement}
-use Rattle.shrinking.proofs.entry.infinite_start.Tie as tie
+use Rattle.shrinking.proofs.whole.infinite_start.Statement.{statement}
+use Rattle.shrinking.proofs.whole.infinite_start.Tie as tie
 use mathlib.Core.Path.{ap₂}
 use lib.Ieee.{eq}
-use Rattle.shrinking.specs.Answers.{infiniteStart}
+use Rattle.shrinking.specs.Whole.{infiniteStart}
 
 start-margin-requires : tie.Need-start-margin-requires
 start-margin-requires c κs = search needs

@@ -15,14 +15,14 @@ use Rattle.corners.specs.Corners.{kindsKnown}
 use Rattle.shrink.specs.declared.margin.Margin.{Margin}
 use Rattle.shrink.specs.declared.margin.Margin.the-variants.{Passed, NonePasses}
 use Rattle.shrink.specs.Shrinking.{shrinkMargin}
 use Rattle.shrinking.specs.declared.whole.Geometry.{Geometry}
-use Rattle.shrinking.specs.declared.entry.Lengths.{Lengths}
-use Rattle.shrinking.specs.declared.entry.ShrinkRefusal.the-variants.{TooManyPolygons, TooManyVertices, BufferTooShort, UnknownKind, InfiniteMargin}
-use Rattle.shrinking.specs.declared.entry.Shrunk.{Shrunk}
-use Rattle.shrinking.specs.declared.entry.Shrunk.the-variants.{ByMargin, ByNormals, NoVertices, Refused}
-use Rattle.shrinking.specs.Answers.{meshIn, shortOf, short, infiniteStart, shrunkBy, answerOf, kept, Answered}
-use Rattle.shrinking.specs.Whole.{boundOf, shrunkOf, ShrunkTo}
-use Rattle.shrinking.specs.steps.Work.{Lent}
+use Rattle.verts_shrunk.specs.declared.entry.Lengths.{Lengths}
+use Rattle.verts_shrunk.specs.declared.entry.ShrinkRefusal.the-variants.{TooManyPolygons, TooManyVertices, BufferTooShort, UnknownKind, InfiniteMargin}
+use Rattle.verts_shrunk.specs.declared.entry.Shrunk.{Shrunk}
+use Rattle.verts_shrunk.specs.declared.entry.Shrunk.the-variants.{ByMargin, ByNormals, NoVertices, Refused}
+use Rattle.shrinking.specs.Whole.{meshIn, boundOf, infiniteStart, shrunkOf, ShrunkTo}
+use Rattle.verts_shrunk.specs.Answers.{shortOf, short, shrunkBy, answerOf, kept, Answered}
+use Rattle.verts_shrunk.specs.steps.Work.{Lent}
 
 -- ---- room
 

@@ -1,12 +1,22 @@
 -- `entry::shrink_polygons` meets its contract: the mesh of the records, by the laws of Meshing.
 use borrow.Author.Needs.{needs}
-use Rattle.shrinking.proofs.entry.shrink_polygons.Statement.{statement}
-use Rattle.shrinking.proofs.entry.shrink_polygons.Tie as tie
+use Rattle.verts_shrunk.proofs.entry.shrink_polygons.Statement.{statement}
+use Rattle.verts_shrunk.proofs.entry.shrink_polygons.Tie as tie
 use Prim.Native.Nat.{_*_}
-use mathlib.Core.Path.{sym}
+use mathlib.Core.Path.{sym, _∙_}
 use lib.Seq.{length-take-le}
-use Rattle.shrinking.proofs.entry.Meshing.{length-unpacked, linkable, meshed, of-records}
+use Rattle.verts_shrunk.proofs.entry.Meshing.{length-unpacked, linkable, meshed, of-records}
 use native.Mathlib.Omega.{arith}
+
+-- from the end back to the shrinking, the links and the corners
+abbrev shrunk : tie.After-slice-known20 → tie.After-shrunk-points
+shrunk c = c .before .before .before .before .before .before .before .before .before .before .before .before
+
+abbrev linked : tie.After-slice-known20 → tie.After-links-of
+linked c = shrunk c .before .before .before .before .before .before .before .before .before .before .before .before .before .before .before .before .before
+
+abbrev unpacked : tie.After-slice-known20 → tie.After-unpack-corners
+unpacked c = linked c .before .before .before .before .before .before .before .before
 
 unpack-corners-requires : tie.Need-unpack-corners-requires
 unpack-corners-requires c κs = search needs
@@ -53,38 +63,35 @@ shrunk-points-requires c κs =
     .before .before .pre) _ _ (t .kept .1 .0) (t .kept .1 .1 .0) (t .kept .1 .1 .1 .1 .0)
 
 same-length : tie.Need-same-length
-same-length c = search needs
+same-length c = shrunk c .shrunk-points .kept .1 .1 .1 .1 .1 .1 .1 .1 .1 .1 .1 .0
 
 same-length-2 : tie.Need-same-length-2
-same-length-2 c = search needs
+same-length-2 c = unpacked c .unpack-corners .kept .1 .1 .0
 
 same-length-3 : tie.Need-same-length-3
-same-length-3 c = search needs
+same-length-3 c = shrunk c .shrunk-points .kept .1 .1 .1 .1 .1 .1 .0 ∙ linked c .links-of .kept .1 .0
 
 same-length-4 : tie.Need-same-length-4
-same-length-4 c = search needs
+same-length-4 c = shrunk c .shrunk-points .kept .1 .1 .1 .1 .1 .1 .1 .0 ∙ linked c .links-of .kept .1 .1 .0
 
 same-length-5 : tie.Need-same-length-5
-same-length-5 c = search needs
+same-length-5 c = linked c .links-of .kept .1 .1 .1 .0
 
 same-length-6 : tie.Need-same-length-6
-same-length-6 c = search needs
+same-length-6 c = linked c .links-of .kept .1 .1 .1 .1 .0
 
 same-length-7 : tie.Need-same-length-7
-same-length-7 c = search needs
+same-length-7 c = shrunk c .shrunk-points .kept .1 .1 .1 .1 .1 .1 .1 .1 .0
 
 same-length-8 : tie.Need-same-length-8
-same-length-8 c = search needs
+same-length-8 c = shrunk c .shrunk-points .kept .1 .1 .1 .1 .1 .1 .1 .1 .1 .0
 
 same-length-9 : tie.Need-same-length-9
-same-length-9 c = search needs
+same-length-9 c = shrunk c .shrunk-points .kept .1 .1 .1 .1 .1 .1 .1 .1 .1 .1 .0
 
 returns : tie.Need-returns
 returns c =
-    let call = c .before .before .before .before .before .before .before .before .before .before .before .before in
-    let l = call .before .before .before .before .before .before .before .before .before .before .before .before .before .before .before .before .before in
-    let u = l .before .before .before .before .before .before .before .before in
-    of-records _ _ _ _ (u .unpack-corners .ensures) _ (l .links-of .ensures) _ _ _ _ _ (call .shrunk-points .ensures)
+    of-records _ _ _ _ (unpacked c .unpack-corners .ensures) _ (linked c .links-of .ensures) _ _ _ _ _ (shrunk c .shrunk-points .ensures)
 
 pub shrink-polygons-spec : {M : Type 1} → statement M
 shrink-polygons-spec =

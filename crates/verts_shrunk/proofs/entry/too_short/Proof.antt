@@ -1,10 +1,10 @@
 -- `entry::too_short` meets its contract: the tests are the definition's, in its order.
 use borrow.Author.Needs.{needs}
-use Rattle.shrinking.proofs.entry.too_short.Statement.{statement}
-use Rattle.shrinking.proofs.entry.too_short.Tie as tie
+use Rattle.verts_shrunk.proofs.entry.too_short.Statement.{statement}
+use Rattle.verts_shrunk.proofs.entry.too_short.Tie as tie
 use mathlib.Core.Path.{sym, _∙_}
 use borrow.Author.Tests.{lt-ltb, le-ltb}
-use Rattle.shrinking.specs.Answers.{short}
+use Rattle.verts_shrunk.specs.Answers.{short}
 
 vertices-short-requires : tie.Need-vertices-short-requires
 vertices-short-requires c κs = search needs

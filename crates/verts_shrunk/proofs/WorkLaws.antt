@@ -2,7 +2,7 @@
 use Prim.Native.Nat.{ℕ, _+_, _*_, _≤_}
 use native.Mathlib.Omega.{arith}
 use mathlib.Core.Path.{_≡_}
-use Rattle.shrinking.specs.Answers.{workWords}
+use Rattle.verts_shrunk.specs.Answers.{workWords}
 
 pub work-words : (n v : ℕ) → workWords n v ≡ 36 * n + v
 work-words n v = omega arith
