@@ -1,10 +1,10 @@
 // The shrunk vertices of a geometry.
 use shrink_answers::ShrinkAnswer;
-use shrinking::entry::calculate_verts_shrunk;
 use shrinking::whole::Geometry;
+use verts_shrunk::entry::calculate_verts_shrunk;
 ghost use mathlib.Core.Path.{_≡_};
 ghost use lib.ListN.{length};
-ghost use Rattle.shrinking.specs.Answers.{workWords};
+ghost use Rattle.verts_shrunk.specs.Answers.{workWords};
 ghost use Rattle.shrink_answers.specs.Interface.{AnsweredIn};
 
 // The words and floats that polygons and vertices are shrunk in, all parts together.

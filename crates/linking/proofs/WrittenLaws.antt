@@ -20,7 +20,7 @@ use Rattle.polygon.specs.Halves.{fourBytes, halvesBytes, halvesAt}
 use Rattle.polygon.specs.Polygons.{polygonBytes, polygonAt, polygonOf, triangleOf, sphereOf, capsuleOf, boxOf, cylinderOf}
 use Rattle.polygon.specs.Polygons.{triangleHalves, roundHalves, boxHalves, kindAt}
 use Rattle.polygon.specs.declared.halves.Halves.{Halves}
-use Rattle.polygon.proofs.KindLaws.{triangle-by-kind}
+use Rattle.polygon.proofs.KindLaws.{kind-read, triangle-by-kind}
 use Rattle.polygon.proofs.Sizes.{polygon-bytes}
 use Rattle.linking.specs.Written.{writtenRecord, writtenOf}
 
@@ -98,10 +98,6 @@ others h false false false = refl
 other-again : (h : Halves) → (h .at0 % 8 ≡ 0 → ⊥) → cornersAt (polygonBytes (polygonOf h)) 0 ≡ none ∷ none ∷ none ∷ []
 unfolding polygonOf
 other-again h ne = rw (ne-eqb (h .at0 % 8) 0 ne) (others h (eqb (h .at0 % 8) 3) (eqb (h .at0 % 8) 1) (eqb (h .at0 % 8) 2))
-
-kind-read : (bytes : List ℕ) (k : ℕ) → halvesAt bytes k .at0 % 8 ≡ kindAt bytes k
-unfolding halvesAt leAt
-kind-read bytes k = omega arith
 
 triangle-read : (bytes : List ℕ) (k : ℕ) → kindAt bytes (16 * k) ≡ 0
     → (let h = halvesAt bytes (16 * k) in h .at4 % 32768 ∷ h .at6 % 32768 ∷ h .at8 % 32768 ∷ []) ≡ cornersAt bytes k

@@ -15,7 +15,7 @@ use lib.Seq.{take-suc, take-all, take-take, drop-append-le, length-take-le, getD
 use Rattle.shadows.specs.Kept.{some}
 use Rattle.shadows.specs.Ranks.{beyond}
 use Rattle.base.proofs.EveryLaws.{every-at}
-use Rattle.maxima.specs.Rows.{yAt, castAt, hideAt}
+use Rattle.far_order.specs.Rows.{yAt, castAt, hideAt}
 use Rattle.maxima.specs.steps.Marking.{member, coversIn, Halves, Marked, castOn}
 use Rattle.shadows.proofs.Truth.{decide, first-true, second-true}
 use Rattle.shadows.proofs.Below.{Last, sooner, last, last-or, some-append}

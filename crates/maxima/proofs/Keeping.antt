@@ -16,7 +16,7 @@ use Rattle.base.proofs.EveryLaws.{every-append, every-sift}
 use Rattle.base.proofs.NumberLaws.{below-wider}
 use Rattle.shadows.specs.Kept.{some, admit, keptOf}
 use Rattle.shadows.proofs.MaximaLaws.{admit-passes, admit-joins, kept-below}
-use Rattle.maxima.specs.Rows.{shadowedAt, Written}
+use Rattle.far_order.specs.Rows.{shadowedAt, Written}
 use Rattle.maxima.specs.steps.Keeping.{Begins, Admissible}
 
 -- ---- one that passes

@@ -2,5 +2,4 @@ mod Keeping
 mod Casting
 mod ListingLaws
 mod MarkingLaws
-mod OrderLaws
 mod SweepLaws

@@ -21,10 +21,10 @@ use Rattle.shadows.specs.Kept.{keptOf}
 use Rattle.shadows.specs.Maxima.{numbers, listed}
 use Rattle.shadows.proofs.Truth.{decide, never}
 use Rattle.shadows.proofs.Below.{Last, sooner, last, last-or, sift-append, sift-alike}
-use Rattle.maxima.specs.Rows.{shadowedAt, Rows, Written}
-use Rattle.maxima.specs.steps.Order.{leBy}
+use Rattle.far_order.specs.Rows.{shadowedAt, Rows, Written}
+use Rattle.far_order.specs.steps.Order.{leBy}
 use Rattle.maxima.specs.steps.Marking.{member, coversIn, hidden, Marked, Sifted, Clear}
-use Rattle.maxima.proofs.OrderLaws.{ordered-by}
+use Rattle.far_order.proofs.OrderLaws.{ordered-by}
 use Rattle.maxima.proofs.SweepLaws.{BeforeAll, FarFirst, at-most-before, are-maxima, listed-is-unhidden}
 use Rattle.maxima.proofs.MarkingLaws.{some-sorted}
 

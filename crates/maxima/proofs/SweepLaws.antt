@@ -14,10 +14,10 @@ use Rattle.shadows.specs.Maxima.{displaced, listed, maximaOf}
 use Rattle.shadows.proofs.Truth.{never, first-true, second-true, both-true, either-true}
 use Rattle.shadows.proofs.Below.{none-at, none-if, some-append}
 use Rattle.shadows.proofs.MaximaLaws.{kept-are-maxima}
-use Rattle.maxima.specs.Rows.{xAt, yAt, castAt, hideAt, shadowedAt, Rows}
-use Rattle.maxima.specs.steps.Order.{thenLe, farLe}
+use Rattle.far_order.specs.Rows.{xAt, yAt, castAt, hideAt, shadowedAt, Rows}
+use Rattle.far_order.specs.steps.Order.{thenLe, farLe}
 use Rattle.maxima.specs.steps.Marking.{member, coversIn, hidden}
-use Rattle.maxima.proofs.OrderLaws.{then-says}
+use Rattle.far_order.proofs.OrderLaws.{then-says}
 
 or-true : (a : Bool) → (a || true) ≡ true
 or-true true = refl

@@ -1,3 +1,2 @@
 pub mod Keeping
 pub mod Marking
-pub mod Order

@@ -5,7 +5,7 @@ ghost use Prim.Native.Nat.{_+_, _*_, _≤_, _<_};
 ghost use lib.ListN.{length, take};
 ghost use Rattle.base.specs.Lists.{sift, Below};
 ghost use Rattle.shadows.specs.Kept.{some, admit, keptOf};
-ghost use Rattle.maxima.specs.Rows.{shadowedAt};
+ghost use Rattle.far_order.specs.Rows.{shadowedAt};
 ghost use Rattle.maxima.specs.steps.Keeping.{Begins, Testable, Admissible};
 
 // Whether vertex i is shadowed by vertex j.

@@ -2,4 +2,3 @@
 pub mod kept;
 pub mod listing;
 pub mod marking;
-pub mod sorting;

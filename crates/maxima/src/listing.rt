@@ -2,8 +2,8 @@
 // earlier one covers, list what is left.
 use crate::kept::gather;
 use crate::marking::mark_halves;
-use crate::sorting::keep;
-use crate::sorting::sort;
+use far_order::sorting::keep;
+use far_order::sorting::sort;
 ghost use mathlib.Core.Path.{_≡_};
 ghost use Prim.Native.Nat.{_+_, _*_, _≤_, _<_};
 ghost use lib.Dec.{eqb};
@@ -12,7 +12,7 @@ ghost use mathlib.Core.List.{_++_};
 ghost use Rattle.base.specs.Lists.{sift};
 ghost use Rattle.shadows.specs.Kept.{keptOf};
 ghost use Rattle.shadows.specs.Maxima.{numbers};
-ghost use Rattle.maxima.specs.Rows.{shadowedAt, Room, Written};
+ghost use Rattle.far_order.specs.Rows.{shadowedAt, Room, Written};
 ghost use Rattle.maxima.specs.steps.Marking.{Clear};
 
 // The numbers from 0 on.

@@ -6,7 +6,7 @@ use lib.Dec.{eqb, ltb}
 use lib.ListN.{length}
 use Rattle.corners.specs.Corners.{kindsKnown}
 use Rattle.materials.specs.Materials.{listOf}
-use Rattle.shrinking.specs.Answers.{infiniteStart}
+use Rattle.shrinking.specs.Whole.{infiniteStart}
 use Rattle.meshes.specs.declared.Bound.{Bound}
 use Rattle.meshes.specs.declared.Check.{Check}
 use Rattle.meshes.specs.declared.Check.the-variants.{Passed, Fails}

@@ -11,7 +11,7 @@ use lib.Seq.{take-at, drop-at, drop-drop, length-take-le, getD-set-same, getD-se
 use Rattle.base.specs.Lists.{over}
 use Rattle.shadows.specs.Octants.{octantOf}
 use Rattle.shadows.proofs.Below.{Last, sooner, last, last-or}
-use Rattle.maxima.specs.Rows.{Written}
+use Rattle.far_order.specs.Rows.{Written}
 use Rattle.octants.specs.declared.lists.OctantCounts.{OctantCounts}
 use Rattle.octants.specs.Octants.{partOf, parts, countsOf, Wrote}
 use Rattle.octants.specs.steps.Parts.{Keyed}

@@ -18,7 +18,7 @@ use Rattle.shadows.specs.Ranks.{castOf, hideOf}
 use Rattle.shadows.proofs.Below.{Last, sooner, last, last-or}
 use Rattle.shadows.proofs.MaximaLaws.{kept-alike}
 use Rattle.shadows.proofs.RankLaws.{shadowed-by-ranks, hide-below, hide-under-cast}
-use Rattle.maxima.specs.Rows.{xAt, yAt, shadowedAt, Rows, Written}
+use Rattle.far_order.specs.Rows.{xAt, yAt, shadowedAt, Rows, Written}
 use Rattle.octants.specs.steps.Parts.{Filled, Keyed, nearAt, Laid}
 
 -- ---- one part

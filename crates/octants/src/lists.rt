@@ -7,7 +7,7 @@ ghost use mathlib.Core.List.{List};
 ghost use Prim.Native.Nat.{ℕ, _+_, _*_, _≤_, _<_};
 ghost use lib.ListN.{length};
 ghost use Rattle.shadows.specs.Octants.{octantOf};
-ghost use Rattle.maxima.specs.Rows.{Written};
+ghost use Rattle.far_order.specs.Rows.{Written};
 ghost use Rattle.octants.specs.Octants.{Wrote};
 ghost use Rattle.octants.specs.steps.Lists.{Each, countsIn};
 ghost use Rattle.octants.specs.steps.Parts.{Keyed};

@@ -1,9 +1,17 @@
--- The polygon of eight numbers, by its kind. Assumes nothing.
-use Prim.Native.Nat.{_%_}
+-- The kind that the bytes of a record have is that of its eight numbers, and the polygon of eight numbers, by its kind. Assumes nothing.
+use Prim.Native.Nat.{ℕ, _%_}
+use native.Mathlib.Omega.{arith}
+use mathlib.Core.List.{List}
 use mathlib.Core.Path.{_≡_}
 use borrow.Author.Tests.{ne-eqb}
-use Rattle.polygon.specs.Polygons.{triangleOf, sphereOf, capsuleOf, boxOf, cylinderOf, polygonOf}
+use Rattle.base.specs.LittleEndian.{leAt}
+use Rattle.polygon.specs.Halves.{halvesAt}
+use Rattle.polygon.specs.Polygons.{triangleOf, sphereOf, capsuleOf, boxOf, cylinderOf, polygonOf, kindAt}
 use Rattle.polygon.specs.declared.halves.Halves.{Halves}
+
+pub kind-read : (bytes : List ℕ) (k : ℕ) → halvesAt bytes k .at0 % 8 ≡ kindAt bytes k
+unfolding halvesAt leAt
+kind-read bytes k = omega arith
 
 module _ (h : Halves) where
   pub triangle-by-kind : h .at0 % 8 ≡ 0 → polygonOf h ≡ triangleOf h

@@ -29,7 +29,7 @@ use Rattle.polygon.specs.declared.Polygon.{Polygon}
 use Rattle.polygon.specs.declared.Polygon.the-variants.{Triangle, Sphere, Capsule, Box, Cylinder}
 use Rattle.polygon.specs.declared.Read.the-variants.{Found, Refused}
 use Rattle.polygon.specs.declared.ReadRefusal.the-variants.{ShortRecord, UnknownKind}
-use Rattle.polygon.proofs.KindLaws.{triangle-by-kind, box-by-kind, sphere-by-kind, capsule-by-kind, cylinder-by-kind}
+use Rattle.polygon.proofs.KindLaws.{kind-read, triangle-by-kind, box-by-kind, sphere-by-kind, capsule-by-kind, cylinder-by-kind}
 use Rattle.polygon.proofs.Sizes.{polygon-bytes}
 
 -- ---- the eight numbers
@@ -254,10 +254,6 @@ unfolding polygonAt polygonBytes
 record-again bytes k f known = ap halvesBytes (halves-again (halvesAt bytes k) f known)
 
 -- ---- over bytes
-
-kind-read : (bytes : List ℕ) (k : ℕ) → halvesAt bytes k .at0 % 8 ≡ kindAt bytes k
-unfolding halvesAt leAt
-kind-read bytes k = omega arith
 
 all-kept : (h : Halves) → h .at0 % 8 ≡ 0 → kept h ≡ h
 unfolding kept

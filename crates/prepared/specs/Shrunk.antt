@@ -11,8 +11,7 @@ use Rattle.meshes.specs.declared.Bound.{Bound}
 use Rattle.meshes.specs.Meshes.{geometryOf}
 use Rattle.octants.specs.Octants.{parts}
 use Rattle.shadows.specs.Octants.{octantOf}
-use Rattle.shrinking.specs.Answers.{meshIn}
-use Rattle.shrinking.specs.Whole.{shrunkOf}
+use Rattle.shrinking.specs.Whole.{meshIn, shrunkOf}
 
 -- Rules S1 to S9: the words of the shrunk vertices, before they are stored.
 unfoldable pub shrunkPoints : Bound → ℕ → ℕ → List ℕ → List ℕ → List ℕ

@@ -21,6 +21,7 @@ use Rattle.corners.proofs.LinkLaws.{links-forget, byte-kept, two-kept, in-turn-
 use Rattle.corners.specs.Corners.{inTurn, kindsKnown, isTriangle, cornersOf, linkBytes, linkedRecord, linkedRecords, linksPut}
 use Rattle.edges.specs.Edges.{linked}
 use Rattle.sides.specs.Links.{linksOf}
+use Rattle.polygon.proofs.KindLaws.{kind-read}
 use Rattle.polygon.proofs.ReadBack.{kind-written}
 use Rattle.polygon.proofs.Sizes.{polygon-bytes}
 use Rattle.polygon.specs.Halves.{halvesAt}
@@ -89,10 +90,6 @@ module _ (n : ℕ) (p q : ℕ → Polygon) (alike : (k : ℕ) → k < n → unli
 
 -- ---- what is read once links are stored
 
-kind-of : (bytes : List ℕ) (k : ℕ) → halvesAt bytes k .at0 % 8 ≡ kindAt bytes k
-unfolding halvesAt leAt
-kind-of bytes k = omega arith
-
 module _ (n : ℕ) (links bytes : List ℕ) (room : 16 * n ≤ length bytes) where
   abbrev after : List ℕ
   after = linksPut n links bytes
@@ -106,7 +103,7 @@ module _ (n : ℕ) (links bytes : List ℕ) (room : 16 * n ≤ length bytes) whe
   triangle-read k h e =
       let two : (j : ℕ) → j < 9 → leAt 2 after (16 * k + j) ≡ leAt 2 bytes (16 * k + j) = λ j b. two-kept n links bytes room k j h b in
       triangles-alike (halvesAt after (16 * k)) (halvesAt bytes (16 * k)) (front k h) (two 2 (omega arith)) (two 4 (omega arith)) (two 6 (omega arith))
-      (two 8 (omega arith)) (ap (λ (x : ℕ). x % 8) (front k h) ∙ kind-of bytes (16 * k) ∙ e)
+      (two 8 (omega arith)) (ap (λ (x : ℕ). x % 8) (front k h) ∙ kind-read bytes (16 * k) ∙ e)
 
   -- of another kind every byte is kept
   byte-other : (k j : ℕ) → k < n → j < 16 → isTriangle bytes k ≡ false → getD after (16 * k + j) 0 ≡ getD bytes (16 * k + j) 0

@@ -4,12 +4,12 @@ use mathlib.Core.List.{List}
 use mathlib.Core.Path.{_≡_, ap, _∙_}
 use Rattle.base.specs.Lists.{over}
 use Rattle.shrink_answers.specs.declared.ShrinkAnswer.{ShrinkAnswer}
-use Rattle.shrinking.specs.declared.entry.Lengths.{Lengths}
-use Rattle.shrinking.specs.declared.entry.Shrunk.{Shrunk}
+use Rattle.verts_shrunk.specs.declared.entry.Lengths.{Lengths}
+use Rattle.verts_shrunk.specs.declared.entry.Shrunk.{Shrunk}
 use Rattle.shrinking.specs.declared.whole.Geometry.{Geometry}
-use Rattle.shrinking.specs.Answers.{meshIn, kept, Answered}
+use Rattle.verts_shrunk.specs.Answers.{kept, Answered}
 use Rattle.shrink_answers.specs.Interface.{answerIn, AnsweredIn}
-use Rattle.shrinking.specs.Whole.{shrunkOf}
+use Rattle.shrinking.specs.Whole.{meshIn, shrunkOf}
 
 pub answered-in : (g : Geometry) (n : ℕ) (polygons : List ℕ) (v : ℕ) (vertices : List ℕ) (l : Lengths) (before after : List ℕ) (s : Shrunk)
     (r : ShrinkAnswer) → Answered g n polygons v vertices l before after s → r ≡ answerIn s → AnsweredIn g n polygons v vertices l before after r

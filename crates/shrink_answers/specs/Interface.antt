@@ -5,12 +5,12 @@ use mathlib.Core.Path.{_≡_}
 use Rattle.base.specs.Lists.{over}
 use Rattle.rays.specs.Rays.{naught}
 use Rattle.shrink_answers.specs.declared.ShrinkAnswer.{ShrinkAnswer}
-use Rattle.shrinking.specs.declared.entry.Lengths.{Lengths}
-use Rattle.shrinking.specs.declared.entry.Shrunk.{Shrunk}
-use Rattle.shrinking.specs.declared.entry.Shrunk.the-variants.{ByMargin, ByNormals, NoVertices, Refused}
+use Rattle.verts_shrunk.specs.declared.entry.Lengths.{Lengths}
+use Rattle.verts_shrunk.specs.declared.entry.Shrunk.{Shrunk}
+use Rattle.verts_shrunk.specs.declared.entry.Shrunk.the-variants.{ByMargin, ByNormals, NoVertices, Refused}
 use Rattle.shrinking.specs.declared.whole.Geometry.{Geometry}
-use Rattle.shrinking.specs.Answers.{meshIn, refusalNumber, answerOf, kept}
-use Rattle.shrinking.specs.Whole.{shrunkOf}
+use Rattle.verts_shrunk.specs.Answers.{refusalNumber, answerOf, kept}
+use Rattle.shrinking.specs.Whole.{meshIn, shrunkOf}
 
 abbrev pub without : ℕ → ℕ → ShrinkAnswer
 without refusal by = record { refusal = refusal; by = by; margin = naught }

@@ -1,8 +1,8 @@
 // What shrinking answers in C: numbers for the cases of the enum.
-use shrinking::entry::ShrinkRefusal;
-use shrinking::entry::Shrunk;
+use verts_shrunk::entry::ShrinkRefusal;
+use verts_shrunk::entry::Shrunk;
 ghost use mathlib.Core.Path.{_≡_};
-ghost use Rattle.shrinking.specs.Answers.{refusalNumber, workWords};
+ghost use Rattle.verts_shrunk.specs.Answers.{refusalNumber, workWords};
 ghost use Rattle.shrink_answers.specs.Interface.{without, answerIn};
 
 // 01's number, 0 where it is not refused; by what the vertices are shrunk, 1 a margin, 2 their normals, 0 nothing; and the margin, else 0.

@@ -1,3 +1,2 @@
 pub mod LoopLaws
 mod WholeLaws
-pub mod WorkLaws

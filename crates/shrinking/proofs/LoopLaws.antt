@@ -13,8 +13,7 @@ use Rattle.trial.specs.Trials.{passesAt}
 use Rattle.shrink.specs.Shrinking.{shrinkMargin}
 use Rattle.shrink.proofs.AllTried.{all-tried}
 use Rattle.shrinking.specs.declared.whole.Geometry.{Geometry}
-use Rattle.shrinking.specs.Answers.{infinity, infiniteStart}
-use Rattle.shrinking.specs.Whole.{boundOf}
+use Rattle.shrinking.specs.Whole.{boundOf, infinity, infiniteStart}
 
 -- ---- the start is a float of the format
 

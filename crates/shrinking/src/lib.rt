@@ -1,3 +1,2 @@
-// The shrunk vertices of a geometry (rules S1 to S9): by the first margin that passes, or by their normals.
-pub mod entry;
+// The shrunk vertices of a mesh (rules S1 to S9): by the first margin that passes, or by their normals.
 pub mod whole;

@@ -7,7 +7,7 @@ use shrink::whole::Bound;
 ghost use mathlib.Core.Path.{_≡_};
 ghost use Rattle.rings.specs.Meshes.{meshOf};
 ghost use Rattle.shrink.specs.Shrinking.{Shrunk as ByMargin};
-ghost use Rattle.shrinking.specs.Whole.{boundOf, ShrunkTo};
+ghost use Rattle.shrinking.specs.Whole.{boundOf, infiniteStart, ShrunkTo};
 ghost use Rattle.shrinking.specs.steps.Work.{Meshed};
 
 // What shrinking reads of a geometry: its box, the centre that its vertices are about, its margin, and its transform.
@@ -17,6 +17,14 @@ pub struct Geometry {
     pub center: Vec3,
     pub margin: f32,
     pub transform: Mat4,
+}
+
+// Whether the margin to begin with is +infinity, which a NaN is not.
+pub fn infinite_start(g: Geometry) -> bool
+    ensures { λ r. ⌜ r ≡ infiniteStart g ⌝ }
+{
+    let start = shrink::margin::start_margin(g.margin, g.extent.min, g.extent.max);
+    start == float32::words::value(0x7f80_0000)
 }
 
 fn bound_of(g: Geometry) -> Bound

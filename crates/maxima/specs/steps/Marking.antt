@@ -8,8 +8,8 @@ use lib.ListN.{length, getD, take, drop}
 use Rattle.base.specs.Lists.{Below}
 use Rattle.base.specs.Sorted.{sort}
 use Rattle.shadows.specs.Kept.{some}
-use Rattle.maxima.specs.Rows.{yAt, castAt, hideAt, Rows}
-use Rattle.maxima.specs.steps.Order.{leBy}
+use Rattle.far_order.specs.Rows.{yAt, castAt, hideAt, Rows}
+use Rattle.far_order.specs.steps.Order.{leBy}
 
 abbrev pub member : ℕ → List ℕ → Bool
 member p ps = some (λ q. eqb q p) ps

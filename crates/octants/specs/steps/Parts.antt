@@ -9,7 +9,7 @@ use Rattle.math.specs.declared.words3.Words3.{Words3}
 use Rattle.shadows.specs.Octants.{wordsAt}
 use Rattle.shadows.specs.Nearness.{turned, nearnessAt}
 use Rattle.shadows.specs.Ranks.{castOf, hideOf}
-use Rattle.maxima.specs.Rows.{xAt, yAt, castAt, hideAt}
+use Rattle.far_order.specs.Rows.{xAt, yAt, castAt, hideAt}
 
 -- From `at` on stand n numbers, and what stands before is as it was.
 pub record Filled (f : ℕ → ℕ) (n at : ℕ) (before after : List ℕ) : Type 0 where

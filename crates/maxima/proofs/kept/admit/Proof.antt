@@ -4,7 +4,7 @@ use Rattle.maxima.proofs.kept.admit.Statement.{statement}
 use Rattle.maxima.proofs.kept.admit.Tie as tie
 use mathlib.Core.Path.{sym, _∙_}
 use lib.Seq.{length-take-le}
-use Rattle.maxima.specs.Rows.{shadowedAt}
+use Rattle.far_order.specs.Rows.{shadowedAt}
 use Rattle.maxima.proofs.Keeping.{passes-over, fewer, has-place, placed, joins, all-below}
 use native.Mathlib.Omega.{arith}
 

@@ -6,7 +6,7 @@ use mathlib.Core.Path.{sym, ap, _∙_}
 use mathlib.Core.Bool.{not}
 use lib.ListN.{length}
 use Rattle.base.proofs.EveryLaws.{every-at}
-use Rattle.maxima.specs.Rows.{shadowedAt}
+use Rattle.far_order.specs.Rows.{shadowedAt}
 use Rattle.maxima.proofs.Keeping.{Thinning, unthinned, same-here, taken-out, left-in, thinned}
 use native.Mathlib.Omega.{arith}
 use borrow.Author.Needs.{needs}

@@ -3,7 +3,7 @@ use borrow.Author.Needs.{needs}
 use Rattle.maxima.proofs.kept.shadowed.Statement.{statement}
 use Rattle.maxima.proofs.kept.shadowed.Tie as tie
 use borrow.Author.Tests.{lt-leb, le-leb}
-use Rattle.maxima.specs.Rows.{xAt, yAt, shadowedAt}
+use Rattle.far_order.specs.Rows.{xAt, yAt, shadowedAt}
 
 mul-if1 : tie.Need-mul-if1
 mul-if1 c = search needs

@@ -5,7 +5,7 @@ use Prim.Native.Nat.{_-_, _<_}
 use mathlib.Core.Path.{refl, sym, _∙_}
 use lib.ListN.{length}
 use Rattle.base.proofs.EveryLaws.{every-at}
-use Rattle.maxima.specs.Rows.{shadowedAt}
+use Rattle.far_order.specs.Rows.{shadowedAt}
 use Rattle.maxima.proofs.Keeping.{Searching, found, sought, missed}
 use native.Mathlib.Omega.{arith}
 use borrow.Author.Needs.{needs}

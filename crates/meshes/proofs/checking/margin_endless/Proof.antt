@@ -1,7 +1,7 @@
 -- `margin_endless`: the tests are the definition's, in its order.
 use mathlib.Core.Path.{ap, _∙_}
 use borrow.Author.Tests.{eq-eqb, ne-eqb, lt-ltb, le-ltb}
-use Rattle.shrinking.specs.Answers.{infiniteStart}
+use Rattle.shrinking.specs.Whole.{infiniteStart}
 use borrow.Author.Needs.{needs}
 use Rattle.meshes.proofs.checking.margin_endless.Statement.{statement}
 use Rattle.meshes.proofs.checking.margin_endless.Tie as tie

@@ -3,7 +3,7 @@ use borrow.Author.Needs.{needs}
 use Rattle.octants.proofs.laying.near_at.Statement.{statement}
 use Rattle.octants.proofs.laying.near_at.Tie as tie
 use Rattle.octants.specs.steps.Parts.{nearAt}
-use Rattle.maxima.specs.Rows.{xAt, yAt}
+use Rattle.far_order.specs.Rows.{xAt, yAt}
 
 mul-t6 : tie.Need-mul-t6
 mul-t6 c = search needs

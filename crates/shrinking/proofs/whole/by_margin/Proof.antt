@@ -5,6 +5,10 @@ use Rattle.shrinking.proofs.whole.by_margin.Tie as tie
 use Rattle.shrinking.proofs.WholeLaws.{shrinkable}
 use native.Mathlib.Omega.{arith}
 
+-- from the end back to the call
+abbrev called : tie.After-slice-known12 → tie.After-shrink
+called c = c .before .before .before .before .before .before .before .before .before .before .before .before
+
 compact-requires : tie.Need-compact-requires
 compact-requires c κs = search needs
 
@@ -22,25 +26,25 @@ shrink-requires c κs =
     (r .ensures .1) (omega arith) (omega arith)
 
 same-length : tie.Need-same-length
-same-length c = search needs
+same-length c = called c .before .before .before .before .before .before .before .before .before .before .before .compact .kept .1 .1 .0
 
 same-length-2 : tie.Need-same-length-2
-same-length-2 c = search needs
+same-length-2 c = called c .shrink .kept .1 .1 .1 .1 .1 .1 .1 .1 .0
 
 same-length-3 : tie.Need-same-length-3
-same-length-3 c = search needs
+same-length-3 c = called c .shrink .kept .1 .1 .1 .1 .1 .1 .1 .1 .1 .0
 
 same-length-4 : tie.Need-same-length-4
-same-length-4 c = search needs
+same-length-4 c = called c .shrink .kept .1 .1 .1 .1 .1 .1 .1 .1 .1 .1 .1 .1 .0
 
 same-length-5 : tie.Need-same-length-5
-same-length-5 c = search needs
+same-length-5 c = called c .shrink .kept .1 .1 .1 .1 .1 .1 .1 .1 .1 .1 .1 .1 .1 .0
 
 same-length-6 : tie.Need-same-length-6
-same-length-6 c = search needs
+same-length-6 c = called c .shrink .kept .1 .1 .1 .1 .1 .1 .1 .1 .1 .1 .1 .1 .1 .1 .0
 
 returns : tie.Need-returns
-returns c = search needs
+returns c = called c .shrink .ensures
 
 pub by-margin-spec : {M : Type 1} → statement M
 by-margin-spec =
