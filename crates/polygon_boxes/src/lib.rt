@@ -11,9 +11,12 @@ use math::words3::vmin_words;
 use polygon::Polygon;
 use polygon::halves::half_of;
 ghost use mathlib.Core.Path.{_≡_};
+ghost use Prim.Native.Nat.{_+_, _*_, _≤_};
+ghost use lib.ListN.{length};
 ghost use Rattle.polygon_boxes.specs.Boxes.{vertexWords, threeBox, fourBox, grownBox, pairBox, bboxOf};
 
 pub mod numbers;
+pub mod triangles;
 
 // Words, so that a NaN that is copied keeps its bits.
 #[repr(C)]
@@ -22,16 +25,24 @@ pub struct PolygonBox {
     pub max: Words3,
 }
 
-pub fn vertex_words(vertices: &[u32], i: u16) -> Words3
+// A vertex that is there.
+pub fn near_words(vertices: &[u32], i: u16) -> Words3
+    requires { ⌜ 3 * i + 3 ≤ length (now vertices) ⌝ }
     ensures { λ r. ⌜ r ≡ vertexWords (now (vertices .entry)) i ⌝ }
 {
     let at = 3 * (i as usize);
-    if at + 3 <= vertices.len() {
-        Words3 {
-            x: vertices[at],
-            y: vertices[at + 1],
-            z: vertices[at + 2],
-        }
+    Words3 {
+        x: vertices[at],
+        y: vertices[at + 1],
+        z: vertices[at + 2],
+    }
+}
+
+pub fn vertex_words(vertices: &[u32], i: u16) -> Words3
+    ensures { λ r. ⌜ r ≡ vertexWords (now (vertices .entry)) i ⌝ }
+{
+    if 3 * (i as usize) + 3 <= vertices.len() {
+        near_words(vertices, i)
     } else {
         Words3 { x: 0, y: 0, z: 0 }
     }
