@@ -7,12 +7,14 @@ use polygon_answers::BoxAnswer;
 use polygon_answers::MaterialsAnswer;
 use polygon_answers::PolygonC;
 use polygon_answers::ReadAnswer;
+use polygon_boxes::PolygonBox;
 use polygon_items::polygon_items;
 use records::BoundVertex;
 ghost use mathlib.Core.Path.{_≡_};
 ghost use lib.ListN.{length};
 ghost use Rattle.materials.specs.Materials.{valuesOf};
 ghost use Rattle.polygon.specs.Answers.{readOf};
+ghost use Rattle.polygon_boxes.specs.Boxes.{triangleBox};
 ghost use Rattle.vertices.specs.Vertices.{quantumOfBox, storedOf, readBackOf};
 ghost use Rattle.polygon_answers.specs.Geometry.{readAnswer, WroteStruct, boxAnswer, ItemsAnswered, edgesWorkLen, EdgesAnswered, MaterialsAnswered};
 
@@ -42,6 +44,14 @@ pub extern "C" fn bounds_polygon_bbox(polygon: PolygonC, vertices: &[u32]) -> Bo
     ensures { λ r. ⌜ r ≡ boxAnswer polygon (now (vertices .entry)) ⌝ }
 {
     polygon_answers::struct_box(polygon, vertices)
+}
+
+// The box of a triangle by the numbers of its vertices, of which bit 15 is left out. They go in registers, where a polygon is copied.
+#[no_mangle]
+pub extern "C" fn bounds_triangle_bbox(v1: u16, v2: u16, v3: u16, vertices: &[u32]) -> PolygonBox
+    ensures { λ r. ⌜ r ≡ triangleBox (now (vertices .entry)) v1 v2 v3 ⌝ }
+{
+    polygon_boxes::triangles::triangle_box(v1, v2, v3, vertices)
 }
 
 // ---- the boxes of a list

@@ -8,12 +8,16 @@ use math::words3::bits;
 use math::words3::values;
 use math::words3::vmax_words;
 use math::words3::vmin_words;
+use numbers::all_three;
+use numbers::high3;
+use numbers::low3;
 use polygon::Polygon;
 use polygon::halves::half_of;
 ghost use mathlib.Core.Path.{_≡_};
 ghost use Prim.Native.Nat.{_+_, _*_, _≤_};
 ghost use lib.ListN.{length};
 ghost use Rattle.polygon_boxes.specs.Boxes.{vertexWords, threeBox, fourBox, grownBox, pairBox, bboxOf};
+ghost use Rattle.polygon_boxes.specs.Numbers.{Numbers};
 
 pub mod numbers;
 pub mod triangles;
@@ -48,12 +52,42 @@ pub fn vertex_words(vertices: &[u32], i: u16) -> Words3
     }
 }
 
-fn three_box(a: Words3, b: Words3, c: Words3) -> PolygonBox
+// Of words that are no NaN's, without a branch.
+fn number_box(a: Words3, b: Words3, c: Words3) -> PolygonBox
+    requires { ⌜ Numbers a × Numbers b × Numbers c ⌝ }
+    ensures { λ r. ⌜ r ≡ threeBox a b c ⌝ }
+{
+    PolygonBox {
+        min: Words3 {
+            x: low3(a.x, b.x, c.x),
+            y: low3(a.y, b.y, c.y),
+            z: low3(a.z, b.z, c.z),
+        },
+        max: Words3 {
+            x: high3(a.x, b.x, c.x),
+            y: high3(a.y, b.y, c.y),
+            z: high3(a.z, b.z, c.z),
+        },
+    }
+}
+
+// Word by word, whatever they are.
+fn word_box(a: Words3, b: Words3, c: Words3) -> PolygonBox
     ensures { λ r. ⌜ r ≡ threeBox a b c ⌝ }
 {
     PolygonBox {
         min: vmin_words(vmin_words(a, b), c),
         max: vmax_words(vmax_words(a, b), c),
+    }
+}
+
+fn three_box(a: Words3, b: Words3, c: Words3) -> PolygonBox
+    ensures { λ r. ⌜ r ≡ threeBox a b c ⌝ }
+{
+    if all_three(a, b, c) {
+        number_box(a, b, c)
+    } else {
+        word_box(a, b, c)
     }
 }
 

@@ -1,17 +1,14 @@
 // The box of a triangle by the numbers of its vertices. Where these are there and have no NaN, one test of each takes the place of those on every axis.
 use crate::PolygonBox;
 use crate::near_words;
+use crate::number_box;
 use crate::numbers::all_three;
-use crate::numbers::high3;
-use crate::numbers::low3;
-use crate::three_box;
 use crate::vertex_words;
-use math::words3::Words3;
+use crate::word_box;
 ghost use mathlib.Core.Bool.{true};
 ghost use mathlib.Core.Path.{_≡_};
 ghost use Prim.Native.Nat.{_+_, _*_, _≤_};
-ghost use Rattle.polygon_boxes.specs.Boxes.{threeBox, triangleBox};
-ghost use Rattle.polygon_boxes.specs.Numbers.{Numbers};
+ghost use Rattle.polygon_boxes.specs.Boxes.{triangleBox};
 
 fn greater(a: u16, b: u16) -> u16
     ensures { λ r. ⌜ (a ≤ r) × (b ≤ r) ⌝ }
@@ -24,24 +21,6 @@ pub fn within(i: u16, j: u16, k: u16, words: usize) -> bool
     ensures { λ r. ⌜ (r ≡ true → (3 * i + 3 ≤ words) × (3 * j + 3 ≤ words) × (3 * k + 3 ≤ words)) ⌝ }
 {
     3 * (greater(greater(i, j), k) as usize) + 3 <= words
-}
-
-fn number_box(a: Words3, b: Words3, c: Words3) -> PolygonBox
-    requires { ⌜ Numbers a × Numbers b × Numbers c ⌝ }
-    ensures { λ r. ⌜ r ≡ threeBox a b c ⌝ }
-{
-    PolygonBox {
-        min: Words3 {
-            x: low3(a.x, b.x, c.x),
-            y: low3(a.y, b.y, c.y),
-            z: low3(a.z, b.z, c.z),
-        },
-        max: Words3 {
-            x: high3(a.x, b.x, c.x),
-            y: high3(a.y, b.y, c.y),
-            z: high3(a.z, b.z, c.z),
-        },
-    }
 }
 
 // Bit 15 of a vertex number is a flag.
@@ -62,5 +41,5 @@ pub fn triangle_box(v1: u16, v2: u16, v3: u16, vertices: &[u32]) -> PolygonBox
     let a = vertex_words(vertices, i);
     let b = vertex_words(vertices, j);
     let c = vertex_words(vertices, k);
-    three_box(a, b, c)
+    word_box(a, b, c)
 }

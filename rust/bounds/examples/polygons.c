@@ -48,6 +48,7 @@ static void boxes(void) {
     number("sphere: min x", box.min.x, 0);
     number("sphere: max z", box.max.z, 0x40800000);
     number("triangle: max y", bounds_polygon_bbox(triangle(0x8000, 1, 9), vertices, 6).max.y, 0x40000000);
+    number("by numbers: max y", bounds_triangle_bbox(0x8000, 1, 9, vertices, 6).max.y, 0x40000000);
     sphere.kind = 9;
     number("kind 9: refusal", bounds_polygon_bbox(sphere, vertices, 6).refusal, 6);
 }

@@ -306,6 +306,14 @@ pub struct BoxAnswer {
     pub max: Words3,
 }
 
+/// `bounds_polygon_box`.
+#[derive(Clone, Copy)]
+#[repr(C)]
+pub struct PolygonBox {
+    pub min: Words3,
+    pub max: Words3,
+}
+
 /// `bounds_materials_answer`.
 #[derive(Clone, Copy)]
 #[repr(C)]
@@ -325,6 +333,7 @@ unsafe extern "C" {
     fn bounds_polygon_read(bytes: *const u8, bytes_len: usize) -> ReadAnswer;
     fn bounds_polygon_write(out: *mut u8, out_len: usize, polygon: PolygonC) -> u32;
     fn bounds_polygon_bbox(polygon: PolygonC, vertices: *const u32, vertices_len: usize) -> BoxAnswer;
+    fn bounds_triangle_bbox(v1: u16, v2: u16, v3: u16, vertices: *const u32, vertices_len: usize) -> PolygonBox;
     fn bounds_polygon_items(
         polygons: *const u8,
         polygons_len: usize,
@@ -380,6 +389,13 @@ pub fn polygon_bbox(polygon: PolygonC, vertices: &[u32]) -> BoxAnswer {
     // SAFETY: the pointer comes from a slice, which is only read, and goes with its length. Any struct may be given: the
     // library reads a vertex only where the slice has it.
     unsafe { bounds_polygon_bbox(polygon, vertices.as_ptr(), vertices.len()) }
+}
+
+/// `bounds_triangle_bbox`.
+#[inline]
+pub fn triangle_bbox([v1, v2, v3]: [u16; 3], vertices: &[u32]) -> PolygonBox {
+    // SAFETY: as above; the numbers may be any.
+    unsafe { bounds_triangle_bbox(v1, v2, v3, vertices.as_ptr(), vertices.len()) }
 }
 
 /// `bounds_polygon_items`, over items as they lie in memory.
@@ -457,6 +473,7 @@ pub fn build_materials(
 }
 
 /// The words of points, three each, as they lie in memory.
+#[inline]
 pub fn vector_words(points: &[Vec3]) -> &[u32] {
     // SAFETY: a point is `repr(C)`, three f32 without padding and aligned as a u32 is (checked above), and each pattern of
     // a float's bits is a u32. The words are borrowed for as long as the points.
@@ -467,6 +484,7 @@ const _: () = {
     assert!(size_of::<PolygonC>() == 20 && align_of::<PolygonC>() == 4);
     assert!(size_of::<ReadAnswer>() == 24 && align_of::<ReadAnswer>() == 4);
     assert!(size_of::<BoxAnswer>() == 28 && align_of::<BoxAnswer>() == 4);
+    assert!(size_of::<PolygonBox>() == 24 && align_of::<PolygonBox>() == 4);
     assert!(size_of::<MaterialsAnswer>() == 16 && align_of::<MaterialsAnswer>() == 8);
     assert!(size_of::<BoundMaterial>() == 8 && align_of::<BoundMaterial>() == 4);
     assert!(size_of::<BoundVertex>() == 6 && align_of::<BoundVertex>() == 2);

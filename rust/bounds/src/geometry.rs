@@ -13,7 +13,7 @@
 //! ```
 
 use crate::bvh::parts;
-use crate::ffi::{self, PolygonC};
+use crate::ffi::{self, BoxAnswer, PolygonBox, PolygonC};
 pub use crate::types::{BoundMaterial, BoundVertex};
 use crate::{BvhItem, Refusal, Vec3};
 
@@ -136,10 +136,20 @@ impl Polygon {
     /// let flagged = Polygon::Triangle { material: 0, area: 0.0, v: [0x8000, 0, 9], edges: [-1; 3] };
     /// assert_eq!(flagged.bbox(&vertices), (Vec3::ZERO, vertices[0]));
     /// ```
+    #[inline]
     pub fn bbox(&self, vertices: &[Vec3]) -> (Vec3, Vec3) {
-        let answer = ffi::polygon_bbox(self.as_struct(), ffi::vector_words(vertices));
-        Refusal::check(answer.refusal).expect("a known kind is not refused");
-        (floats(answer.min), floats(answer.max))
+        let words = ffi::vector_words(vertices);
+        let PolygonBox { min, max } = match *self {
+            Polygon::Triangle { v, .. } => ffi::triangle_bbox(v, words),
+            _ => self.box_of_struct(words),
+        };
+        (floats(min), floats(max))
+    }
+
+    fn box_of_struct(&self, words: &[u32]) -> PolygonBox {
+        let BoxAnswer { refusal, min, max } = ffi::polygon_bbox(self.as_struct(), words);
+        Refusal::check(refusal).expect("a known kind is not refused");
+        PolygonBox { min, max }
     }
 
     fn as_struct(&self) -> PolygonC {
@@ -181,6 +191,7 @@ impl Polygon {
     }
 }
 
+#[inline]
 fn floats(w: ffi::Words3) -> Vec3 {
     Vec3::new(f32::from_bits(w.x), f32::from_bits(w.y), f32::from_bits(w.z))
 }

@@ -33,8 +33,8 @@ vertex-words-requires-2 c κs = search needs
 vertex-words-requires-3 : tie.Need-vertex-words-requires-3
 vertex-words-requires-3 c κs = search needs
 
-three-box-requires : tie.Need-three-box-requires
-three-box-requires c κs = search needs
+word-box-requires : tie.Need-word-box-requires
+word-box-requires c κs = search needs
 
 returns-2 : tie.Need-returns-2
 returns-2 c = cc
@@ -53,5 +53,5 @@ triangle-box-spec =
     vertex-words-requires
     vertex-words-requires-2
     vertex-words-requires-3
-    three-box-requires
+    word-box-requires
     returns-2)

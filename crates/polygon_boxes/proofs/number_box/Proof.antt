@@ -1,7 +1,7 @@
--- `triangles::number_box`: on each axis the extremes of three words that are no NaN's.
+-- `number_box`: on each axis the extremes of three words that are no NaN's.
 use borrow.Author.Needs.{needs}
-use Rattle.polygon_boxes.proofs.triangles.number_box.Statement.{statement}
-use Rattle.polygon_boxes.proofs.triangles.number_box.Tie as tie
+use Rattle.polygon_boxes.proofs.number_box.Statement.{statement}
+use Rattle.polygon_boxes.proofs.number_box.Tie as tie
 use Rattle.polygon_boxes.specs.Boxes.{threeBox}
 
 low3-requires : tie.Need-low3-requires
