@@ -8,9 +8,12 @@ use math::words3::bits;
 use math::words3::values;
 use math::words3::vmax_words;
 use math::words3::vmin_words;
+use numbers::all_four;
 use numbers::all_three;
 use numbers::high3;
+use numbers::high4;
 use numbers::low3;
+use numbers::low4;
 use polygon::Polygon;
 use polygon::halves::half_of;
 ghost use mathlib.Core.Path.{_≡_};
@@ -19,6 +22,7 @@ ghost use lib.ListN.{length};
 ghost use Rattle.polygon_boxes.specs.Boxes.{vertexWords, threeBox, fourBox, grownBox, pairBox, bboxOf};
 ghost use Rattle.polygon_boxes.specs.Numbers.{Numbers};
 
+pub mod kinds;
 pub mod numbers;
 pub mod triangles;
 
@@ -91,13 +95,41 @@ fn three_box(a: Words3, b: Words3, c: Words3) -> PolygonBox
     }
 }
 
-fn four_box(a: Words3, b: Words3, c: Words3, d: Words3) -> PolygonBox
+fn number_box_4(a: Words3, b: Words3, c: Words3, d: Words3) -> PolygonBox
+    requires { ⌜ Numbers a × Numbers b × Numbers c × Numbers d ⌝ }
     ensures { λ r. ⌜ r ≡ fourBox a b c d ⌝ }
 {
-    let three = three_box(a, b, c);
+    PolygonBox {
+        min: Words3 {
+            x: low4(a.x, b.x, c.x, d.x),
+            y: low4(a.y, b.y, c.y, d.y),
+            z: low4(a.z, b.z, c.z, d.z),
+        },
+        max: Words3 {
+            x: high4(a.x, b.x, c.x, d.x),
+            y: high4(a.y, b.y, c.y, d.y),
+            z: high4(a.z, b.z, c.z, d.z),
+        },
+    }
+}
+
+fn word_box_4(a: Words3, b: Words3, c: Words3, d: Words3) -> PolygonBox
+    ensures { λ r. ⌜ r ≡ fourBox a b c d ⌝ }
+{
+    let three = word_box(a, b, c);
     PolygonBox {
         min: vmin_words(three.min, d),
         max: vmax_words(three.max, d),
+    }
+}
+
+fn four_box(a: Words3, b: Words3, c: Words3, d: Words3) -> PolygonBox
+    ensures { λ r. ⌜ r ≡ fourBox a b c d ⌝ }
+{
+    if all_four(a, b, c, d) {
+        number_box_4(a, b, c, d)
+    } else {
+        word_box_4(a, b, c, d)
     }
 }
 

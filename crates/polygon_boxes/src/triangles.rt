@@ -23,6 +23,12 @@ pub fn within(i: u16, j: u16, k: u16, words: usize) -> bool
     3 * (greater(greater(i, j), k) as usize) + 3 <= words
 }
 
+pub fn within_4(i: u16, j: u16, k: u16, l: u16, words: usize) -> bool
+    ensures { λ r. ⌜ (r ≡ true → (3 * i + 3 ≤ words) × (3 * j + 3 ≤ words) × (3 * k + 3 ≤ words) × (3 * l + 3 ≤ words)) ⌝ }
+{
+    3 * (greater(greater(greater(i, j), k), l) as usize) + 3 <= words
+}
+
 // Bit 15 of a vertex number is a flag.
 pub fn triangle_box(v1: u16, v2: u16, v3: u16, vertices: &[u32]) -> PolygonBox
     ensures { λ r. ⌜ r ≡ triangleBox (now (vertices .entry)) v1 v2 v3 ⌝ }

@@ -297,7 +297,8 @@ pub struct ReadAnswer {
     pub polygon: PolygonC,
 }
 
-/// `bounds_box_answer`.
+/// `bounds_box_answer`: of the struct, which only tests call.
+#[cfg(test)]
 #[derive(Clone, Copy)]
 #[repr(C)]
 pub struct BoxAnswer {
@@ -332,8 +333,12 @@ unsafe extern "C" {
     // Memory is reached, and only through each pointer and the length behind it: called below, with slices.
     fn bounds_polygon_read(bytes: *const u8, bytes_len: usize) -> ReadAnswer;
     fn bounds_polygon_write(out: *mut u8, out_len: usize, polygon: PolygonC) -> u32;
+    #[cfg(test)]
     fn bounds_polygon_bbox(polygon: PolygonC, vertices: *const u32, vertices_len: usize) -> BoxAnswer;
     fn bounds_triangle_bbox(v1: u16, v2: u16, v3: u16, vertices: *const u32, vertices_len: usize) -> PolygonBox;
+    fn bounds_sphere_bbox(index: u16, radius: f32, vertices: *const u32, vertices_len: usize) -> PolygonBox;
+    fn bounds_capsule_bbox(i1: u16, i2: u16, radius: f32, vertices: *const u32, vertices_len: usize) -> PolygonBox;
+    fn bounds_box_bbox(i1: u16, i2: u16, i3: u16, i4: u16, vertices: *const u32, vertices_len: usize) -> PolygonBox;
     fn bounds_polygon_items(
         polygons: *const u8,
         polygons_len: usize,
@@ -385,6 +390,7 @@ pub fn polygon_write(out: &mut [u8], polygon: PolygonC) -> u32 {
 }
 
 /// `bounds_polygon_bbox`.
+#[cfg(test)]
 pub fn polygon_bbox(polygon: PolygonC, vertices: &[u32]) -> BoxAnswer {
     // SAFETY: the pointer comes from a slice, which is only read, and goes with its length. Any struct may be given: the
     // library reads a vertex only where the slice has it.
@@ -394,8 +400,30 @@ pub fn polygon_bbox(polygon: PolygonC, vertices: &[u32]) -> BoxAnswer {
 /// `bounds_triangle_bbox`.
 #[inline]
 pub fn triangle_bbox([v1, v2, v3]: [u16; 3], vertices: &[u32]) -> PolygonBox {
-    // SAFETY: as above; the numbers may be any.
+    // SAFETY: the pointer comes from a slice, which is only read, and goes with its length. The numbers may be any: the
+    // library reads a vertex only where the slice has it.
     unsafe { bounds_triangle_bbox(v1, v2, v3, vertices.as_ptr(), vertices.len()) }
+}
+
+/// `bounds_sphere_bbox`.
+#[inline]
+pub fn sphere_bbox(index: u16, radius: f32, vertices: &[u32]) -> PolygonBox {
+    // SAFETY: as for a triangle; float arithmetic has an answer for any radius.
+    unsafe { bounds_sphere_bbox(index, radius, vertices.as_ptr(), vertices.len()) }
+}
+
+/// `bounds_capsule_bbox`.
+#[inline]
+pub fn capsule_bbox(i1: u16, i2: u16, radius: f32, vertices: &[u32]) -> PolygonBox {
+    // SAFETY: as for a sphere.
+    unsafe { bounds_capsule_bbox(i1, i2, radius, vertices.as_ptr(), vertices.len()) }
+}
+
+/// `bounds_box_bbox`.
+#[inline]
+pub fn box_bbox([i1, i2, i3, i4]: [u16; 4], vertices: &[u32]) -> PolygonBox {
+    // SAFETY: as for a triangle.
+    unsafe { bounds_box_bbox(i1, i2, i3, i4, vertices.as_ptr(), vertices.len()) }
 }
 
 /// `bounds_polygon_items`, over items as they lie in memory.
@@ -483,6 +511,7 @@ pub fn vector_words(points: &[Vec3]) -> &[u32] {
 const _: () = {
     assert!(size_of::<PolygonC>() == 20 && align_of::<PolygonC>() == 4);
     assert!(size_of::<ReadAnswer>() == 24 && align_of::<ReadAnswer>() == 4);
+    #[cfg(test)]
     assert!(size_of::<BoxAnswer>() == 28 && align_of::<BoxAnswer>() == 4);
     assert!(size_of::<PolygonBox>() == 24 && align_of::<PolygonBox>() == 4);
     assert!(size_of::<MaterialsAnswer>() == 16 && align_of::<MaterialsAnswer>() == 8);
