@@ -7,12 +7,15 @@ use polygon_answers::BoxAnswer;
 use polygon_answers::MaterialsAnswer;
 use polygon_answers::PolygonC;
 use polygon_answers::ReadAnswer;
+use polygon_boxes::PolygonBox;
 use polygon_items::polygon_items;
 use records::BoundVertex;
 ghost use mathlib.Core.Path.{_≡_};
 ghost use lib.ListN.{length};
 ghost use Rattle.materials.specs.Materials.{valuesOf};
 ghost use Rattle.polygon.specs.Answers.{readOf};
+ghost use Rattle.math.specs.Stored.{valuesOf as pointOf};
+ghost use Rattle.polygon_boxes.specs.Boxes.{vertexWords, triangleBox, grownBox, pairBox, fourBox};
 ghost use Rattle.vertices.specs.Vertices.{quantumOfBox, storedOf, readBackOf};
 ghost use Rattle.polygon_answers.specs.Geometry.{readAnswer, WroteStruct, boxAnswer, ItemsAnswered, edgesWorkLen, EdgesAnswered, MaterialsAnswered};
 
@@ -42,6 +45,46 @@ pub extern "C" fn bounds_polygon_bbox(polygon: PolygonC, vertices: &[u32]) -> Bo
     ensures { λ r. ⌜ r ≡ boxAnswer polygon (now (vertices .entry)) ⌝ }
 {
     polygon_answers::struct_box(polygon, vertices)
+}
+
+// ---- the box by the kind: numbers go in registers, where a polygon is copied
+
+// Bit 15 of a triangle's vertex numbers is left out.
+#[no_mangle]
+pub extern "C" fn bounds_triangle_bbox(v1: u16, v2: u16, v3: u16, vertices: &[u32]) -> PolygonBox
+    ensures { λ r. ⌜ r ≡ triangleBox (now (vertices .entry)) v1 v2 v3 ⌝ }
+{
+    polygon_boxes::triangles::triangle_box(v1, v2, v3, vertices)
+}
+
+#[no_mangle]
+pub extern "C" fn bounds_sphere_bbox(index: u16, radius: f32, vertices: &[u32]) -> PolygonBox
+    ensures { λ r. ⌜ r ≡ grownBox (pointOf (vertexWords (now (vertices .entry)) index)) (pointOf (vertexWords (now (vertices .entry)) index)) radius ⌝ }
+{
+    polygon_boxes::kinds::sphere_box(index, radius, vertices)
+}
+
+// Of a cylinder too.
+#[no_mangle]
+pub extern "C" fn bounds_capsule_bbox(i1: u16, i2: u16, radius: f32, vertices: &[u32]) -> PolygonBox
+    ensures { λ r. ⌜ r ≡ pairBox (vertexWords (now (vertices .entry)) i1) (vertexWords (now (vertices .entry)) i2) radius ⌝ }
+{
+    polygon_boxes::kinds::capsule_box(i1, i2, radius, vertices)
+}
+
+#[no_mangle]
+pub extern "C" fn bounds_box_bbox(
+    i1: u16,
+    i2: u16,
+    i3: u16,
+    i4: u16,
+    vertices: &[u32],
+) -> PolygonBox
+    ensures { λ r. ⌜ r ≡ fourBox (vertexWords (now (vertices .entry)) i1) (vertexWords (now (vertices .entry)) i2)
+        (vertexWords (now (vertices .entry)) i3)
+        (vertexWords (now (vertices .entry)) i4) ⌝ }
+{
+    polygon_boxes::kinds::box_box(i1, i2, i3, i4, vertices)
 }
 
 // ---- the boxes of a list

@@ -35,9 +35,13 @@ grownBox low high radius = record { min = bitsOf (vaddOf low (neg radius)); max 
 unfoldable pub pairBox : Words3 → Words3 → Float → PolygonBox
 pairBox a b radius = grownBox (vmin3Of (valuesOf a) (valuesOf b)) (vmax3Of (valuesOf a) (valuesOf b)) radius
 
--- Rule G9 (01: `bbox` masks triangle vertices by 7FFF hexadecimal): by the kind; of the others every bit counts.
+-- Rule G9 (01: `bbox` masks triangle vertices by 7FFF hexadecimal).
+abbrev pub triangleBox : List ℕ → ℕ → ℕ → ℕ → PolygonBox
+triangleBox ws v1 v2 v3 = threeBox (vertexWords ws (v1 % 32768)) (vertexWords ws (v2 % 32768)) (vertexWords ws (v3 % 32768))
+
+-- Rule G9 (bounds.rs, bbox): by the kind; of the others every bit counts.
 abbrev pub bboxOf : Polygon → List ℕ → PolygonBox
-bboxOf (Triangle area nan v1 v2 v3 e1 e2 e3) ws = threeBox (vertexWords ws (v1 % 32768)) (vertexWords ws (v2 % 32768)) (vertexWords ws (v3 % 32768))
+bboxOf (Triangle area nan v1 v2 v3 e1 e2 e3) ws = triangleBox ws v1 v2 v3
 bboxOf (Sphere index radius nan) ws = grownBox (valuesOf (vertexWords ws index)) (valuesOf (vertexWords ws index)) radius
 bboxOf (Capsule i1 i2 radius nan) ws = pairBox (vertexWords ws i1) (vertexWords ws i2) radius
 bboxOf (Box i1 i2 i3 i4) ws =

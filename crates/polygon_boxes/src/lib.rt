@@ -8,12 +8,23 @@ use math::words3::bits;
 use math::words3::values;
 use math::words3::vmax_words;
 use math::words3::vmin_words;
+use numbers::all_four;
+use numbers::all_three;
+use numbers::high3;
+use numbers::high4;
+use numbers::low3;
+use numbers::low4;
 use polygon::Polygon;
 use polygon::halves::half_of;
 ghost use mathlib.Core.Path.{_≡_};
+ghost use Prim.Native.Nat.{_+_, _*_, _≤_};
+ghost use lib.ListN.{length};
 ghost use Rattle.polygon_boxes.specs.Boxes.{vertexWords, threeBox, fourBox, grownBox, pairBox, bboxOf};
+ghost use Rattle.polygon_boxes.specs.Numbers.{Numbers};
 
+pub mod kinds;
 pub mod numbers;
+pub mod triangles;
 
 // Words, so that a NaN that is copied keeps its bits.
 #[repr(C)]
@@ -22,22 +33,50 @@ pub struct PolygonBox {
     pub max: Words3,
 }
 
-pub fn vertex_words(vertices: &[u32], i: u16) -> Words3
+// A vertex that is there.
+pub fn near_words(vertices: &[u32], i: u16) -> Words3
+    requires { ⌜ 3 * i + 3 ≤ length (now vertices) ⌝ }
     ensures { λ r. ⌜ r ≡ vertexWords (now (vertices .entry)) i ⌝ }
 {
     let at = 3 * (i as usize);
-    if at + 3 <= vertices.len() {
-        Words3 {
-            x: vertices[at],
-            y: vertices[at + 1],
-            z: vertices[at + 2],
-        }
+    Words3 {
+        x: vertices[at],
+        y: vertices[at + 1],
+        z: vertices[at + 2],
+    }
+}
+
+pub fn vertex_words(vertices: &[u32], i: u16) -> Words3
+    ensures { λ r. ⌜ r ≡ vertexWords (now (vertices .entry)) i ⌝ }
+{
+    if 3 * (i as usize) + 3 <= vertices.len() {
+        near_words(vertices, i)
     } else {
         Words3 { x: 0, y: 0, z: 0 }
     }
 }
 
-fn three_box(a: Words3, b: Words3, c: Words3) -> PolygonBox
+// Of words that are no NaN's, without a branch.
+fn number_box(a: Words3, b: Words3, c: Words3) -> PolygonBox
+    requires { ⌜ Numbers a × Numbers b × Numbers c ⌝ }
+    ensures { λ r. ⌜ r ≡ threeBox a b c ⌝ }
+{
+    PolygonBox {
+        min: Words3 {
+            x: low3(a.x, b.x, c.x),
+            y: low3(a.y, b.y, c.y),
+            z: low3(a.z, b.z, c.z),
+        },
+        max: Words3 {
+            x: high3(a.x, b.x, c.x),
+            y: high3(a.y, b.y, c.y),
+            z: high3(a.z, b.z, c.z),
+        },
+    }
+}
+
+// Word by word, whatever they are.
+fn word_box(a: Words3, b: Words3, c: Words3) -> PolygonBox
     ensures { λ r. ⌜ r ≡ threeBox a b c ⌝ }
 {
     PolygonBox {
@@ -46,13 +85,51 @@ fn three_box(a: Words3, b: Words3, c: Words3) -> PolygonBox
     }
 }
 
-fn four_box(a: Words3, b: Words3, c: Words3, d: Words3) -> PolygonBox
+fn three_box(a: Words3, b: Words3, c: Words3) -> PolygonBox
+    ensures { λ r. ⌜ r ≡ threeBox a b c ⌝ }
+{
+    if all_three(a, b, c) {
+        number_box(a, b, c)
+    } else {
+        word_box(a, b, c)
+    }
+}
+
+fn number_box_4(a: Words3, b: Words3, c: Words3, d: Words3) -> PolygonBox
+    requires { ⌜ Numbers a × Numbers b × Numbers c × Numbers d ⌝ }
     ensures { λ r. ⌜ r ≡ fourBox a b c d ⌝ }
 {
-    let three = three_box(a, b, c);
+    PolygonBox {
+        min: Words3 {
+            x: low4(a.x, b.x, c.x, d.x),
+            y: low4(a.y, b.y, c.y, d.y),
+            z: low4(a.z, b.z, c.z, d.z),
+        },
+        max: Words3 {
+            x: high4(a.x, b.x, c.x, d.x),
+            y: high4(a.y, b.y, c.y, d.y),
+            z: high4(a.z, b.z, c.z, d.z),
+        },
+    }
+}
+
+fn word_box_4(a: Words3, b: Words3, c: Words3, d: Words3) -> PolygonBox
+    ensures { λ r. ⌜ r ≡ fourBox a b c d ⌝ }
+{
+    let three = word_box(a, b, c);
     PolygonBox {
         min: vmin_words(three.min, d),
         max: vmax_words(three.max, d),
+    }
+}
+
+fn four_box(a: Words3, b: Words3, c: Words3, d: Words3) -> PolygonBox
+    ensures { λ r. ⌜ r ≡ fourBox a b c d ⌝ }
+{
+    if all_four(a, b, c, d) {
+        number_box_4(a, b, c, d)
+    } else {
+        word_box_4(a, b, c, d)
     }
 }
 

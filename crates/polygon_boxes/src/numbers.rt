@@ -26,6 +26,12 @@ pub fn all_three(a: Words3, b: Words3, c: Words3) -> bool
     are_numbers(a) & are_numbers(b) & are_numbers(c)
 }
 
+pub fn all_four(a: Words3, b: Words3, c: Words3, d: Words3) -> bool
+    ensures { λ r. ⌜ (r ≡ true → Numbers a × Numbers b × Numbers c × Numbers d) ⌝ }
+{
+    all_three(a, b, c) & are_numbers(d)
+}
+
 pub fn low3(a: u32, b: u32, c: u32) -> u32
     requires { ⌜ Number a × Number b × Number c ⌝ }
     ensures { λ r. ⌜ r ≡ vminWord (vminWord a b) c ⌝ }
@@ -43,5 +49,31 @@ pub fn high3(a: u32, b: u32, c: u32) -> u32
     f32::to_bits(vmax(
         vmax(f32::from_bits(a), f32::from_bits(b)),
         f32::from_bits(c),
+    ))
+}
+
+pub fn low4(a: u32, b: u32, c: u32, d: u32) -> u32
+    requires { ⌜ Number a × Number b × Number c × Number d ⌝ }
+    ensures { λ r. ⌜ r ≡ vminWord (vminWord (vminWord a b) c) d ⌝ }
+{
+    f32::to_bits(vmin(
+        vmin(
+            vmin(f32::from_bits(a), f32::from_bits(b)),
+            f32::from_bits(c),
+        ),
+        f32::from_bits(d),
+    ))
+}
+
+pub fn high4(a: u32, b: u32, c: u32, d: u32) -> u32
+    requires { ⌜ Number a × Number b × Number c × Number d ⌝ }
+    ensures { λ r. ⌜ r ≡ vmaxWord (vmaxWord (vmaxWord a b) c) d ⌝ }
+{
+    f32::to_bits(vmax(
+        vmax(
+            vmax(f32::from_bits(a), f32::from_bits(b)),
+            f32::from_bits(c),
+        ),
+        f32::from_bits(d),
     ))
 }

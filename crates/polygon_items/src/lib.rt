@@ -5,10 +5,11 @@ use polygon::halves::half_at;
 use polygon::reading::polygon_at;
 use polygon_boxes::PolygonBox;
 use polygon_boxes::bbox;
+use polygon_boxes::near_words;
 use polygon_boxes::numbers::all_three;
 use polygon_boxes::numbers::high3;
 use polygon_boxes::numbers::low3;
-use polygon_boxes::vertex_words;
+use polygon_boxes::triangles::within;
 ghost use mathlib.Core.Path.{_≡_};
 ghost use Prim.Native.Nat.{_+_, _*_, _≤_};
 ghost use lib.ListN.{length};
@@ -61,12 +62,17 @@ fn put_one(polygons: &[u8], from: usize, vertices: &[u32], items: &mut [u32], at
     ensures { λ _. ⌜ now (items .exit) ≡ sets (now (items .entry)) at (itemWords (bboxOf (polygonAt (now (polygons .entry)) from) (now (vertices .entry)))) ⌝ }
 {
     if half_at(polygons, from) % 8 == 0 {
-        let a = vertex_words(vertices, half_at(polygons, from + 4) % 32768);
-        let b = vertex_words(vertices, half_at(polygons, from + 6) % 32768);
-        let c = vertex_words(vertices, half_at(polygons, from + 8) % 32768);
-        if all_three(a, b, c) {
-            put_three(items, at, a, b, c);
-            return;
+        let i = half_at(polygons, from + 4) % 32768;
+        let j = half_at(polygons, from + 6) % 32768;
+        let k = half_at(polygons, from + 8) % 32768;
+        if within(i, j, k, vertices.len()) {
+            let a = near_words(vertices, i);
+            let b = near_words(vertices, j);
+            let c = near_words(vertices, k);
+            if all_three(a, b, c) {
+                put_three(items, at, a, b, c);
+                return;
+            }
         }
     }
     put_item(items, at, bbox(polygon_at(polygons, from), vertices));

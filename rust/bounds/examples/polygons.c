@@ -48,6 +48,10 @@ static void boxes(void) {
     number("sphere: min x", box.min.x, 0);
     number("sphere: max z", box.max.z, 0x40800000);
     number("triangle: max y", bounds_polygon_bbox(triangle(0x8000, 1, 9), vertices, 6).max.y, 0x40000000);
+    number("by numbers: triangle", bounds_triangle_bbox(0x8000, 1, 9, vertices, 6).max.y, 0x40000000);
+    number("by numbers: sphere", bounds_sphere_bbox(0, 1.0f, vertices, 6).max.z, 0x40800000);
+    number("by numbers: capsule", bounds_capsule_bbox(0, 1, 1.0f, vertices, 6).min.x, 0xBF800000);
+    number("by numbers: box", bounds_box_bbox(1, 9, 1, 0, vertices, 6).max.x, 0x3F800000);
     sphere.kind = 9;
     number("kind 9: refusal", bounds_polygon_bbox(sphere, vertices, 6).refusal, 6);
 }

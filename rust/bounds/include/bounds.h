@@ -231,6 +231,8 @@ typedef struct {
     bounds_words3 min, max;  /* 0 where refused */
 } bounds_box_answer;
 
+typedef struct { bounds_words3 min, max; } bounds_polygon_box;
+
 typedef struct {
     uint32_t refusal;
     size_t count;  /* materials in the list; 0 where refused */
@@ -246,6 +248,14 @@ uint32_t bounds_polygon_write(uint8_t *out, size_t out_len, bounds_polygon polyg
 
 /* The box of a polygon over vertices of three words each; one that is not there is zero. Refusal 6 (a kind above 4). */
 bounds_box_answer bounds_polygon_bbox(bounds_polygon polygon, const uint32_t *vertices, size_t vertices_len);
+
+/* The same by the kind, from the numbers of its vertices: no struct is copied, and nothing is refused. Of a triangle's
+ * numbers bit 15 is left out; a cylinder's box is a capsule's. */
+bounds_polygon_box bounds_triangle_bbox(uint16_t v1, uint16_t v2, uint16_t v3, const uint32_t *vertices, size_t vertices_len);
+bounds_polygon_box bounds_sphere_bbox(uint16_t index, float radius, const uint32_t *vertices, size_t vertices_len);
+bounds_polygon_box bounds_capsule_bbox(uint16_t i1, uint16_t i2, float radius, const uint32_t *vertices, size_t vertices_len);
+bounds_polygon_box bounds_box_bbox(uint16_t i1, uint16_t i2, uint16_t i3, uint16_t i4, const uint32_t *vertices,
+                                   size_t vertices_len);
 
 /* The boxes of n records over vertices of three words each, as entries of seven words: 1, min, max, as bounds_item has
  * them. Refusals 1 (over 32,767), 2 (under 16 bytes or seven words a polygon), 6 (a record's kind is above 4), in this order. */

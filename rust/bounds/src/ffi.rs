@@ -299,11 +299,20 @@ pub struct ReadAnswer {
     pub polygon: PolygonC,
 }
 
-/// `bounds_box_answer`.
+/// `bounds_box_answer`: of the struct, which only tests call.
+#[cfg(test)]
 #[derive(Clone, Copy)]
 #[repr(C)]
 pub struct BoxAnswer {
     pub refusal: u32,
+    pub min: Words3,
+    pub max: Words3,
+}
+
+/// `bounds_polygon_box`.
+#[derive(Clone, Copy)]
+#[repr(C)]
+pub struct PolygonBox {
     pub min: Words3,
     pub max: Words3,
 }
@@ -326,7 +335,12 @@ unsafe extern "C" {
     // Memory is reached, and only through each pointer and the length behind it: called below, with slices.
     fn bounds_polygon_read(bytes: *const u8, bytes_len: usize) -> ReadAnswer;
     fn bounds_polygon_write(out: *mut u8, out_len: usize, polygon: PolygonC) -> u32;
+    #[cfg(test)]
     fn bounds_polygon_bbox(polygon: PolygonC, vertices: *const u32, vertices_len: usize) -> BoxAnswer;
+    fn bounds_triangle_bbox(v1: u16, v2: u16, v3: u16, vertices: *const u32, vertices_len: usize) -> PolygonBox;
+    fn bounds_sphere_bbox(index: u16, radius: f32, vertices: *const u32, vertices_len: usize) -> PolygonBox;
+    fn bounds_capsule_bbox(i1: u16, i2: u16, radius: f32, vertices: *const u32, vertices_len: usize) -> PolygonBox;
+    fn bounds_box_bbox(i1: u16, i2: u16, i3: u16, i4: u16, vertices: *const u32, vertices_len: usize) -> PolygonBox;
     fn bounds_polygon_items(
         polygons: *const u8,
         polygons_len: usize,
@@ -378,10 +392,40 @@ pub fn polygon_write(out: &mut [u8], polygon: PolygonC) -> u32 {
 }
 
 /// `bounds_polygon_bbox`.
+#[cfg(test)]
 pub fn polygon_bbox(polygon: PolygonC, vertices: &[u32]) -> BoxAnswer {
     // SAFETY: the pointer comes from a slice, which is only read, and goes with its length. Any struct may be given: the
     // library reads a vertex only where the slice has it.
     unsafe { bounds_polygon_bbox(polygon, vertices.as_ptr(), vertices.len()) }
+}
+
+/// `bounds_triangle_bbox`.
+#[inline]
+pub fn triangle_bbox([v1, v2, v3]: [u16; 3], vertices: &[u32]) -> PolygonBox {
+    // SAFETY: the pointer comes from a slice, which is only read, and goes with its length. The numbers may be any: the
+    // library reads a vertex only where the slice has it.
+    unsafe { bounds_triangle_bbox(v1, v2, v3, vertices.as_ptr(), vertices.len()) }
+}
+
+/// `bounds_sphere_bbox`.
+#[inline]
+pub fn sphere_bbox(index: u16, radius: f32, vertices: &[u32]) -> PolygonBox {
+    // SAFETY: as for a triangle; float arithmetic has an answer for any radius.
+    unsafe { bounds_sphere_bbox(index, radius, vertices.as_ptr(), vertices.len()) }
+}
+
+/// `bounds_capsule_bbox`.
+#[inline]
+pub fn capsule_bbox(i1: u16, i2: u16, radius: f32, vertices: &[u32]) -> PolygonBox {
+    // SAFETY: as for a sphere.
+    unsafe { bounds_capsule_bbox(i1, i2, radius, vertices.as_ptr(), vertices.len()) }
+}
+
+/// `bounds_box_bbox`.
+#[inline]
+pub fn box_bbox([i1, i2, i3, i4]: [u16; 4], vertices: &[u32]) -> PolygonBox {
+    // SAFETY: as for a triangle.
+    unsafe { bounds_box_bbox(i1, i2, i3, i4, vertices.as_ptr(), vertices.len()) }
 }
 
 /// `bounds_polygon_items`, over items as they lie in memory.
@@ -459,6 +503,7 @@ pub fn build_materials(
 }
 
 /// The words of points, three each, as they lie in memory.
+#[inline]
 pub fn vector_words(points: &[Vec3]) -> &[u32] {
     // SAFETY: a point is `repr(C)`, three f32 without padding and aligned as a u32 is (checked above), and each pattern of
     // a float's bits is a u32. The words are borrowed for as long as the points.
@@ -468,7 +513,9 @@ pub fn vector_words(points: &[Vec3]) -> &[u32] {
 const _: () = {
     assert!(size_of::<PolygonC>() == 20 && align_of::<PolygonC>() == 4);
     assert!(size_of::<ReadAnswer>() == 24 && align_of::<ReadAnswer>() == 4);
+    #[cfg(test)]
     assert!(size_of::<BoxAnswer>() == 28 && align_of::<BoxAnswer>() == 4);
+    assert!(size_of::<PolygonBox>() == 24 && align_of::<PolygonBox>() == 4);
     assert!(size_of::<MaterialsAnswer>() == 16 && align_of::<MaterialsAnswer>() == 8);
     assert!(size_of::<BoundMaterial>() == 8 && align_of::<BoundMaterial>() == 4);
     assert!(size_of::<BoundVertex>() == 6 && align_of::<BoundVertex>() == 2);

@@ -13,7 +13,7 @@
 //! ```
 
 use crate::bvh::parts;
-use crate::ffi::{self, PolygonC};
+use crate::ffi::{self, PolygonBox, PolygonC};
 pub use crate::types::{BoundMaterial, BoundVertex};
 use crate::{BvhItem, Refusal, Vec3};
 
@@ -136,10 +136,26 @@ impl Polygon {
     /// let flagged = Polygon::Triangle { material: 0, area: 0.0, v: [0x8000, 0, 9], edges: [-1; 3] };
     /// assert_eq!(flagged.bbox(&vertices), (Vec3::ZERO, vertices[0]));
     /// ```
+    #[inline]
     pub fn bbox(&self, vertices: &[Vec3]) -> (Vec3, Vec3) {
-        let answer = ffi::polygon_bbox(self.as_struct(), ffi::vector_words(vertices));
-        Refusal::check(answer.refusal).expect("a known kind is not refused");
-        (floats(answer.min), floats(answer.max))
+        let words = ffi::vector_words(vertices);
+        let PolygonBox { min, max } = match *self {
+            Polygon::Triangle { v, .. } => ffi::triangle_bbox(v, words),
+            _ => self.other_box(words),
+        };
+        (floats(min), floats(max))
+    }
+
+    /// Apart, so that a triangle's box is small enough to be compiled into the caller's loop.
+    fn other_box(&self, words: &[u32]) -> PolygonBox {
+        match *self {
+            Polygon::Triangle { v, .. } => ffi::triangle_bbox(v, words),
+            Polygon::Sphere { index, radius, .. } => ffi::sphere_bbox(index, radius, words),
+            Polygon::Capsule { i1, i2, radius, .. } | Polygon::Cylinder { i1, i2, radius, .. } => {
+                ffi::capsule_bbox(i1, i2, radius, words)
+            }
+            Polygon::Box { i, .. } => ffi::box_bbox(i.map(|i| i as u16), words),
+        }
     }
 
     fn as_struct(&self) -> PolygonC {
@@ -181,6 +197,7 @@ impl Polygon {
     }
 }
 
+#[inline]
 fn floats(w: ffi::Words3) -> Vec3 {
     Vec3::new(f32::from_bits(w.x), f32::from_bits(w.y), f32::from_bits(w.z))
 }
@@ -304,4 +321,46 @@ impl BoundVertex {
 /// ```
 pub fn calculate_quantum(box_min: Vec3, box_max: Vec3) -> Vec3 {
     ffi::bounds_quantum(ffi::Aabb { min: box_min, max: box_max })
+}
+
+#[cfg(test)]
+mod tests {
+    use super::*;
+
+    /// Signs, a tie of zeros, an infinity, and NaN whose bits are to be kept; vertex 3 is the last.
+    const VERTICES: [[u32; 3]; 4] = [
+        [0x3F80_0000, 0x8000_0000, 0x7F80_0001],
+        [0xC000_0000, 0x0000_0000, 0x4040_0000],
+        [0x7F80_0000, 0x3F00_0000, 0xBF80_0000],
+        [0x0000_0001, 0xFFC0_0002, 0x4000_0000],
+    ];
+
+    fn of_kind(kind: usize, n: [u16; 4], radius: f32) -> Polygon {
+        let (material, [i1, i2, i3, _]) = (0, n);
+        match kind {
+            0 => Polygon::Triangle { material, area: radius, v: [i1, i2, i3], edges: [-1; 3] },
+            1 => Polygon::Sphere { material, index: i1, radius },
+            2 => Polygon::Capsule { material, i1, i2, radius },
+            3 => Polygon::Box { material, i: n.map(|i| i as i16) },
+            _ => Polygon::Cylinder { material, i1, i2, radius },
+        }
+    }
+
+    /// A box has the same words by its kind as by the struct, of any numbers, flagged and missing ones too.
+    #[test]
+    fn by_the_kind_as_by_the_struct() {
+        let vertices = VERTICES.map(|[x, y, z]| floats(ffi::Words3 { x, y, z }));
+        let bits = |v: Vec3| [v.x, v.y, v.z].map(f32::to_bits);
+        let numbers = [0, 1, 2, 3, 4, 0x8001, 0xFFFF];
+        let lists = (0..7_usize.pow(4)).map(|k| [k, k / 7, k / 49, k / 343].map(|k| numbers[k % 7]));
+        for n in lists {
+            for (kind, radius) in [(0, 1.0), (1, 0.5), (1, f32::NAN), (2, -0.0), (3, 1.0), (4, f32::INFINITY)] {
+                let polygon = of_kind(kind, n, radius);
+                let (low, high) = polygon.bbox(&vertices);
+                let given = ffi::polygon_bbox(polygon.as_struct(), ffi::vector_words(&vertices));
+                let (min, max) = (floats(given.min), floats(given.max));
+                assert_eq!((given.refusal, bits(low), bits(high)), (0, bits(min), bits(max)), "{polygon:?}");
+            }
+        }
+    }
 }

@@ -1,38 +1,23 @@
--- `three_box` meets its contract: what its calls ensure, one after the other.
+-- `three_box` meets its contract: either way makes the same box.
 use borrow.Author.Needs.{needs}
 use Rattle.polygon_boxes.proofs.three_box.Statement.{statement}
 use Rattle.polygon_boxes.proofs.three_box.Tie as tie
-use mathlib.Core.Path.{ap, _∙_}
-use Rattle.math.specs.Stored.{vminWordsOf, vmaxWordsOf}
-use Rattle.math.specs.declared.words3.Words3.{Words3}
-use Rattle.polygon_boxes.specs.Boxes.{threeBox}
 
-vmin-words-requires : tie.Need-vmin-words-requires
-vmin-words-requires c κs = search needs
+all-three-requires : tie.Need-all-three-requires
+all-three-requires c κs = search needs
 
-vmin-words-requires-2 : tie.Need-vmin-words-requires-2
-vmin-words-requires-2 c κs = search needs
+number-box-requires : tie.Need-number-box-requires
+number-box-requires c κs = c .before .all-three .ensures (c .if1 .taken)
 
-vmax-words-requires : tie.Need-vmax-words-requires
-vmax-words-requires c κs = search needs
-
-vmax-words-requires-2 : tie.Need-vmax-words-requires-2
-vmax-words-requires-2 c κs = search needs
+word-box-requires : tie.Need-word-box-requires
+word-box-requires c κs = search needs
 
 returns : tie.Need-returns
-unfolding threeBox
-returns c =
-    let third = c .before .before .before .before .args .c in
-    let low = c .before .before .vmin-words2 .ensures ∙ ap (λ (w : Words3). vminWordsOf w third) (c .before .before .before .vmin-words .ensures) in
-    let high = c .vmax-words2 .ensures ∙ ap (λ (w : Words3). vmaxWordsOf w third) (c .before .vmax-words .ensures) in
-    λ i. record { min = low i; max = high i }
+returns c = search needs
+
+returns-2 : tie.Need-returns-2
+returns-2 c = search needs
 
 pub three-box-spec : {M : Type 1} → statement M
 three-box-spec =
-    tie.close
-    (tie.spec
-    vmin-words-requires
-    vmin-words-requires-2
-    vmax-words-requires
-    vmax-words-requires-2
-    returns)
+    tie.close (tie.spec all-three-requires number-box-requires word-box-requires returns returns-2)

@@ -1,4 +1,4 @@
--- `put_one`: a triangle without a NaN on the short way, else by its box.
+-- `put_one`: a triangle whose vertices are there and have no NaN on the short way, else by its box.
 use borrow.Author.Needs.{needs}
 use Rattle.polygon_items.proofs.put_one.Statement.{statement}
 use Rattle.polygon_items.proofs.put_one.Tie as tie
@@ -20,17 +20,11 @@ add-half-at c = search needs
 half-at-requires-2 : tie.Need-half-at-requires-2
 half-at-requires-2 c κs = search needs
 
-vertex-words-requires : tie.Need-vertex-words-requires
-vertex-words-requires c κs = search needs
-
 add-half-at-2 : tie.Need-add-half-at-2
 add-half-at-2 c = search needs
 
 half-at-requires-3 : tie.Need-half-at-requires-3
 half-at-requires-3 c κs = search needs
-
-vertex-words-requires-2 : tie.Need-vertex-words-requires-2
-vertex-words-requires-2 c κs = search needs
 
 add-half-at-3 : tie.Need-add-half-at-3
 add-half-at-3 c = search needs
@@ -38,16 +32,26 @@ add-half-at-3 c = search needs
 half-at-requires-4 : tie.Need-half-at-requires-4
 half-at-requires-4 c κs = search needs
 
-vertex-words-requires-3 : tie.Need-vertex-words-requires-3
-vertex-words-requires-3 c κs = search needs
+within-requires : tie.Need-within-requires
+within-requires c κs = search needs
+
+near-words-requires : tie.Need-near-words-requires
+near-words-requires c κs = c .before .within .ensures (c .if2 .taken) .0
+
+near-words-requires-2 : tie.Need-near-words-requires-2
+near-words-requires-2 c κs = c .before .before .within .ensures (c .before .if2 .taken) .1
+
+near-words-requires-3 : tie.Need-near-words-requires-3
+near-words-requires-3 c κs = c .before .before .before .within .ensures (c .before .before .if2 .taken) .2
 
 all-three-requires : tie.Need-all-three-requires
 all-three-requires c κs = search needs
 
 put-three-requires : tie.Need-put-three-requires
 put-three-requires c κs =
-    let c14 = c .before .before .before .before .before .before .before .before .before .before .before .before .before .before in
-    let n = c .before .before .all-three .ensures (c .before .if2 .taken) in (c14 .pre .1, n .0, n .1, n .2)
+    let c8 = c .before .before .before .before .before .before .before .before in
+    let n = c .before .before .all-three .ensures (c .before .if3 .taken) in
+    (c8 .before .before .before .before .before .before .before .before .pre .1, n .0, n .1, n .2)
 
 same-length : tie.Need-same-length
 same-length c = search needs
@@ -55,18 +59,12 @@ same-length c = search needs
 returns : tie.Need-returns
 returns c =
     let c6 = c .before .before .before .before .before .before in
-    let c7 = c6 .before in
-    let c8 = c7 .before in
-    let c9 = c8 .before in
-    let c10 = c9 .before in
-    let c11 = c10 .before in
-    let c12 = c11 .before in
-    let c13 = c12 .before in
-    let c17 = c13 .before .before .before .before in
-    let a = c17 .args in
-    let k = ap (λ (n : ℕ). n % 8) (sym (c13 .half-at .ensures)) ∙ c12 .if1 .taken in
-    let box = three-at (a .polygons .now) (a .vertices .now) (a .from) k _ _ _ _ _ _ (c11 .half-at2 .ensures) (c9 .half-at3 .ensures) (c7 .half-at4 .ensures)
-    (c10 .vertex-words .ensures) (c8 .vertex-words2 .ensures) (c6 .vertex-words3 .ensures) in
+    let c11 = c6 .before .before .before .before .before in
+    let c14 = c11 .before .before .before in
+    let a = c14 .before .before .before .before .before .args in
+    let k = ap (λ (n : ℕ). n % 8) (sym (c14 .before .half-at .ensures)) ∙ c14 .if1 .taken in
+    let box = three-at (a .polygons .now) (a .vertices .now) (a .from) k _ _ _ _ _ _ (c11 .before .before .half-at2 .ensures) (c11 .before .half-at3 .ensures)
+    (c11 .half-at4 .ensures) (c6 .before .before .near-words .ensures) (c6 .before .near-words2 .ensures) (c6 .near-words3 .ensures) in
     c .before .before .put-three .ensures ∙ ap (λ (b : PolygonBox). sets (a .items .now) (a .at) (itemWords b)) box
 
 polygon-at-requires : tie.Need-polygon-at-requires
@@ -96,13 +94,14 @@ put-one-spec =
     half-at-requires
     add-half-at
     half-at-requires-2
-    vertex-words-requires
     add-half-at-2
     half-at-requires-3
-    vertex-words-requires-2
     add-half-at-3
     half-at-requires-4
-    vertex-words-requires-3
+    within-requires
+    near-words-requires
+    near-words-requires-2
+    near-words-requires-3
     all-three-requires
     put-three-requires
     same-length

@@ -1,0 +1,57 @@
+-- `triangles::triangle_box`: what its calls ensure, on the short way and on the long one.
+use borrow.Author.Needs.{needs}
+use Rattle.polygon_boxes.proofs.triangles.triangle_box.Statement.{statement}
+use Rattle.polygon_boxes.proofs.triangles.triangle_box.Tie as tie
+
+within-requires : tie.Need-within-requires
+within-requires c κs = search needs
+
+near-words-requires : tie.Need-near-words-requires
+near-words-requires c κs = c .before .within .ensures (c .if1 .taken) .0
+
+near-words-requires-2 : tie.Need-near-words-requires-2
+near-words-requires-2 c κs = c .before .before .within .ensures (c .before .if1 .taken) .1
+
+near-words-requires-3 : tie.Need-near-words-requires-3
+near-words-requires-3 c κs = c .before .before .before .within .ensures (c .before .before .if1 .taken) .2
+
+all-three-requires : tie.Need-all-three-requires
+all-three-requires c κs = search needs
+
+number-box-requires : tie.Need-number-box-requires
+number-box-requires c κs = c .before .all-three .ensures (c .if2 .taken)
+
+returns : tie.Need-returns
+returns c = cc
+
+vertex-words-requires : tie.Need-vertex-words-requires
+vertex-words-requires c κs = search needs
+
+vertex-words-requires-2 : tie.Need-vertex-words-requires-2
+vertex-words-requires-2 c κs = search needs
+
+vertex-words-requires-3 : tie.Need-vertex-words-requires-3
+vertex-words-requires-3 c κs = search needs
+
+word-box-requires : tie.Need-word-box-requires
+word-box-requires c κs = search needs
+
+returns-2 : tie.Need-returns-2
+returns-2 c = cc
+
+pub triangle-box-spec : {M : Type 1} → statement M
+triangle-box-spec =
+    tie.close
+    (tie.spec
+    within-requires
+    near-words-requires
+    near-words-requires-2
+    near-words-requires-3
+    all-three-requires
+    number-box-requires
+    returns
+    vertex-words-requires
+    vertex-words-requires-2
+    vertex-words-requires-3
+    word-box-requires
+    returns-2)
