@@ -14,7 +14,7 @@ ghost use Rattle.entries.specs.Boxes.{boxAt};
 ghost use Rattle.base.specs.Lists.{oneIf, sift, Within};
 ghost use Rattle.entries.specs.Kept.{Kept};
 ghost use Rattle.split.specs.Rule.{above, offset, twoLeads};
-ghost use Rattle.split.specs.steps.Groups.{countsOf, axisBy, stepOf, passes, Nowhere, Parted, LeaderFirst};
+ghost use Rattle.split.specs.steps.Groups.{countsOf, axisBy, stepOf, passes, Nowhere, Leading, Parted, LeaderFirst};
 
 // How many centres are below the average, on each axis, and how many there are.
 pub struct Counts {
@@ -115,8 +115,42 @@ pub fn paste(dst: &mut [u32], at: usize, src: &[u32], n: usize)
     }
 }
 
+// How many places there are before the first that is not above the cut.
+fn run_above(places: &[u32], entries: &[u32], centres: &[f32], step: usize, cut: f32) -> usize
+    requires { ⌜ (Within (length (now entries)) (now places)) × (step < 3) × (Kept (now entries) (now centres)) ⌝ }
+    ensures { λ r. ⌜ Leading (passes (now (entries .entry)) step cut) (now (places .entry)) r ⌝ }
+{
+    let mut i = 0;
+    while i < places.len() {
+        if one_if_above(entries, centres, Place(places[i]), step, cut) < 1 {
+            return i;
+        }
+        i += 1;
+    }
+    i
+}
+
+// How many of the first places are seen to be above the cut: none where nobody looks.
+fn seen_above(
+    places: &[u32],
+    entries: &[u32],
+    centres: &[f32],
+    step: usize,
+    cut: f32,
+    look: bool,
+) -> usize
+    requires { ⌜ (Within (length (now entries)) (now places)) × (step < 3) × (Kept (now entries) (now centres)) ⌝ }
+    ensures { λ r. ⌜ Leading (passes (now (entries .entry)) step cut) (now (places .entry)) r ⌝ }
+{
+    if look {
+        return run_above(places, entries, centres, step, cut);
+    }
+    0
+}
+
 // The places whose centre is above the average on the axis, to the front of `places`, the others to the front of `temp`, in their order;
-// how many are above. Each place is stored in both, so that no branch waits for the comparison.
+// how many are above. Each place is stored in both, so that no branch waits for the comparison; but first, where it is said to look
+// for them, those that stand where they belong are passed.
 pub fn partition(
     places: &mut [u32],
     temp: &mut [u32],
@@ -124,6 +158,7 @@ pub fn partition(
     centres: &[f32],
     avg: Vec3,
     axis: Axis,
+    look: bool,
 ) -> usize
     requires { ⌜ (length (now places) ≤ length (now temp)) × (Within (length (now entries)) (now places)) × (Kept (now entries) (now centres)) ⌝ }
     ensures { λ r. ⌜ Parted (above (boxAt (now (entries .entry))) avg axis) (now (places .entry)) (now (places .exit)) (now (temp .exit)) r ⌝ }
@@ -131,8 +166,9 @@ pub fn partition(
     let n = places.len();
     let step = step_of(axis);
     let cut = math::axis::coordinate(axis, avg);
-    let mut k = 0;
-    let mut i = 0;
+    let seen = seen_above(places, entries, centres, step, cut, look);
+    let mut k = seen;
+    let mut i = seen;
     while i < n {
         let p = places[i];
         places[k] = p;
@@ -203,6 +239,20 @@ fn seen_none_above(
     none_above(places, entries, centres, avg, axis)
 }
 
+fn count_on(a: Axis, c: Counts) -> u32 {
+    match a {
+        Axis::X => c.x,
+        Axis::Y => c.y,
+        Axis::Z => c.z,
+    }
+}
+
+// Whether so few centres are below the average that the first places are likely above it. Hostile lists are such: a node loses
+// its last few items.
+fn few_below(a: Axis, c: Counts) -> bool {
+    16 * (count_on(a, c) as usize) < (c.all as usize)
+}
+
 // The group above the average and the others, the group that leads first, with `temp` to work in; how many it has. Where none is
 // above, as of equal and of nested boxes, all stay where they are.
 pub fn part(
@@ -223,6 +273,7 @@ pub fn part(
     if seen_none_above(places, entries, centres, avg, axis, counts) {
         return places.len();
     }
-    let k = partition(places, temp, entries, centres, avg, axis);
+    let look = few_below(axis, counts);
+    let k = partition(places, temp, entries, centres, avg, axis, look);
     unite(places, temp, k)
 }

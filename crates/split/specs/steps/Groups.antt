@@ -1,6 +1,6 @@
 -- The steps of a split, as the contracts say them: counts, the parted list, the leading group first. Definitions only.
 use Prim.Native.Nat.{ℕ, _+_, _-_, _*_, _/_, _≤_, _<_}
-use mathlib.Core.Bool.{Bool, false, not, cond}
+use mathlib.Core.Bool.{Bool, true, false, not, cond}
 use mathlib.Core.List.{List, _++_}
 use mathlib.Core.Path.{_≡_}
 use lib.ListN.{length, take, drop, getD}
@@ -45,6 +45,11 @@ passes ws step cut p = lt cut (centreAt ws step p)
 -- no place passes the test
 pub record Nowhere (test : ℕ → Bool) (ps : List ℕ) : Type 0 where
   pub fails : (k : ℕ) → k < length ps → test (getD ps k 0) ≡ false
+
+-- the first r places pass the test
+pub record Leading (test : ℕ → Bool) (ps : List ℕ) (r : ℕ) : Type 0 where
+  pub within : r ≤ length ps
+  pub pass : (k : ℕ) → k < r → test (getD ps k 0) ≡ true
 
 -- Rule T5: what passes the test at the front of u, the rest at the front of v, order kept, and how many pass.
 pub record Parted (test : ℕ → Bool) (ps u v : List ℕ) (r : ℕ) : Type 0 where
