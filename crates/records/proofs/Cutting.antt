@@ -1,13 +1,14 @@
 -- The whole part of a float from 0 to 32768: with 2 ^ 23 added it is rounded to a whole number, the part or the next, and a comparison tells which.
 use mathlib.Core.Path.{_≡_, refl, sym, ap, _∙_, subst}
-use mathlib.Core.Bool.{Bool, true, false, not, cond, true≢false}
+use mathlib.Core.Bool.{Bool, true, false, cond, true≢false}
 use Prim.Native.Nat.{ℕ, suc, _+_, _-_, _*_, _/_, _%_, _^_, _≤_, _<_}
-use native.Mathlib.Nat.{mul-pos, zero-lt-suc, le-of-mul-le-mul-right, mul-le-mul-right, mul-le-mul, mul-lt-mul-of-pos-right, add-mul, mul-mod-left, mul-div-cancel, le-refl, le-div-iff-mul-le, div-lt-iff-lt-mul}
+use native.Mathlib.Nat.{le-refl, zero-lt-suc, add-mul, mul-pos, mul-le-mul, mul-le-mul-right, mul-lt-mul-of-pos-right, le-of-mul-le-mul-right}
+use native.Mathlib.Nat.{mul-mod-left, mul-div-cancel, le-div-iff-mul-le, div-lt-iff-lt-mul}
 use native.Mathlib.Decide.{decLe}
 use native.Mathlib.Omega.{arith}
 use lib.Dec.{T, leb, leb→le, ltb, eqb, lit≤}
 use lib.IntN.{ℤ, pos, negsuc, negℤ}
-use lib.Pow.{pow-pos, pow-mono}
+use lib.Pow.{pow-mono}
 use lib.Ieee.{Float, nan, inf, fin, binary32, prec, up, down, fits, le, lt, neg, add, sub, ofBits, toSigned, inSigned, whole}
 use lib.Ieee.Fits.{down-pos, add-fits}
 use lib.Ieee.Exact.{HasValue}
@@ -259,9 +260,6 @@ cast-value (fin true m e) n v h = absurd (true≢false (v .0))
 cast-value (fin false m e) n v h = toSigned-whole 15 false m e n (omega (arith, v .1)) (omega (arith, v .1, down-pos e)) h
 
 -- ---- the whole part of the size of x, and what x is cast to
-abbrev pub sizeOf : Float → Float
-sizeOf x = cond (lt x (ofBits binary32 0)) (neg x) x
-
 pub record Parts (x : Float) (b : Bool) : Type 0 where
   pub part : ℕ
   pub whole-part : Whole part (cond b (neg x) x)

@@ -3,9 +3,9 @@ use native.Mathlib.Omega.{arith}
 use borrow.Author.Needs.{needs}
 use mathlib.Core.Path.{_≡_, refl, sym, ap, _∙_, subst}
 use mathlib.Core.Bool.{Bool, false, cond}
-use Prim.Native.Nat.{ℕ, _<_}
+use Prim.Native.Nat.{_<_}
 use lib.IntN.{ℤ, pos, negℤ, _-ℤ_}
-use lib.Ieee.{Float, binary32, ofBits, lt, toSigned}
+use lib.Ieee.{binary32, ofBits, lt, toSigned}
 use lib.Ieee.Exact.{HasValue}
 use mir.Syntax.{w16}
 use mir.Val.{SFits, toZ, ofZ}
