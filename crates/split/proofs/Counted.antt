@@ -1,4 +1,4 @@
--- What a count of the places that pass a test tells of them: where they stand, if none of the others does before the end.
+-- What the number of places that pass a test tells: none of them does where it is 0, and the first so many do where none behind them does.
 use Prim.Native.Nat.{ℕ, zero, suc, _≤_, _<_}
 use native.Mathlib.Omega.{arith}
 use mathlib.Core.Bool.{Bool, true, false}
