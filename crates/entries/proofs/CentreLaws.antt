@@ -7,7 +7,7 @@ use mathlib.Core.List.{List, [], _∷_}
 use mathlib.Core.Path.{_≡_, subst, ap, _∙_}
 use lib.ListN.{length, getD, set, length-set}
 use lib.Seq.{sets, getD-set-same, getD-set-other}
-use lib.Ieee.{Float, binary32, ofBits, nan}
+use lib.Ieee.{Float, neg, nan}
 use Rattle.math.specs.declared.vec3.Vec3.{Vec3}
 use Rattle.entries.specs.Average.{centreOf}
 use Rattle.entries.specs.Boxes.{boxAt}
@@ -15,7 +15,7 @@ use Rattle.entries.specs.Kept.{lanesAt, lanesOf, Kept}
 
 -- the lanes of entry i are stored
 abbrev pub stored : List Float → ℕ → Vec3 → List Float
-stored cs i c = set (set (set (set cs (4 * i) (c .x)) (4 * i + 1) (c .y)) (4 * i + 2) (c .z)) (4 * i + 3) (ofBits binary32 0)
+stored cs i c = set (set (set (set cs (4 * i) (c .x)) (4 * i + 1) (c .y)) (4 * i + 2) (c .z)) (4 * i + 3) (neg (c .x))
 
 module _ (cs : List Float) (i : ℕ) (c : Vec3) where
   abbrev one : List Float
@@ -27,7 +27,7 @@ module _ (cs : List Float) (i : ℕ) (c : Vec3) where
   abbrev three : List Float
   three = set two (4 * i + 2) (c .z)
 
-  pub in-a-row : stored cs i c ≡ sets cs (4 * i) (c .x ∷ c .y ∷ c .z ∷ ofBits binary32 0 ∷ [])
+  pub in-a-row : stored cs i c ≡ sets cs (4 * i) (c .x ∷ c .y ∷ c .z ∷ neg (c .x) ∷ [])
   in-a-row = simp towards-suc
 
   stored-long : length (stored cs i c) ≡ length cs
@@ -35,7 +35,7 @@ module _ (cs : List Float) (i : ℕ) (c : Vec3) where
 
   other : (j : ℕ) → j < 4 * i → getD (stored cs i c) j nan ≡ getD cs j nan
   other j h =
-      getD-set-other three (4 * i + 3) j (ofBits binary32 0) nan (λ q. omega arith)
+      getD-set-other three (4 * i + 3) j (neg (c .x)) nan (λ q. omega arith)
       ∙ getD-set-other two (4 * i + 2) j (c .z) nan (λ q. omega arith)
       ∙ getD-set-other one (4 * i + 1) j (c .y) nan (λ q. omega arith)
       ∙ getD-set-other cs (4 * i) j (c .x) nan (λ q. omega arith)
@@ -51,19 +51,19 @@ module _ (cs : List Float) (i : ℕ) (c : Vec3) where
   stored-at : 4 * i + 4 ≤ length cs → lanesAt (stored cs i c) i ≡ lanesOf c
   stored-at h =
       let x : getD (stored cs i c) (4 * i) nan ≡ c .x =
-      getD-set-other three (4 * i + 3) (4 * i) (ofBits binary32 0) nan (λ q. omega arith)
+      getD-set-other three (4 * i + 3) (4 * i) (neg (c .x)) nan (λ q. omega arith)
       ∙ getD-set-other two (4 * i + 2) (4 * i) (c .z) nan (λ q. omega arith)
       ∙ getD-set-other one (4 * i + 1) (4 * i) (c .y) nan (λ q. omega arith)
       ∙ getD-set-same cs (4 * i) (c .x) nan (omega arith) in
       let y : getD (stored cs i c) (4 * i + 1) nan ≡ c .y =
-      getD-set-other three (4 * i + 3) (4 * i + 1) (ofBits binary32 0) nan (λ q. omega arith)
+      getD-set-other three (4 * i + 3) (4 * i + 1) (neg (c .x)) nan (λ q. omega arith)
       ∙ getD-set-other two (4 * i + 2) (4 * i + 1) (c .z) nan (λ q. omega arith)
       ∙ getD-set-same one (4 * i + 1) (c .y) nan (simp length-set (omega arith)) in
       let z : getD (stored cs i c) (4 * i + 2) nan ≡ c .z =
-      getD-set-other three (4 * i + 3) (4 * i + 2) (ofBits binary32 0) nan (λ q. omega arith)
+      getD-set-other three (4 * i + 3) (4 * i + 2) (neg (c .x)) nan (λ q. omega arith)
       ∙ getD-set-same two (4 * i + 2) (c .z) nan (simp length-set (omega arith)) in
-      let w : getD (stored cs i c) (4 * i + 3) nan ≡ ofBits binary32 0 =
-      getD-set-same three (4 * i + 3) (ofBits binary32 0) nan (simp length-set (omega arith)) in
+      let w : getD (stored cs i c) (4 * i + 3) nan ≡ neg (c .x) =
+      getD-set-same three (4 * i + 3) (neg (c .x)) nan (simp length-set (omega arith)) in
       λ k. record { x = x k; y = y k; z = z k; w = w k }
 
 -- The centres of the first i entries are stored.

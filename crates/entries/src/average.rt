@@ -8,7 +8,7 @@ ghost use mathlib.Core.List.{[], _∷_};
 ghost use Prim.Native.Nat.{_+_, _*_, _≤_, _<_};
 ghost use lib.ListN.{length};
 ghost use lib.Seq.{sets};
-ghost use lib.Ieee.{binary32, ofBits};
+ghost use lib.Ieee.{neg};
 ghost use Rattle.entries.specs.Boxes.{boxAt};
 ghost use Rattle.base.specs.Lists.{Within};
 ghost use Rattle.entries.specs.Kept.{lanesAt, Kept};
@@ -52,7 +52,7 @@ pub fn measure(entries: &[u32], places: &[u32], plain: bool) -> Measured
     }
 }
 
-// A centre as it is kept: its three floats, and 0, so that it is one vector.
+// A centre as it is kept: its three floats, and x with the other sign, so that it is one vector and below tells above on x.
 pub struct Lanes {
     pub x: f32,
     pub y: f32,
@@ -60,16 +60,16 @@ pub struct Lanes {
     pub w: f32,
 }
 
-// The four lanes of entry i: its centre, and 0.
+// The four lanes of entry i: its centre, and x with the other sign.
 fn put_centre(centres: &mut [f32], i: usize, c: Vec3)
     requires { ⌜ 4 * i + 4 ≤ length (now centres) ⌝ }
-    ensures { λ _. ⌜ now (centres .exit) ≡ sets (now (centres .entry)) (4 * i) (c .x ∷ c .y ∷ c .z ∷ ofBits binary32 0 ∷ []) ⌝ }
+    ensures { λ _. ⌜ now (centres .exit) ≡ sets (now (centres .entry)) (4 * i) (c .x ∷ c .y ∷ c .z ∷ neg (c .x) ∷ []) ⌝ }
 {
     let at = 4 * i;
     centres[at] = c.x;
     centres[at + 1] = c.y;
     centres[at + 2] = c.z;
-    centres[at + 3] = 0.0;
+    centres[at + 3] = -c.x;
 }
 
 // The centre of each entry, computed once a build: it is the box's alone, and of subnormals it takes long.

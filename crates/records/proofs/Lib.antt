@@ -1,4 +1,5 @@
 pub mod AxisLaws
+mod Cutting
 pub mod Examples
 pub mod Fields
 pub mod Fitting

@@ -60,9 +60,12 @@ fn row_node(rows: &[u32], leaf_order: &[u32], scale: Scale, threshold: usize, i:
         crate::table::row_head(rows, i),
         items,
     );
+    let corners = records::quantise::quantise_box(b.min, b.max, scale.cen, scale.inverse);
+    let min = corners.min;
+    let max = corners.max;
     BvhNode {
-        min: records::quantise::quantise(b.min, scale.cen, scale.inverse),
-        max: records::quantise::quantise(b.max, scale.cen, scale.inverse),
+        min: min,
+        max: max,
         item_id: id as i16,
         item_count: items as i16,
     }

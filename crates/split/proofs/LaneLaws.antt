@@ -1,12 +1,14 @@
--- What the lanes of a place hold: the centre along each axis, and a 0 that counts the place.
+-- What the lanes of a place hold: the centre along each axis, and x with the other sign.
 use Prim.Native.Nat.{ℕ, _+_, _*_, _≤_, _<_}
 use native.Mathlib.Decide.{decLt}
 use native.Mathlib.Omega.{arith}
 use mathlib.Core.List.{List}
-use mathlib.Core.Path.{_≡_, refl, sym, subst, ap, _∙_}
+use mathlib.Core.Path.{_≡_, sym, subst, ap, ap₂, _∙_}
 use lib.ListN.{length, getD}
-use lib.Ieee.{Float, binary32, ofBits, nan, lt}
-use Rattle.base.specs.Lists.{oneIf}
+use lib.Dec.{T}
+use lib.Ieee.{Float, nan, lt, neg}
+use Rattle.base.proofs.Truth.{T-ext}
+use Rattle.float32.proofs.OrderLaws.{neg-neg, neg-lt}
 use Rattle.math.specs.declared.axis.Axis.the-variants.{X, Y, Z}
 use Rattle.entries.specs.declared.average.Lanes.{Lanes}
 use Rattle.entries.specs.Kept.{Kept}
@@ -31,7 +33,7 @@ module _ (ws : List ℕ) (cs : List Float) (k : Kept ws cs) (p : ℕ) (h : 7 * p
           let e : 2 ≡ step = omega arith in
           subst (λ (n : ℕ). getD cs (4 * p + n) nan ≡ centreAt ws n p) e (ap (λ (f : Lanes). f .z) (k .lanes p h) ∙ sym (centre-along ws p Z))
 
--- the fourth lane counts
-pub lane-counts : oneIf (lt (ofBits binary32 0) (ofBits binary32 0x3f80_0000)) ≡ 1
-unfolding lt ofBits
-lane-counts = refl
+-- the fourth lane, below with the other sign, tells what is above
+pub lane-above : (x y : Float) → lt (neg x) (neg y) ≡ lt y x
+lane-above x y =
+    T-ext (lt (neg x) (neg y)) (lt y x) (λ h. subst T (ap₂ lt (neg-neg y) (neg-neg x)) (neg-lt (neg x) (neg y) h)) (λ h. neg-lt y x h)

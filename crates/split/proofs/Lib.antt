@@ -1,4 +1,5 @@
 pub mod AxisRule
+mod Counted
 mod Counting
 pub mod DivideLaws
 mod LaneLaws

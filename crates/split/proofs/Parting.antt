@@ -1,5 +1,5 @@
 -- The loop of `partition`, by the invariant that what is stored so far, followed by what the rest gives, is the whole of each group.
-use Prim.Native.Nat.{ℕ, _+_, _-_, _*_, _≤_, _<_}
+use Prim.Native.Nat.{ℕ, zero, suc, _+_, _-_, _*_, _≤_, _<_}
 use native.Mathlib.Omega.{arith}
 use native.Mathlib.Numerals.{add-one}
 use native.Mathlib.Nat.{add-zero, le-refl}
@@ -18,7 +18,7 @@ use Rattle.math.specs.Axes.{coordinate}
 use Rattle.entries.specs.Average.{centreOf}
 use Rattle.entries.specs.Boxes.{boxAt}
 use Rattle.split.specs.Rule.{above}
-use Rattle.split.specs.steps.Groups.{stepOf, centreAt, passes, Parted}
+use Rattle.split.specs.steps.Groups.{stepOf, centreAt, passes, Leading, Parted}
 
 -- the two words of an axis are those that stand `step` after x's
 pub centre-along : (ws : List ℕ) (p : ℕ) (a : Axis) → centreAt ws (stepOf a) p ≡ coordinate a (centreOf (boxAt ws p))
@@ -63,9 +63,29 @@ pub record Parting (test : ℕ → Bool) (a₀ t₀ a t : List ℕ) (k i : ℕ) 
   pub front : take k a ++ sift test (drop i a₀) ≡ sift test a₀
   pub back : take (i - k) t ++ sift (λ p. not (test p)) (drop i a₀) ≡ sift (λ p. not (test p)) a₀
 
+-- what passes at the front is where it belongs, and none of it is among the others
+led : (test : ℕ → Bool) (ps : List ℕ) (r : ℕ) → Leading test ps r
+    → (take r ps ++ sift test (drop r ps) ≡ sift test ps) × (sift (λ p. not (test p)) (drop r ps) ≡ sift (λ p. not (test p)) ps)
+led test ps zero w = (refl, refl)
+led test [] (suc r) w = absurd (omega (arith, w .within))
+led test (p ∷ ps) (suc r) w =
+    let e = w .pass 0 (omega arith) in
+    let n = led test ps r (record { within = omega (arith, w .within); pass = λ k h. w .pass (suc k) (omega arith) }) in
+    (rw e (ap (λ (l : List ℕ). p ∷ l) (n .0)), rw e (n .1))
+
 module _ (test : ℕ → Bool) (a₀ t₀ : List ℕ) where
-  pub begin : Parting test a₀ t₀ a₀ t₀ 0 0
-  begin = record { upto = omega arith; low = omega arith; len-places = refl; len-temp = refl; left = refl; front = refl; back = refl }
+  pub begin : (r : ℕ) → Leading test a₀ r → Parting test a₀ t₀ a₀ t₀ r r
+  begin r w =
+      let none : r - r ≡ 0 = omega arith in
+      record {
+        upto = w .within;
+        low = omega arith;
+        len-places = refl;
+        len-temp = refl;
+        left = refl;
+        front = led test a₀ r w .0;
+        back = rw none (led test a₀ r w .1);
+      }
 
   -- the next place is still where it was
   next : (a : List ℕ) (i : ℕ) → drop i a ≡ drop i a₀ → i < length a → i < length a₀

@@ -22,11 +22,11 @@ use Rattle.split.specs.steps.Groups.{countsOf, axisBy, Nowhere, Parted, 
 use Rattle.split.proofs.DivideLaws.{divide-total, divide-some-first, divide-some-second}
 
 -- a list of which none passes
-nowhere : (test : ℕ → Bool) (ps : List ℕ) → Nowhere test ps → (sift test ps ≡ []) × (sift (λ p. not (test p)) ps ≡ ps)
+nowhere : (test : ℕ → Bool) (ps : List ℕ) → Nowhere test 0 ps → (sift test ps ≡ []) × (sift (λ p. not (test p)) ps ≡ ps)
 nowhere test [] w = (refl, refl)
 nowhere test (p ∷ ps) w =
-    let e = w .fails 0 (omega arith) in
-    let n = nowhere test ps (record { fails = λ k h. w .fails (suc k) (omega arith) }) in
+    let e = w .fails 0 (omega arith) (omega arith) in
+    let n = nowhere test ps (record { fails = λ k l h. w .fails (suc k) (omega arith) (omega arith) }) in
     (rw e (n .0), rw e (ap (λ (l : List ℕ). p ∷ l) (n .1)))
 
 module _ (at : ℕ → BoxWords) where
@@ -78,7 +78,7 @@ module _ (at : ℕ → BoxWords) where
   -- ---- the groups of the rule
 
   module _ (ps : List ℕ) where
-    pub chosen-by : (avg : Vec3) (c : Counts) (a : Axis) → avg ≡ averageOf at ps → c ≡ countsOf at avg ps → a ≡ axisBy (c .all) c
+    pub chosen-by : (avg : Vec3) (c : Counts) (a : Axis) → avg ≡ averageOf at ps → c ≡ countsOf at avg ps → a ≡ axisBy (length ps) c
         → above at avg a ≡ chosen at ps
     unfolding chosen axisOf
     chosen-by avg c a e f g = rw (g, f, e)
@@ -90,7 +90,7 @@ module _ (at : ℕ → BoxWords) where
         (subst (λ (g : List ℕ). LeaderFirst at g (take (length u - k) v) w r) (p .passed) l)
 
     -- where none passes, all are in the second group, which leads
-    pub nowhere-united : (test : ℕ → Bool) → 0 < length ps → Nowhere test ps
+    pub nowhere-united : (test : ℕ → Bool) → 0 < length ps → Nowhere test 0 ps
         → LeaderFirst at (sift test ps) (sift (λ p. not (test p)) ps) ps (length ps)
     unfolding twoLeads
     nowhere-united test h w =

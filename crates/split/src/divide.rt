@@ -55,7 +55,7 @@ fn divide_by(
     ensures { λ r. ⌜ Divided (boxAt (now (entries .entry))) (now (places .entry)) (now (places .exit)) r ⌝ }
 {
     let counts = crate::groups::count_below(entries, centres, places, avg);
-    let axis = crate::groups::choose_axis(counts);
+    let axis = crate::groups::choose_axis(counts, places.len());
     let first = crate::groups::part(places, temp, entries, centres, avg, axis, counts);
     settle(places, temp, entries, first)
 }

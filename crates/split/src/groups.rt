@@ -14,14 +14,14 @@ ghost use Rattle.entries.specs.Boxes.{boxAt};
 ghost use Rattle.base.specs.Lists.{oneIf, sift, Within};
 ghost use Rattle.entries.specs.Kept.{Kept};
 ghost use Rattle.split.specs.Rule.{above, offset, twoLeads};
-ghost use Rattle.split.specs.steps.Groups.{countsOf, axisBy, stepOf, passes, Nowhere, Parted, LeaderFirst};
+ghost use Rattle.split.specs.steps.Groups.{countsOf, axisBy, stepOf, passes, Nowhere, Leading, Parted, LeaderFirst};
 
-// How many centres are below the average, on each axis, and how many there are.
+// How many centres are below the average, on each axis, and how many are above it on x.
 pub struct Counts {
     pub x: u32,
     pub y: u32,
     pub z: u32,
-    pub all: u32,
+    pub over: u32,
 }
 
 // 1 where a is below b, else 0: a NaN is below nothing, and nothing below it.
@@ -31,8 +31,8 @@ fn one_if_below(a: f32, b: f32) -> u32
     if a < b { 1 } else { 0 }
 }
 
-// The counts on the three axes, in one pass. The fourth lane, 0 against 1, counts the places: with it the lanes of a place
-// are compared as one vector.
+// The counts on the three axes, in one pass. The fourth lane, x with the other sign, counts what is above on x: with it the lanes
+// of a place are compared as one vector.
 pub fn count_below(entries: &[u32], centres: &[f32], places: &[u32], avg: Vec3) -> Counts
     requires { ⌜ (Within (length (now entries)) (now places)) × (length (now places) < 65536) × (Kept (now entries) (now centres)) ⌝ }
     ensures { λ r. ⌜ r ≡ countsOf (boxAt (now (entries .entry))) avg (now (places .entry)) ⌝ }
@@ -41,7 +41,7 @@ pub fn count_below(entries: &[u32], centres: &[f32], places: &[u32], avg: Vec3) 
         x: 0,
         y: 0,
         z: 0,
-        all: 0,
+        over: 0,
     };
     let mut i = 0;
     while i < places.len() {
@@ -50,7 +50,7 @@ pub fn count_below(entries: &[u32], centres: &[f32], places: &[u32], avg: Vec3) 
             x: counts.x + one_if_below(c.x, avg.x),
             y: counts.y + one_if_below(c.y, avg.y),
             z: counts.z + one_if_below(c.z, avg.z),
-            all: counts.all + one_if_below(c.w, 1.0),
+            over: counts.over + one_if_below(c.w, -avg.x),
         };
         i += 1;
     }
@@ -67,11 +67,10 @@ fn offset(n: usize, c: u32) -> usize
 }
 
 // The axis whose count is nearest n / 2, x before y before z.
-pub fn choose_axis(c: Counts) -> Axis
-    requires { ⌜ (c .all < 65536) × (c .x ≤ c .all) × (c .y ≤ c .all) × (c .z ≤ c .all) ⌝ }
-    ensures { λ r. ⌜ r ≡ axisBy (c .all) c ⌝ }
+pub fn choose_axis(c: Counts, n: usize) -> Axis
+    requires { ⌜ (n < 65536) × (c .x ≤ n) × (c .y ≤ n) × (c .z ≤ n) ⌝ }
+    ensures { λ r. ⌜ r ≡ axisBy n c ⌝ }
 {
-    let n = c.all as usize;
     let x = offset(n, c.x);
     let y = offset(n, c.y);
     let z = offset(n, c.z);
@@ -116,7 +115,8 @@ pub fn paste(dst: &mut [u32], at: usize, src: &[u32], n: usize)
 }
 
 // The places whose centre is above the average on the axis, to the front of `places`, the others to the front of `temp`, in their order;
-// how many are above. Each place is stored in both, so that no branch waits for the comparison.
+// how many are above. Each place is stored in both, so that no branch waits for the comparison; the first
+// `seen` of them, which stand where they belong, are passed.
 pub fn partition(
     places: &mut [u32],
     temp: &mut [u32],
@@ -124,15 +124,17 @@ pub fn partition(
     centres: &[f32],
     avg: Vec3,
     axis: Axis,
+    seen: usize,
 ) -> usize
-    requires { ⌜ (length (now places) ≤ length (now temp)) × (Within (length (now entries)) (now places)) × (Kept (now entries) (now centres)) ⌝ }
+    requires { ⌜ (length (now places) ≤ length (now temp)) × (Within (length (now entries)) (now places)) × (Kept (now entries) (now centres))
+        × (Leading (above (boxAt (now entries)) avg axis) (now places) seen) ⌝ }
     ensures { λ r. ⌜ Parted (above (boxAt (now (entries .entry))) avg axis) (now (places .entry)) (now (places .exit)) (now (temp .exit)) r ⌝ }
 {
     let n = places.len();
     let step = step_of(axis);
     let cut = math::axis::coordinate(axis, avg);
-    let mut k = 0;
-    let mut i = 0;
+    let mut k = seen;
+    let mut i = seen;
     while i < n {
         let p = places[i];
         places[k] = p;
@@ -167,14 +169,21 @@ pub fn unite(places: &mut [u32], temp: &mut [u32], k: usize) -> usize
     k
 }
 
-// Whether no place's centre is above the average on the axis.
-fn none_above(places: &[u32], entries: &[u32], centres: &[f32], avg: Vec3, axis: Axis) -> bool
-    requires { ⌜ (Within (length (now entries)) (now places)) × (Kept (now entries) (now centres)) ⌝ }
-    ensures { λ r. ⌜ (r ≡ true → Nowhere (above (boxAt (now (entries .entry))) avg axis) (now (places .entry))) ⌝ }
+// Whether from a position on no place's centre is above the average on the axis.
+fn none_above(
+    places: &[u32],
+    from: usize,
+    entries: &[u32],
+    centres: &[f32],
+    avg: Vec3,
+    axis: Axis,
+) -> bool
+    requires { ⌜ (from ≤ length (now places)) × (Within (length (now entries)) (now places)) × (Kept (now entries) (now centres)) ⌝ }
+    ensures { λ r. ⌜ (r ≡ true → Nowhere (above (boxAt (now (entries .entry))) avg axis) from (now (places .entry))) ⌝ }
 {
     let step = step_of(axis);
     let cut = math::axis::coordinate(axis, avg);
-    let mut i = 0;
+    let mut i = from;
     while i < places.len() {
         if one_if_above(entries, centres, Place(places[i]), step, cut) > 0 {
             return false;
@@ -184,8 +193,8 @@ fn none_above(places: &[u32], entries: &[u32], centres: &[f32], avg: Vec3, axis:
     true
 }
 
-// Whether it is seen that no centre is above the average. Where some of x, and not all, are below it, nobody looks: such a list is
-// hardly ever without one above.
+// Whether it is seen that no centre is above the average. On x it was counted. Where some of x, and not all, are below it, nobody
+// looks: such a list is hardly ever without one above.
 fn seen_none_above(
     places: &[u32],
     entries: &[u32],
@@ -194,13 +203,89 @@ fn seen_none_above(
     axis: Axis,
     counts: Counts,
 ) -> bool
-    requires { ⌜ (Within (length (now entries)) (now places)) × (Kept (now entries) (now centres)) ⌝ }
-    ensures { λ r. ⌜ (r ≡ true → Nowhere (above (boxAt (now (entries .entry))) avg axis) (now (places .entry))) ⌝ }
+    requires { ⌜ (Within (length (now entries)) (now places)) × (Kept (now entries) (now centres))
+        × (counts ≡ countsOf (boxAt (now entries)) avg (now places)) ⌝ }
+    ensures { λ r. ⌜ (r ≡ true → Nowhere (above (boxAt (now (entries .entry))) avg axis) 0 (now (places .entry))) ⌝ }
 {
-    if counts.x > 0 && counts.x < counts.all {
+    if step_of(axis) == 0 {
+        return counts.over == 0;
+    }
+    if counts.x > 0 && (counts.x as usize) < places.len() {
         return false;
     }
-    none_above(places, entries, centres, avg, axis)
+    none_above(places, 0, entries, centres, avg, axis)
+}
+
+// How many places there are before the first that is not above the average on the axis.
+fn run_above(places: &[u32], entries: &[u32], centres: &[f32], avg: Vec3, axis: Axis) -> usize
+    requires { ⌜ (Within (length (now entries)) (now places)) × (Kept (now entries) (now centres)) ⌝ }
+    ensures { λ r. ⌜ Leading (above (boxAt (now (entries .entry))) avg axis) (now (places .entry)) r ⌝ }
+{
+    let step = step_of(axis);
+    let cut = math::axis::coordinate(axis, avg);
+    let mut i = 0;
+    while i < places.len() {
+        if one_if_above(entries, centres, Place(places[i]), step, cut) < 1 {
+            return i;
+        }
+        i += 1;
+    }
+    i
+}
+
+// Whether all that are above the average on the axis stand first: on x, where they were counted, the others are looked at.
+fn counted_first(
+    places: &[u32],
+    entries: &[u32],
+    centres: &[f32],
+    avg: Vec3,
+    axis: Axis,
+    counts: Counts,
+) -> bool
+    requires { ⌜ (Within (length (now entries)) (now places)) × (Kept (now entries) (now centres))
+        × (counts ≡ countsOf (boxAt (now entries)) avg (now places)) ⌝ }
+    ensures { λ r. ⌜ (r ≡ true → Leading (above (boxAt (now (entries .entry))) avg axis) (now (places .entry)) (counts .over)) ⌝ }
+{
+    if step_of(axis) == 0 {
+        return none_above(places, counts.over as usize, entries, centres, avg, axis);
+    }
+    false
+}
+
+fn count_on(a: Axis, c: Counts) -> u32 {
+    match a {
+        Axis::X => c.x,
+        Axis::Y => c.y,
+        Axis::Z => c.z,
+    }
+}
+
+// Whether so few of n centres are below the average that the first places are likely above it. Hostile lists are such: a node loses
+// its last few items.
+fn few_below(a: Axis, c: Counts, n: usize) -> bool {
+    16 * (count_on(a, c) as usize) < n
+}
+
+// How many of the first places are seen to be above the average: none where nobody looks.
+fn seen_above(
+    places: &[u32],
+    entries: &[u32],
+    centres: &[f32],
+    avg: Vec3,
+    axis: Axis,
+    counts: Counts,
+) -> usize
+    requires { ⌜ (Within (length (now entries)) (now places)) × (Kept (now entries) (now centres))
+        × (counts ≡ countsOf (boxAt (now entries)) avg (now places)) ⌝ }
+    ensures { λ r. ⌜ Leading (above (boxAt (now (entries .entry))) avg axis) (now (places .entry)) r ⌝ }
+{
+    if few_below(axis, counts, places.len()) {
+        if counted_first(places, entries, centres, avg, axis, counts) {
+            return counts.over as usize;
+        }
+        return run_above(places, entries, centres, avg, axis);
+    }
+    0
 }
 
 // The group above the average and the others, the group that leads first, with `temp` to work in; how many it has. Where none is
@@ -215,7 +300,7 @@ pub fn part(
     counts: Counts,
 ) -> usize
     requires { ⌜ (0 < length (now places)) × (length (now places) ≤ length (now temp)) × (Within (length (now entries)) (now places))
-        × (Kept (now entries) (now centres)) ⌝ }
+        × (Kept (now entries) (now centres)) × (counts ≡ countsOf (boxAt (now entries)) avg (now places)) ⌝ }
     ensures { λ r. ⌜ LeaderFirst (boxAt (now (entries .entry)))
         (sift (above (boxAt (now (entries .entry))) avg axis) (now (places .entry)))
         (sift (λ p. not (above (boxAt (now (entries .entry))) avg axis p)) (now (places .entry))) (now (places .exit)) r ⌝ }
@@ -223,6 +308,7 @@ pub fn part(
     if seen_none_above(places, entries, centres, avg, axis, counts) {
         return places.len();
     }
-    let k = partition(places, temp, entries, centres, avg, axis);
+    let seen = seen_above(places, entries, centres, avg, axis, counts);
+    let k = partition(places, temp, entries, centres, avg, axis, seen);
     unite(places, temp, k)
 }

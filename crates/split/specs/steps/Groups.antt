@@ -1,6 +1,6 @@
 -- The steps of a split, as the contracts say them: counts, the parted list, the leading group first. Definitions only.
 use Prim.Native.Nat.{ℕ, _+_, _-_, _*_, _/_, _≤_, _<_}
-use mathlib.Core.Bool.{Bool, false, not, cond}
+use mathlib.Core.Bool.{Bool, true, false, not, cond}
 use mathlib.Core.List.{List, _++_}
 use mathlib.Core.Path.{_≡_}
 use lib.ListN.{length, take, drop, getD}
@@ -13,17 +13,26 @@ use Rattle.math.specs.Vec3s.{_⊕_, _⊗_}
 use Rattle.math.specs.Transform.{half}
 use Rattle.entries.specs.declared.boxes.BoxWords.{BoxWords}
 use Rattle.split.specs.declared.groups.Counts.{Counts}
-use Rattle.split.specs.Rule.{below, countBelow, offset, nearestAxis, twoLeads}
+use Rattle.split.specs.Rule.{above, below, countBelow, offset, nearestAxis, twoLeads}
 use Rattle.box_sort.specs.Sorted.{sortBoxes}
 
--- how many centres are below the average, on each axis, and how many there are
+-- how many centres are above the average on x
+abbrev pub countAbove : (ℕ → BoxWords) → Vec3 → List ℕ → ℕ
+countAbove at avg ps = length (sift (above at avg X) ps)
+
+-- how many centres are below the average, on each axis, and how many are above it on x
 abbrev pub countsOf : (ℕ → BoxWords) → Vec3 → List ℕ → Counts
-countsOf at avg ps = record { x = countBelow at avg X ps; y = countBelow at avg Y ps; z = countBelow at avg Z ps; all = length ps }
+countsOf at avg ps = record { x = countBelow at avg X ps; y = countBelow at avg Y ps; z = countBelow at avg Z ps; over = countAbove at avg ps }
 
 -- the counts with one place more
 abbrev pub countMore : (ℕ → BoxWords) → Vec3 → Counts → ℕ → Counts
 countMore at avg c p =
-    record { x = c .x + oneIf (below at avg X p); y = c .y + oneIf (below at avg Y p); z = c .z + oneIf (below at avg Z p); all = c .all + 1 }
+    record {
+      x = c .x + oneIf (below at avg X p);
+      y = c .y + oneIf (below at avg Y p);
+      z = c .z + oneIf (below at avg Z p);
+      over = c .over + oneIf (above at avg X p);
+    }
 
 -- Rule T5: the axis, by the counts of n items.
 abbrev pub axisBy : ℕ → Counts → Axis
@@ -42,9 +51,14 @@ centreAt ws step p = (ofBits binary32 (getD ws (7 * p + 1 + step) 0) ⊕ ofBits 
 unfoldable pub passes : List ℕ → ℕ → Float → ℕ → Bool
 passes ws step cut p = lt cut (centreAt ws step p)
 
--- no place passes the test
-pub record Nowhere (test : ℕ → Bool) (ps : List ℕ) : Type 0 where
-  pub fails : (k : ℕ) → k < length ps → test (getD ps k 0) ≡ false
+-- from a position on no place passes the test
+pub record Nowhere (test : ℕ → Bool) (from : ℕ) (ps : List ℕ) : Type 0 where
+  pub fails : (k : ℕ) → from ≤ k → k < length ps → test (getD ps k 0) ≡ false
+
+-- the first r places pass the test
+pub record Leading (test : ℕ → Bool) (ps : List ℕ) (r : ℕ) : Type 0 where
+  pub within : r ≤ length ps
+  pub pass : (k : ℕ) → k < r → test (getD ps k 0) ≡ true
 
 -- Rule T5: what passes the test at the front of u, the rest at the front of v, order kept, and how many pass.
 pub record Parted (test : ℕ → Bool) (ps u v : List ℕ) (r : ℕ) : Type 0 where

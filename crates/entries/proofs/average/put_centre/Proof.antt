@@ -46,7 +46,7 @@ same-length : tie.Need-same-length
 same-length c = simp length-set
 
 returns : tie.Need-returns
-returns c = in-a-row (c .args .centres .now) (c .args .i) (c .args .c)
+returns c = let a = c .before .args in in-a-row (a .centres .now) (a .i) (a .c)
 
 pub put-centre-spec : {M : Type 1} → statement M
 put-centre-spec =

@@ -45,31 +45,30 @@ item-id-requires c κs =
     let count = c .before .row-count .ensures in
     λ some. subst (λ (h : ℕ). h < leaves) (sym (c .row-head .ensures)) (s .pre .1 .inside (subst (λ (n : ℕ). 0 < n) count some))
 
-quantise-requires : tie.Need-quantise-requires
-quantise-requires c κs = search needs
+quantise-box-requires : tie.Need-quantise-box-requires
+quantise-box-requires c κs = search needs
 
-quantise-requires-2 : tie.Need-quantise-requires-2
-quantise-requires-2 c κs = search needs
-
-cast-t12 : tie.Need-cast-t12
-cast-t12 c =
-    let i = c .before .before in
+cast-t13 : tie.Need-cast-t13
+cast-t13 c =
+    let i = c .before .before .before in
     let small : i .item-id .result < 32768 = subst (λ (n : ℕ). n < 32768) (sym (id-is i)) (start i .pre .1 .id) in
     search needs
 
-cast-t13 : tie.Need-cast-t13
-cast-t13 c = search needs
+cast-t14 : tie.Need-cast-t14
+cast-t14 c = search needs
 
 returns : tie.Need-returns
 unfolding nodeOf
 returns c =
-    let s = start (c .before .before) .args .scale in
-    let small = start (c .before .before) .pre .1 in
-    let corners = c .before .before .before .before .before .row-box .ensures in
-    let min = c .before .quantise .ensures ∙ ap (λ (b : BoxWords). quantiseOf (b .min) (s .cen) (s .inverse)) corners in
-    let max = c .quantise2 .ensures ∙ ap (λ (b : BoxWords). quantiseOf (b .max) (s .cen) (s .inverse)) corners in
-    let id = ap (toZ w16) (id-is (c .before .before)) ∙ toZ-pos w16 (small .id) in
-    let items = ap (toZ w16) (c .before .before .before .before .row-count .ensures) ∙ toZ-pos w16 (small .items) in
+    let i = c .before .before .before in
+    let s = start i .args .scale in
+    let small = start i .pre .1 in
+    let corners = i .before .before .before .row-box .ensures in
+    let quantised = c .before .before .quantise-box .ensures in
+    let min = quantised .0 ∙ ap (λ (b : BoxWords). quantiseOf (b .min) (s .cen) (s .inverse)) corners in
+    let max = quantised .1 ∙ ap (λ (b : BoxWords). quantiseOf (b .max) (s .cen) (s .inverse)) corners in
+    let id = ap (toZ w16) (id-is i) ∙ toZ-pos w16 (small .id) in
+    let items = ap (toZ w16) (i .before .before .row-count .ensures) ∙ toZ-pos w16 (small .items) in
     λ j. record { min = min j; max = max j; «item_id» = id j; «item_count» = items j }
 
 pub row-node-spec : {M : Type 1} → statement M
@@ -80,8 +79,7 @@ row-node-spec =
     row-count-requires
     row-head-requires
     item-id-requires
-    quantise-requires
-    quantise-requires-2
-    cast-t12
+    quantise-box-requires
     cast-t13
+    cast-t14
     returns)

@@ -50,12 +50,11 @@ choose-axis-requires : tie.Need-choose-axis-requires
 choose-axis-requires c κs =
     let g = c .before .before .before .before .before .before in
     let avg = g .args .avg in
-    let e = c .count-below .ensures in
-    let all = ap (λ (n : Counts). n .all) e in (
-      omega (arith, all),
-      omega (arith, all, ap (λ (n : Counts). n .x) e, count-le (boxes-of g) avg X (places-of g)),
-      omega (arith, all, ap (λ (n : Counts). n .y) e, count-le (boxes-of g) avg Y (places-of g)),
-      omega (arith, all, ap (λ (n : Counts). n .z) e, count-le (boxes-of g) avg Z (places-of g)),
+    let e = c .count-below .ensures in (
+      omega arith,
+      omega (arith, ap (λ (n : Counts). n .x) e, count-le (boxes-of g) avg X (places-of g)),
+      omega (arith, ap (λ (n : Counts). n .y) e, count-le (boxes-of g) avg Y (places-of g)),
+      omega (arith, ap (λ (n : Counts). n .z) e, count-le (boxes-of g) avg Z (places-of g)),
     )
 
 part-requires : tie.Need-part-requires

@@ -13,7 +13,7 @@ use Rattle.split.specs.steps.Groups.{axisBy}
 -- the definition's answer, by the offsets that the calls gave
 by-offsets : (c : tie.After-offset3)
     → nearestAxis (c .before .before .offset .result) (c .before .offset2 .result) (c .offset3 .result)
-    ≡ axisBy (c .before .before .before .before .args .c .all) (c .before .before .before .before .args .c)
+    ≡ axisBy (c .before .before .before .args .n) (c .before .before .before .args .c)
 by-offsets c = λ i. nearestAxis (c .before .before .offset .ensures i) (c .before .offset2 .ensures i) (c .offset3 .ensures i)
 
 not-x : (c : tie.Joined1)
@@ -21,9 +21,6 @@ not-x : (c : tie.Joined1)
     && leb (c .before .before .before .offset .result) (c .before .offset3 .result))
     ≡ false
 not-x c = ⊎-elim (λ w. rw (w .1 .left, and-false)) (λ w. rw (lt-leb _ _ (w .left))) (c .if1 .came)
-
-cast-n : tie.Need-cast-n
-cast-n c = search needs
 
 offset-requires : tie.Need-offset-requires
 offset-requires c κs = search needs
@@ -54,4 +51,4 @@ returns-3 c =
 pub choose-axis-spec : {M : Type 1} → statement M
 choose-axis-spec =
     tie.close
-    (tie.spec cast-n offset-requires offset-requires-2 offset-requires-3 returns returns-2 returns-3)
+    (tie.spec offset-requires offset-requires-2 offset-requires-3 returns returns-2 returns-3)

@@ -6,15 +6,15 @@ use Rattle.split.proofs.groups.count_below.Tie as tie
 use Prim.Native.Nat.{_+_, _-_, _≤_}
 use mathlib.Core.Path.{_≡_, ap, _∙_}
 use lib.ListN.{length, getD, drop}
-use lib.Ieee.{binary32, ofBits, lt}
+use lib.Ieee.{lt, neg}
 use Rattle.base.specs.Lists.{oneIf}
 use Rattle.split.specs.declared.groups.Counts.{Counts}
 use Rattle.entries.specs.declared.average.Lanes.{Lanes}
 use Rattle.entries.specs.Boxes.{boxAt}
-use Rattle.split.specs.Rule.{below}
+use Rattle.split.specs.Rule.{below, above}
 use Rattle.split.specs.steps.Groups.{countMore}
 use Rattle.entries.proofs.Places.{Pass, begin, taken, finished, next-within}
-use Rattle.split.proofs.LaneLaws.{lane-counts}
+use Rattle.split.proofs.LaneLaws.{lane-above}
 use Rattle.split.proofs.Counting.{onto, none, onto-more, onto-none, none-onto, small}
 
 abbrev Inv-loop : tie.InvT-loop
@@ -48,7 +48,7 @@ one-if-below-requires c κs = search needs
 few : (c : tie.After-centre-at Inv-loop μ-loop)
     → let n = c .before .before .before .loop .counts in
     let m = length (c .before .before .before .before .before .before .before .args .places .now) in
-    (n .x ≤ m) × (n .y ≤ m) × (n .z ≤ m) × (n .all ≤ m)
+    (n .x ≤ m) × (n .y ≤ m) × (n .z ≤ m) × (n .over ≤ m)
 few c =
     let g = c .before .before .before .before .before .before .before .args in
     small (boxAt (g .entries .now)) (g .avg) _ (g .places .now) _ _ (c .before .before .before .loop .inv)
@@ -71,8 +71,8 @@ add-t17 c = omega (arith, c .before .one-if-below3 .ensures .1, few (c .before .
 one-if-below-requires-4 : tie.Need-one-if-below-requires-4 Inv-loop μ-loop
 one-if-below-requires-4 c κs = search needs
 
-add-t19 : tie.Need-add-t19 Inv-loop μ-loop
-add-t19 c = omega (arith, c .before .one-if-below4 .ensures .1, few (c .before .before .before .before .before .before .before .before) .3)
+add-t20 : tie.Need-add-t20 Inv-loop μ-loop
+add-t20 c = omega (arith, c .before .one-if-below4 .ensures .1, few (c .before .before .before .before .before .before .before .before .before) .3)
 
 add-i : tie.Need-add-i Inv-loop μ-loop
 add-i c = search needs
@@ -81,28 +81,28 @@ loop-less : tie.Need-loop-less Inv-loop μ-loop
 loop-less c = search needs
 
 loop-again : tie.Need-loop-again Inv-loop μ-loop
-unfolding below
+unfolding below above
 loop-again c =
-    let mid = c .before .before .before .before .before .before .before .before in
+    let mid = c .before .before .before .before .before .before .before .before .before in
     let l = mid .before .before .before .loop in
     let s = mid .before .before .before .before .before .before .before in
     let g = s .args in
     let at = boxAt (g .entries .now) in
     let ps = g .places .now in
     let n = l .counts in
-    let below-x = c .before .before .before .before .before .before .before .one-if-below in
-    let below-y = c .before .before .before .before .before .one-if-below2 in
-    let below-z = c .before .before .before .one-if-below3 in
+    let below-x = c .before .before .before .before .before .before .before .before .one-if-below in
+    let below-y = c .before .before .before .before .before .before .one-if-below2 in
+    let below-z = c .before .before .before .before .one-if-below3 in
     let counts = c .before .one-if-below4 in
     let inside = next-within _ _ ps _ n (l .i) (l .inv) (omega arith) in
     let lanes = mid .centre-at .ensures ∙ s .pre .2 .lanes (getD ps (l .i) 0) inside in
     let x = below-x .ensures .0 ∙ ap (λ (v : Lanes). oneIf (lt (v .x) (g .avg .x))) lanes in
     let y = below-y .ensures .0 ∙ ap (λ (v : Lanes). oneIf (lt (v .y) (g .avg .y))) lanes in
     let z = below-z .ensures .0 ∙ ap (λ (v : Lanes). oneIf (lt (v .z) (g .avg .z))) lanes in
-    let w = counts .ensures .0 ∙ ap (λ (v : Lanes). oneIf (lt (v .w) (ofBits binary32 0x3f80_0000))) lanes ∙ lane-counts in
-    let step : record { x = n .x + below-x .result; y = n .y + below-y .result; z = n .z + below-z .result; all = n .all + counts .result }
+    let w = counts .ensures .0 ∙ ap (λ (v : Lanes). oneIf (lt (v .w) (neg (g .avg .x)))) lanes ∙ ap oneIf (lane-above _ (g .avg .x)) in
+    let step : record { x = n .x + below-x .result; y = n .y + below-y .result; z = n .z + below-z .result; over = n .over + counts .result }
     ≡ countMore at (g .avg) n (getD ps (l .i) 0) =
-    λ i. record { x = n .x + x i; y = n .y + y i; z = n .z + z i; all = n .all + w i } in
+    λ i. record { x = n .x + x i; y = n .y + y i; z = n .z + z i; over = n .over + w i } in
     taken (onto at (g .avg)) _ ps _ n _ (l .i) (l .inv) (omega arith)
     (ap (λ (k : Counts). onto at (g .avg) k (drop (l .i + 1) ps)) step ∙ onto-more at (g .avg) n (getD ps (l .i) 0) (drop (l .i + 1) ps))
 
@@ -132,7 +132,7 @@ count-below-spec =
     one-if-below-requires-3
     add-t17
     one-if-below-requires-4
-    add-t19
+    add-t20
     add-i
     loop-less
     loop-again

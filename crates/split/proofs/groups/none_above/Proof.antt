@@ -8,20 +8,17 @@ use Prim.Native.Nat.{ℕ, _-_, _≤_, _<_}
 use mathlib.Core.Path.{_≡_, refl, subst}
 use mathlib.Core.Bool.{Bool, true, false, false≢true}
 use lib.ListN.{length, getD}
-use Rattle.base.specs.Lists.{oneIf}
 use Rattle.base.proofs.WithinLaws.{within-at}
 use Rattle.split.specs.steps.Groups.{passes}
+use Rattle.split.proofs.Counted.{none-if}
 use Rattle.split.proofs.Parting.{passes-above, step-small}
 
-none-if : (b : Bool) → oneIf b ≤ 0 → b ≡ false
-none-if true h = absurd (omega arith)
-none-if false h = refl
-
 abbrev Inv-loop : tie.InvT-loop
-Inv-loop places entries centres step cut i₀ i = (i ≤ length places) × ((k : ℕ) → k < i → passes entries step cut (getD places k 0) ≡ false)
+Inv-loop places from entries centres step cut i₀ i =
+    (from ≤ i) × (i ≤ length places) × ((k : ℕ) → k < i → from ≤ k → passes entries step cut (getD places k 0) ≡ false)
 
 abbrev μ-loop : tie.MeasureT-loop
-μ-loop places entries centres step cut i₀ i = length places - i
+μ-loop places from entries centres step cut i₀ i = length places - i
 
 step-of-requires : tie.Need-step-of-requires Inv-loop μ-loop
 step-of-requires c κs = search needs
@@ -30,22 +27,22 @@ coordinate-requires : tie.Need-coordinate-requires Inv-loop μ-loop
 coordinate-requires c κs = search needs
 
 loop-holds : tie.Need-loop-holds Inv-loop μ-loop
-loop-holds c = (omega arith, λ k h. absurd (omega arith))
+loop-holds c = (omega arith, c .before .before .before .before .before .pre .0, λ k h l. absurd (omega arith))
 
-mul-t11 : tie.Need-mul-t11 Inv-loop μ-loop
-mul-t11 c = omega arith
+mul-t12 : tie.Need-mul-t12 Inv-loop μ-loop
+mul-t12 c = omega arith
 
-shared-slice-read-t13 : tie.Need-shared-slice-read-t13 Inv-loop μ-loop
-shared-slice-read-t13 c = omega arith
+shared-slice-read-t14 : tie.Need-shared-slice-read-t14 Inv-loop μ-loop
+shared-slice-read-t14 c = omega arith
 
 one-if-above-requires : tie.Need-one-if-above-requires Inv-loop μ-loop
 one-if-above-requires c κs =
     let l = c .before .before .loop in
     let g = c .before .before .before .before .before .before .before .before in
     let step = c .before .before .before .before .step-of in (
-      within-at _ (g .args .places .now) (l .i) (g .pre .0) (omega arith),
+      within-at _ (g .args .places .now) (l .i) (g .pre .1) (omega arith),
       omega (arith, step .ensures, step-small (g .args .axis)),
-      g .pre .1,
+      g .pre .2,
     )
 
 returns : tie.Need-returns Inv-loop μ-loop
@@ -65,7 +62,7 @@ loop-again c =
     let step = c .before .before .before .before .before .before .step-of .result in
     let cut = c .before .before .before .before .before .coordinate .result in
     let e = none-if (passes (g .args .entries .now) step cut (getD (g .args .places .now) (l .i) 0)) (omega (arith, a .ensures)) in
-    (omega arith, below-more _ (l .i) (l .inv .1) e)
+    (omega arith, omega arith, below-more _ (l .i) (l .inv .2) (λ h. e))
 
 returns-2 : tie.Need-returns-2 Inv-loop μ-loop
 returns-2 c =
@@ -75,7 +72,7 @@ returns-2 c =
     let e = passes-above (g .args .entries .now) (g .args .avg) (g .args .axis) (step .result) (cut .result) (step .ensures) (cut .ensures) in
     λ t.
     record {
-      fails = λ k h. subst (λ (test : ℕ → Bool). test (getD (g .args .places .now) k 0) ≡ false) e (c .before .loop .inv .1 k (omega arith));
+      fails = λ k l h. subst (λ (test : ℕ → Bool). test (getD (g .args .places .now) k 0) ≡ false) e (c .before .loop .inv .2 k (omega arith) l);
     }
 
 pub none-above-spec : {M : Type 1} → statement M
@@ -87,8 +84,8 @@ none-above-spec =
     step-of-requires
     coordinate-requires
     loop-holds
-    mul-t11
-    shared-slice-read-t13
+    mul-t12
+    shared-slice-read-t14
     one-if-above-requires
     returns
     add-i

@@ -12,7 +12,7 @@ use Rattle.split.proofs.Steps.{parted-united, nowhere-united}
 
 -- the function's entry, from after the partition
 abbrev entry : tie.After-partition → tie.Start
-entry c = c .before .before .before .before .before .before .before .before .before .before
+entry c = c .before .before .before .before .before .before .before .before .before .before .before .before
 
 -- the test of the groups
 abbrev test-of : tie.Start → ℕ → Bool
@@ -28,6 +28,9 @@ returns : tie.Need-returns
 returns c =
     let g = c .before .before .before .before .before .before .before in
     nowhere-united _ (g .args .places .now) (test-of g) (g .pre .0) (c .before .seen-none-above .ensures (c .if1 .taken))
+
+seen-above-requires : tie.Need-seen-above-requires
+seen-above-requires c κs = search needs
 
 partition-requires : tie.Need-partition-requires
 partition-requires c κs = search needs
@@ -65,6 +68,7 @@ part-spec =
     seen-none-above-requires
     same-length
     returns
+    seen-above-requires
     partition-requires
     unite-requires
     same-length-2

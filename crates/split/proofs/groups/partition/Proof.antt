@@ -3,19 +3,21 @@ use native.Mathlib.Omega.{arith}
 use borrow.Author.Needs.{needs}
 use Rattle.split.proofs.groups.partition.Statement.{statement}
 use Rattle.split.proofs.groups.partition.Tie as tie
-use Prim.Native.Nat.{_-_}
+use Prim.Native.Nat.{ℕ, _-_}
+use mathlib.Core.Bool.{Bool}
+use mathlib.Core.Path.{subst, sym}
 use lib.ListN.{getD}
 use Rattle.base.proofs.WithinLaws.{within-at}
 use Rattle.base.proofs.ListLaws.{one-or-none}
 use Rattle.split.specs.Rule.{above}
-use Rattle.split.specs.steps.Groups.{passes}
+use Rattle.split.specs.steps.Groups.{passes, Leading}
 use Rattle.split.proofs.Parting.{Parting, begin, next-same, turn, parted, passes-above, step-small}
 
 abbrev Inv-loop : tie.InvT-loop
-Inv-loop a₀ t₀ entries centres n step cut k₀ i₀ a t k i = Parting (passes entries step cut) a₀ t₀ a t k i
+Inv-loop a₀ t₀ entries centres seen n step cut k₀ i₀ a t k i = Parting (passes entries step cut) a₀ t₀ a t k i
 
 abbrev μ-loop : tie.MeasureT-loop
-μ-loop a₀ t₀ entries centres n step cut k₀ i₀ a t k i = n - i
+μ-loop a₀ t₀ entries centres seen n step cut k₀ i₀ a t k i = n - i
 
 step-of-requires : tie.Need-step-of-requires Inv-loop μ-loop
 step-of-requires c κs = search needs
@@ -25,8 +27,12 @@ coordinate-requires c κs = search needs
 
 loop-holds : tie.Need-loop-holds Inv-loop μ-loop
 loop-holds c =
-    let g = c .before .before .before .before .before .before .args in
-    begin _ (g .places .now) (g .temp .now)
+    let s = c .before .before .before .before .before .before in
+    let g = s .args in
+    let step = c .before .step-of in
+    let cut = c .coordinate in
+    let e = passes-above (g .entries .now) (g .avg) (g .axis) (step .result) (cut .result) (step .ensures) (cut .ensures) in
+    begin _ (g .places .now) (g .temp .now) (g .seen) (subst (λ (test : ℕ → Bool). Leading test (g .places .now) (g .seen)) (sym e) (s .pre .3))
 
 mul-p : tie.Need-mul-p Inv-loop μ-loop
 mul-p c = omega arith
