@@ -380,6 +380,7 @@ unsafe extern "C" {
 }
 
 /// `bounds_polygon_read`.
+#[inline]
 pub fn polygon_read(bytes: &[u8]) -> ReadAnswer {
     // SAFETY: the pointer comes from a slice, which is only read, and goes with its length; any bytes will do.
     unsafe { bounds_polygon_read(bytes.as_ptr(), bytes.len()) }

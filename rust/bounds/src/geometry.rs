@@ -74,6 +74,7 @@ impl Polygon {
     /// assert_eq!(Polygon::read(&[0; 15]), Err(Refusal::ShortRecord));
     /// assert_eq!(Polygon::read(&[5; 16]), Err(Refusal::UnknownKind));
     /// ```
+    #[inline]
     pub fn read(bytes: &[u8]) -> Result<Polygon, Refusal> {
         let answer = ffi::polygon_read(bytes);
         Refusal::check(answer.refusal)?;
@@ -178,6 +179,7 @@ impl Polygon {
         }
     }
 
+    #[inline]
     fn from_struct(p: PolygonC) -> Option<Polygon> {
         let (material, float) = (0, f32::from_bits(p.word));
         let (i1, i2, radius) = (p.h0, p.h1, float);

@@ -106,6 +106,7 @@ impl Refusal {
     /// assert_eq!(Refusal::check(4), Err(Refusal::TooManyNodes));
     /// assert_eq!(Refusal::check(14), Err(Refusal::Unknown));
     /// ```
+    #[inline]
     pub fn check(number: u32) -> Result<(), Refusal> {
         match number {
             0 => Ok(()),
