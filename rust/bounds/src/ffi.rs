@@ -299,8 +299,7 @@ pub struct ReadAnswer {
     pub polygon: PolygonC,
 }
 
-/// `bounds_box_answer`: of the struct, which only tests call.
-#[cfg(test)]
+/// `bounds_box_answer`.
 #[derive(Clone, Copy)]
 #[repr(C)]
 pub struct BoxAnswer {
@@ -335,7 +334,6 @@ unsafe extern "C" {
     // Memory is reached, and only through each pointer and the length behind it: called below, with slices.
     fn bounds_polygon_read(bytes: *const u8, bytes_len: usize) -> ReadAnswer;
     fn bounds_polygon_write(out: *mut u8, out_len: usize, polygon: PolygonC) -> u32;
-    #[cfg(test)]
     fn bounds_polygon_bbox(polygon: PolygonC, vertices: *const u32, vertices_len: usize) -> BoxAnswer;
     fn bounds_triangle_bbox(v1: u16, v2: u16, v3: u16, vertices: *const u32, vertices_len: usize) -> PolygonBox;
     fn bounds_sphere_bbox(index: u16, radius: f32, vertices: *const u32, vertices_len: usize) -> PolygonBox;
@@ -393,7 +391,6 @@ pub fn polygon_write(out: &mut [u8], polygon: PolygonC) -> u32 {
 }
 
 /// `bounds_polygon_bbox`.
-#[cfg(test)]
 pub fn polygon_bbox(polygon: PolygonC, vertices: &[u32]) -> BoxAnswer {
     // SAFETY: the pointer comes from a slice, which is only read, and goes with its length. Any struct may be given: the
     // library reads a vertex only where the slice has it.
@@ -514,7 +511,6 @@ pub fn vector_words(points: &[Vec3]) -> &[u32] {
 const _: () = {
     assert!(size_of::<PolygonC>() == 20 && align_of::<PolygonC>() == 4);
     assert!(size_of::<ReadAnswer>() == 24 && align_of::<ReadAnswer>() == 4);
-    #[cfg(test)]
     assert!(size_of::<BoxAnswer>() == 28 && align_of::<BoxAnswer>() == 4);
     assert!(size_of::<PolygonBox>() == 24 && align_of::<PolygonBox>() == 4);
     assert!(size_of::<MaterialsAnswer>() == 16 && align_of::<MaterialsAnswer>() == 8);

@@ -147,6 +147,21 @@ impl Polygon {
         (floats(min), floats(max))
     }
 
+    /// The same box by the struct that a C caller hands over, `bounds_polygon_bbox`: slower, since the struct is stored and
+    /// read again. Both are held to the reference.
+    ///
+    /// ```
+    /// # use bounds::{geometry::Polygon, Vec3};
+    /// let vertices = [Vec3::new(1.0, 2.0, 3.0)];
+    /// let sphere = Polygon::Sphere { material: 0, index: 0, radius: 0.5 };
+    /// assert_eq!(sphere.bbox_by_struct(&vertices), sphere.bbox(&vertices));
+    /// ```
+    pub fn bbox_by_struct(&self, vertices: &[Vec3]) -> (Vec3, Vec3) {
+        let answer = ffi::polygon_bbox(self.as_struct(), ffi::vector_words(vertices));
+        assert_eq!(answer.refusal, 0, "a polygon of a known kind has a box");
+        (floats(answer.min), floats(answer.max))
+    }
+
     /// Apart, so that a triangle's box is small enough to be compiled into the caller's loop.
     fn other_box(&self, words: &[u32]) -> PolygonBox {
         match *self {
@@ -359,9 +374,8 @@ mod tests {
             for (kind, radius) in [(0, 1.0), (1, 0.5), (1, f32::NAN), (2, -0.0), (3, 1.0), (4, f32::INFINITY)] {
                 let polygon = of_kind(kind, n, radius);
                 let (low, high) = polygon.bbox(&vertices);
-                let given = ffi::polygon_bbox(polygon.as_struct(), ffi::vector_words(&vertices));
-                let (min, max) = (floats(given.min), floats(given.max));
-                assert_eq!((given.refusal, bits(low), bits(high)), (0, bits(min), bits(max)), "{polygon:?}");
+                let (min, max) = polygon.bbox_by_struct(&vertices);
+                assert_eq!((bits(low), bits(high)), (bits(min), bits(max)), "{polygon:?}");
             }
         }
     }

@@ -58,10 +58,20 @@ pub fn write(out: &mut [u8], polygon: Polygon) -> Result<(), u32> {
     Ok(())
 }
 
+/// Both ways to a box have to give the same, bit by bit but for a NaN.
 pub fn bbox(polygon: Polygon, vertices: &[Vec3]) -> Aabb {
     let vertices: Vec<bounds::Vec3> = vertices.iter().copied().map(point).collect();
-    let (min, max) = ours(polygon).bbox(&vertices);
-    Aabb { min: coordinates(min), max: coordinates(max) }
+    let whole = |(min, max)| Aabb { min: coordinates(min), max: coordinates(max) };
+    let words = |b: &Aabb| {
+        [b.min, b.max]
+            .concat()
+            .into_iter()
+            .map(|f| if f.is_nan() { f32::NAN } else { f }.to_bits())
+            .collect::<Vec<u32>>()
+    };
+    let found = whole(ours(polygon).bbox(&vertices));
+    assert_eq!(words(&found), words(&whole(ours(polygon).bbox_by_struct(&vertices))));
+    found
 }
 
 /// Items as words, seven each.
