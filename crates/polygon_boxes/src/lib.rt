@@ -1,7 +1,4 @@
 // The box of a polygon over its vertices, which are three words each. A vertex that is not there is zero.
-use kinds::box_box;
-use kinds::capsule_box;
-use kinds::sphere_box;
 use math::vec3::Vec3;
 use math::vec3::vadd_f;
 use math::vec3::vmax;
@@ -11,13 +8,14 @@ use math::words3::bits;
 use math::words3::values;
 use math::words3::vmax_words;
 use math::words3::vmin_words;
+use numbers::all_four;
+use numbers::all_three;
 use numbers::high3;
 use numbers::high4;
 use numbers::low3;
 use numbers::low4;
 use polygon::Polygon;
 use polygon::halves::half_of;
-use triangles::triangle_box;
 ghost use mathlib.Core.Path.{_≡_};
 ghost use Prim.Native.Nat.{_+_, _*_, _≤_};
 ghost use lib.ListN.{length};
@@ -87,6 +85,16 @@ fn word_box(a: Words3, b: Words3, c: Words3) -> PolygonBox
     }
 }
 
+fn three_box(a: Words3, b: Words3, c: Words3) -> PolygonBox
+    ensures { λ r. ⌜ r ≡ threeBox a b c ⌝ }
+{
+    if all_three(a, b, c) {
+        number_box(a, b, c)
+    } else {
+        word_box(a, b, c)
+    }
+}
+
 fn number_box_4(a: Words3, b: Words3, c: Words3, d: Words3) -> PolygonBox
     requires { ⌜ Numbers a × Numbers b × Numbers c × Numbers d ⌝ }
     ensures { λ r. ⌜ r ≡ fourBox a b c d ⌝ }
@@ -112,6 +120,16 @@ fn word_box_4(a: Words3, b: Words3, c: Words3, d: Words3) -> PolygonBox
     PolygonBox {
         min: vmin_words(three.min, d),
         max: vmax_words(three.max, d),
+    }
+}
+
+fn four_box(a: Words3, b: Words3, c: Words3, d: Words3) -> PolygonBox
+    ensures { λ r. ⌜ r ≡ fourBox a b c d ⌝ }
+{
+    if all_four(a, b, c, d) {
+        number_box_4(a, b, c, d)
+    } else {
+        word_box_4(a, b, c, d)
     }
 }
 
@@ -147,30 +165,46 @@ pub fn bbox(p: Polygon, vertices: &[u32]) -> PolygonBox
             e1: _,
             e2: _,
             e3: _,
-        } => triangle_box(v1, v2, v3, vertices),
+        } => {
+            let a = vertex_words(vertices, v1 % 32768);
+            let b = vertex_words(vertices, v2 % 32768);
+            let c = vertex_words(vertices, v3 % 32768);
+            three_box(a, b, c)
+        }
         Polygon::Sphere {
             index,
             radius,
             nan: _,
-        } => sphere_box(index, radius, vertices),
+        } => {
+            let centre = values(vertex_words(vertices, index));
+            grown_box(centre, centre, radius)
+        }
         Polygon::Capsule {
             i1,
             i2,
             radius,
             nan: _,
-        } => capsule_box(i1, i2, radius, vertices),
-        Polygon::Box { i1, i2, i3, i4 } => box_box(
-            half_of(i1),
-            half_of(i2),
-            half_of(i3),
-            half_of(i4),
-            vertices,
-        ),
+        } => {
+            let a = vertex_words(vertices, i1);
+            let b = vertex_words(vertices, i2);
+            pair_box(a, b, radius)
+        }
+        Polygon::Box { i1, i2, i3, i4 } => {
+            let a = vertex_words(vertices, half_of(i1));
+            let b = vertex_words(vertices, half_of(i2));
+            let c = vertex_words(vertices, half_of(i3));
+            let d = vertex_words(vertices, half_of(i4));
+            four_box(a, b, c, d)
+        }
         Polygon::Cylinder {
             i1,
             i2,
             radius,
             nan: _,
-        } => capsule_box(i1, i2, radius, vertices),
+        } => {
+            let a = vertex_words(vertices, i1);
+            let b = vertex_words(vertices, i2);
+            pair_box(a, b, radius)
+        }
     }
 }
