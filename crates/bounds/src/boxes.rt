@@ -1,0 +1,103 @@
+// A box through a matrix. math's `transform_box` serves the composites too and stays out of line: for a call of it the matrix,
+// which comes in registers, would be stored. What is here has one caller each and goes into it.
+use math::aabb::Aabb;
+use math::mat4::Mat4;
+use math::mat4::Vec4;
+use math::vec3::Vec3;
+ghost use mathlib.Core.Path.{_≡_};
+ghost use Rattle.math.specs.Transform.{absRow, centreImage, extentImage, transformBox};
+
+// The centre through the matrix, divided by its w.
+fn centre_image(b: Aabb, m: Mat4) -> Vec3
+    ensures { λ r. ⌜ r ≡ centreImage b m ⌝ }
+{
+    let centre = b.max.add(b.min).scale(0.5);
+    let p = m.transform_point(centre);
+    let inv = 1.0 / p.w;
+    Vec3 {
+        x: p.x * inv,
+        y: p.y * inv,
+        z: p.z * inv,
+    }
+}
+
+fn abs_row(r: Vec4) -> Vec4
+    ensures { λ s. ⌜ s ≡ absRow r ⌝ }
+{
+    Vec4 {
+        x: float32::signs::abs(r.x),
+        y: float32::signs::abs(r.y),
+        z: float32::signs::abs(r.z),
+        w: float32::signs::abs(r.w),
+    }
+}
+
+// The half extent through the matrix of absolute values, of which a direction needs three rows.
+fn extent_image(b: Aabb, m: Mat4) -> Vec3
+    ensures { λ r. ⌜ r ≡ extentImage b m ⌝ }
+{
+    let extent = b.max.sub(b.min).scale(0.5);
+    let row3 = m.row3;
+    let rows = Mat4 {
+        row0: abs_row(m.row0),
+        row1: abs_row(m.row1),
+        row2: abs_row(m.row2),
+        row3: row3,
+    };
+    rows.transform_vector(extent).abs()
+}
+
+// The box around the centre's image.
+fn transform_box(b: Aabb, m: Mat4) -> Aabb
+    ensures { λ r. ⌜ r ≡ transformBox b m ⌝ }
+{
+    let centre = centre_image(b, m);
+    let extent = extent_image(b, m);
+    Aabb {
+        min: centre.sub(extent),
+        max: centre.add(extent),
+    }
+}
+
+// The matrix by its rows and the box by its numbers: all of the matrix goes in registers, and a number of the box is loaded as it
+// was stored.
+#[no_mangle]
+pub extern "C" fn bounds_transform_box_rows(
+    row0: Vec4,
+    row1: Vec4,
+    row2: Vec4,
+    row3: Vec4,
+    min_x: f32,
+    min_y: f32,
+    min_z: f32,
+    max_x: f32,
+    max_y: f32,
+    max_z: f32,
+) -> Aabb
+    ensures { λ r. ⌜ r ≡ transformBox
+        (record {
+          min = record { x = «min_x»; y = «min_y»; z = «min_z» };
+          max = record { x = «max_x»; y = «max_y»; z = «max_z» };
+        })
+        (record { row0 = row0; row1 = row1; row2 = row2; row3 = row3 }) ⌝ }
+{
+    let b = Aabb {
+        min: Vec3 {
+            x: min_x,
+            y: min_y,
+            z: min_z,
+        },
+        max: Vec3 {
+            x: max_x,
+            y: max_y,
+            z: max_z,
+        },
+    };
+    let m = Mat4 {
+        row0: row0,
+        row1: row1,
+        row2: row2,
+        row3: row3,
+    };
+    transform_box(b, m)
+}
