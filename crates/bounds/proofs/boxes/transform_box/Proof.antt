@@ -4,11 +4,11 @@ use borrow.Author.Needs.{needs}
 use Rattle.bounds.proofs.boxes.transform_box.Statement.{statement}
 use Rattle.bounds.proofs.boxes.transform_box.Tie as tie
 
-centre-image-requires : tie.Need-centre-image-requires
-centre-image-requires c κs = search needs
-
 extent-image-requires : tie.Need-extent-image-requires
 extent-image-requires c κs = search needs
+
+centre-image-requires : tie.Need-centre-image-requires
+centre-image-requires c κs = search needs
 
 sub-requires : tie.Need-sub-requires
 sub-requires c κs = search needs
@@ -23,4 +23,4 @@ returns c = cc
 pub transform-box-spec : {M : Type 1} → statement M
 transform-box-spec =
     tie.close
-    (tie.spec centre-image-requires extent-image-requires sub-requires add-requires returns)
+    (tie.spec extent-image-requires centre-image-requires sub-requires add-requires returns)
