@@ -139,7 +139,7 @@ unsafe extern "C" {
         max_x: f32,
         max_y: f32,
         max_z: f32,
-    ) -> Corners; // float arithmetic; a fourth coordinate of 0 gives infinities
+    ) -> Corners; // float arithmetic again; a fourth coordinate of 0 gives infinities
 
     pub safe fn bounds_work_len(entries: u32) -> u64; // any number; 30 of them and 8 more stay below 2^64
 
