@@ -1,12 +1,12 @@
--- `boxes::extent_image` meets its contract: what the seven calls ensure, put into one another.
+-- `extent_image` meets its contract: what the seven calls ensure, put into one another.
 use mathlib.Core.Path.{ap, _∙_}
 use Rattle.math.specs.Transform.{absRow, absMatrix, vectorOf, extentImage, half}
 use Rattle.math.specs.Vec3s.{scaleOf, absOf}
 use Rattle.math.specs.declared.vec3.Vec3.{Vec3}
 use Rattle.math.specs.declared.mat4.Vec4.{Vec4}
 use borrow.Author.Needs.{needs}
-use Rattle.bounds.proofs.boxes.extent_image.Statement.{statement}
-use Rattle.bounds.proofs.boxes.extent_image.Tie as tie
+use Rattle.box_rows.proofs.extent_image.Statement.{statement}
+use Rattle.box_rows.proofs.extent_image.Tie as tie
 
 sub-requires : tie.Need-sub-requires
 sub-requires c κs = search needs

@@ -1,7 +1,7 @@
--- `boxes::abs_row` meets its contract: component by component what `float32::signs::abs` ensures.
+-- `abs_row` meets its contract: component by component what `float32::signs::abs` ensures.
 use borrow.Author.Needs.{needs}
-use Rattle.bounds.proofs.boxes.abs_row.Statement.{statement}
-use Rattle.bounds.proofs.boxes.abs_row.Tie as tie
+use Rattle.box_rows.proofs.abs_row.Statement.{statement}
+use Rattle.box_rows.proofs.abs_row.Tie as tie
 
 abs-requires : tie.Need-abs-requires
 abs-requires c κs = search needs

@@ -1,12 +1,12 @@
--- `boxes::centre_image` meets its contract: what the three calls ensure, put into one another.
+-- `centre_image` meets its contract: what the three calls ensure, put into one another.
 use mathlib.Core.Path.{ap, _∙_}
 use Rattle.math.specs.Transform.{centreImage, pointOf, half, xyz}
 use Rattle.math.specs.Vec3s.{scaleOf, one, _⊘_}
 use Rattle.math.specs.declared.vec3.Vec3.{Vec3}
 use Rattle.math.specs.declared.mat4.Vec4.{Vec4}
 use borrow.Author.Needs.{needs}
-use Rattle.bounds.proofs.boxes.centre_image.Statement.{statement}
-use Rattle.bounds.proofs.boxes.centre_image.Tie as tie
+use Rattle.box_rows.proofs.centre_image.Statement.{statement}
+use Rattle.box_rows.proofs.centre_image.Tie as tie
 
 add-requires : tie.Need-add-requires
 add-requires c κs = search needs

@@ -1,8 +1,8 @@
--- `boxes::transform_box` meets its contract: the two images' difference and sum.
+-- `transform_box` meets its contract: the two images' difference and sum.
 use Rattle.math.specs.Transform.{transformBox}
 use borrow.Author.Needs.{needs}
-use Rattle.bounds.proofs.boxes.transform_box.Statement.{statement}
-use Rattle.bounds.proofs.boxes.transform_box.Tie as tie
+use Rattle.box_rows.proofs.transform_box.Statement.{statement}
+use Rattle.box_rows.proofs.transform_box.Tie as tie
 
 extent-image-requires : tie.Need-extent-image-requires
 extent-image-requires c κs = search needs
