@@ -1,4 +1,5 @@
 // The C interface: one function an operation, none of which asks anything of its caller.
+pub mod boxes;
 pub mod composites;
 pub mod geometry;
 pub mod octant_writing;
@@ -24,7 +25,7 @@ ghost use Rattle.float32.specs.Extremes.{vminOf, vmaxOf, vminWord, vmaxWord, mi
 ghost use Rattle.float32.specs.SortOrder.{cmpOf, keyOf};
 ghost use Rattle.float32.specs.SquareRoot.{sqrtOf};
 ghost use Rattle.math.specs.Stored.{vminWordsOf, vmaxWordsOf};
-ghost use Rattle.math.specs.Transform.{pointOf, vectorOf, transformBox};
+ghost use Rattle.math.specs.Transform.{pointOf, vectorOf};
 ghost use Rattle.math.specs.Vec3s.{addOf, subOf, scaleOf, negOf, absOf, dotOf, crossOf, lengthOf, vmulOf, vdivOf, vaddOf, normOf, vmin3Of, vmax3Of, cmpVec3Of};
 ghost use Rattle.bvh.specs.Entry.{entriesIn, entriesOf, outputs, lent, lengthsOf};
 ghost use Rattle.answers.specs.Numbers.{relationNumber, orderingNumber};
@@ -302,13 +303,6 @@ pub extern "C" fn bounds_transform_vector(m: Mat4, v: Vec3) -> Vec3
     ensures { λ r. ⌜ r ≡ vectorOf m v ⌝ }
 {
     m.transform_vector(v)
-}
-
-#[no_mangle]
-pub extern "C" fn bounds_transform_box(b: Aabb, m: Mat4) -> Aabb
-    ensures { λ r. ⌜ r ≡ transformBox b m ⌝ }
-{
-    math::aabb::transform_box(b, m)
 }
 
 // ---- trees

@@ -90,6 +90,10 @@ static void transforms(void) {
     bounds_aabb box = bounds_transform_box((bounds_aabb){{-1, -1, -1}, one}, m);
     point("transform_box, min", box.min, 3, 7, 11);
     point("transform_box, max", box.max, 7, 13, 19);
+    bounds_mat4 turn = {{0, 1, 0, 0}, {0, 0, 1, 0}, {1, 0, 0, 0}, {10, 20, 30, 1}};
+    bounds_aabb turned = bounds_transform_box((bounds_aabb){{1, 2, 3}, {5, 8, 11}}, turn);
+    point("transform_box, turned, min", turned.min, 13, 21, 32);
+    point("transform_box, turned, max", turned.max, 21, 25, 38);
 }
 
 int main(void) {

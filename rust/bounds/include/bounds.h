@@ -74,7 +74,15 @@ bounds_words3 bounds_vmax_words3(bounds_words3 a, bounds_words3 b);
 int32_t bounds_cmp_vec3(bounds_vec3 a, bounds_vec3 b);  /* cmp_f32 of x, then y, then z */
 bounds_vec4 bounds_transform_point(bounds_mat4 m, bounds_vec3 p);
 bounds_vec3 bounds_transform_vector(bounds_mat4 m, bounds_vec3 v);
-bounds_aabb bounds_transform_box(bounds_aabb b, bounds_mat4 m);
+
+/* A box through a matrix, of which the rows go in registers: no struct is copied whole. */
+bounds_aabb bounds_transform_box_rows(bounds_vec4 row0, bounds_vec4 row1, bounds_vec4 row2, bounds_vec4 row3,
+                                      float min_x, float min_y, float min_z, float max_x, float max_y, float max_z);
+
+static inline bounds_aabb bounds_transform_box(bounds_aabb b, bounds_mat4 m) {
+    return bounds_transform_box_rows(m.row0, m.row1, m.row2, m.row3, b.min.x, b.min.y, b.min.z,
+                                     b.max.x, b.max.y, b.max.z);
+}
 
 /* ---- the tree over a list of boxes ----
  *

@@ -128,7 +128,18 @@ unsafe extern "C" {
     pub safe fn bounds_cmp_vec3(a: Vec3, b: Vec3) -> i32; // cmp_f32 on each axis
     pub safe fn bounds_transform_point(m: Mat4, p: Vec3) -> Vec4; // sixteen floats are the header's four rows of four
     pub safe fn bounds_transform_vector(m: Mat4, v: Vec3) -> Vec3; // likewise
-    pub safe fn bounds_transform_box(b: Aabb, m: Mat4) -> Corners; // likewise; a fourth coordinate of 0 gives infinities
+    pub safe fn bounds_transform_box_rows(
+        row0: Vec4,
+        row1: Vec4,
+        row2: Vec4,
+        row3: Vec4,
+        min_x: f32,
+        min_y: f32,
+        min_z: f32,
+        max_x: f32,
+        max_y: f32,
+        max_z: f32,
+    ) -> Corners; // float arithmetic again; a fourth coordinate of 0 gives infinities
 
     pub safe fn bounds_work_len(entries: u32) -> u64; // any number; 30 of them and 8 more stay below 2^64
 

@@ -1,6 +1,6 @@
 //! Points, boxes and transforms.
 
-use crate::ffi::{self, Aabb, Words3};
+use crate::ffi::{self, Words3};
 pub use crate::types::{Mat4, Vec3, Vec4};
 use std::cmp::Ordering;
 use std::ops::{Add, Mul, Neg, Sub};
@@ -307,6 +307,7 @@ pub fn cmp_vec3(a: Vec3, b: Vec3) -> Ordering {
 /// ```
 #[inline]
 pub fn transform_box(min: Vec3, max: Vec3, m: &Mat4) -> (Vec3, Vec3) {
-    let b = ffi::bounds_transform_box(Aabb { min, max }, *m);
+    let row = |k: usize| Vec4::new(m.0[k], m.0[k + 1], m.0[k + 2], m.0[k + 3]);
+    let b = ffi::bounds_transform_box_rows(row(0), row(4), row(8), row(12), min.x, min.y, min.z, max.x, max.y, max.z);
     (Vec3::new(b.0[0], b.0[1], b.0[2]), Vec3::new(b.0[3], b.0[4], b.0[5]))
 }
