@@ -233,6 +233,14 @@ typedef struct {
 
 typedef struct { bounds_words3 min, max; } bounds_polygon_box;
 
+/* A box as two runs of four words; the spare ones may be any. */
+typedef struct {
+    bounds_words3 min;
+    uint32_t spare_min;
+    bounds_words3 max;
+    uint32_t spare_max;
+} bounds_wide_box;
+
 typedef struct {
     uint32_t refusal;
     size_t count;  /* materials in the list; 0 where refused */
@@ -251,7 +259,7 @@ bounds_box_answer bounds_polygon_bbox(bounds_polygon polygon, const uint32_t *ve
 
 /* The same by the kind, from the numbers of its vertices: no struct is copied, and nothing is refused. Of a triangle's
  * numbers bit 15 is left out; a cylinder's box is a capsule's. */
-bounds_polygon_box bounds_triangle_bbox(uint16_t v1, uint16_t v2, uint16_t v3, const uint32_t *vertices, size_t vertices_len);
+bounds_wide_box bounds_triangle_bbox(uint16_t v1, uint16_t v2, uint16_t v3, const uint32_t *vertices, size_t vertices_len);
 bounds_polygon_box bounds_sphere_bbox(uint16_t index, float radius, const uint32_t *vertices, size_t vertices_len);
 bounds_polygon_box bounds_capsule_bbox(uint16_t i1, uint16_t i2, float radius, const uint32_t *vertices, size_t vertices_len);
 bounds_polygon_box bounds_box_bbox(uint16_t i1, uint16_t i2, uint16_t i3, uint16_t i4, const uint32_t *vertices,

@@ -1,19 +1,19 @@
--- `triangles::triangle_box`: what its calls ensure, on the short way and on the long one.
+-- `triangle_box`: what its calls ensure, on the short way and on the long one.
 use borrow.Author.Needs.{needs}
-use Rattle.polygon_boxes.proofs.triangles.triangle_box.Statement.{statement}
-use Rattle.polygon_boxes.proofs.triangles.triangle_box.Tie as tie
+use Rattle.wide_boxes.proofs.triangle_box.Statement.{statement}
+use Rattle.wide_boxes.proofs.triangle_box.Tie as tie
 
 within-requires : tie.Need-within-requires
 within-requires c κs = search needs
 
-near-words-requires : tie.Need-near-words-requires
-near-words-requires c κs = c .before .within .ensures (c .if1 .taken) .0
+four-words-requires : tie.Need-four-words-requires
+four-words-requires c κs = c .before .within .ensures (c .if1 .taken) .0
 
-near-words-requires-2 : tie.Need-near-words-requires-2
-near-words-requires-2 c κs = c .before .before .within .ensures (c .before .if1 .taken) .1
+four-words-requires-2 : tie.Need-four-words-requires-2
+four-words-requires-2 c κs = c .before .before .within .ensures (c .before .if1 .taken) .1
 
-near-words-requires-3 : tie.Need-near-words-requires-3
-near-words-requires-3 c κs = c .before .before .before .within .ensures (c .before .before .if1 .taken) .2
+four-words-requires-3 : tie.Need-four-words-requires-3
+four-words-requires-3 c κs = c .before .before .before .within .ensures (c .before .before .if1 .taken) .2
 
 all-three-requires : tie.Need-all-three-requires
 all-three-requires c κs = search needs
@@ -44,9 +44,9 @@ triangle-box-spec =
     tie.close
     (tie.spec
     within-requires
-    near-words-requires
-    near-words-requires-2
-    near-words-requires-3
+    four-words-requires
+    four-words-requires-2
+    four-words-requires-3
     all-three-requires
     number-box-requires
     returns
