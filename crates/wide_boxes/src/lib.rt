@@ -1,4 +1,6 @@
 // The box of a triangle as two runs of four words: four lanes at a time are tested, folded and stored, and a caller reads each run as it was stored.
+use float32::extremes::vmax_word;
+use float32::extremes::vmin_word;
 use math::words3::Words3;
 use math::words3::vmax_words;
 use math::words3::vmin_words;
@@ -12,10 +14,9 @@ ghost use mathlib.Core.Path.{_≡_};
 ghost use Prim.Native.Nat.{_+_, _*_, _≤_};
 ghost use lib.ListN.{length};
 ghost use Rattle.entries.specs.Plain.{Number};
-ghost use Rattle.polygon_boxes.specs.Boxes.{vertexWords, threeBox, triangleBox};
-ghost use Rattle.wide_boxes.specs.Wide.{Numbers4, boxIn};
+ghost use Rattle.wide_boxes.specs.Wide.{Numbers4, wordBehind, fourWords, wideBox, triangleWide};
 
-// Behind each corner is a spare word, which may be any.
+// Behind each corner is a spare word: what the fourth lane has where the other three have the corner.
 #[repr(C)]
 pub struct WideBox {
     pub min: Words3,
@@ -32,7 +33,7 @@ pub struct Words4 {
 
 fn four_words(vertices: &[u32], i: u16) -> Words4
     requires { ⌜ 3 * i + 4 ≤ length (now vertices) ⌝ }
-    ensures { λ r. ⌜ r .vertex ≡ vertexWords (now (vertices .entry)) i ⌝ }
+    ensures { λ r. ⌜ r ≡ fourWords (now (vertices .entry)) i ⌝ }
 {
     let vertex = near_words(vertices, i);
     Words4 {
@@ -63,7 +64,7 @@ fn all_three(a: Words4, b: Words4, c: Words4) -> bool
 // compiler from choosing words, which takes four steps, where it can choose floats, which takes one.
 fn number_box(a: Words4, b: Words4, c: Words4) -> WideBox
     requires { ⌜ Numbers4 a × Numbers4 b × Numbers4 c ⌝ }
-    ensures { λ r. ⌜ boxIn r ≡ threeBox (a .vertex) (b .vertex) (c .vertex) ⌝ }
+    ensures { λ r. ⌜ r ≡ wideBox (a .vertex) (b .vertex) (c .vertex) (b .next) (c .next) ⌝ }
 {
     WideBox {
         min: Words3 {
@@ -82,15 +83,23 @@ fn number_box(a: Words4, b: Words4, c: Words4) -> WideBox
 }
 
 // Word by word, whatever they are.
-fn word_box(a: Words3, b: Words3, c: Words3) -> WideBox
-    ensures { λ r. ⌜ boxIn r ≡ threeBox a b c ⌝ }
+fn word_box(a: Words3, b: Words3, c: Words3, behind_b: u32, behind_c: u32) -> WideBox
+    ensures { λ r. ⌜ r ≡ wideBox a b c «behind_b» «behind_c» ⌝ }
 {
     WideBox {
         min: vmin_words(vmin_words(a, b), c),
-        spare_min: 0,
+        spare_min: vmin_word(vmin_word(0, behind_b), behind_c),
         max: vmax_words(vmax_words(a, b), c),
-        spare_max: 0,
+        spare_max: vmax_word(vmax_word(0, behind_b), behind_c),
     }
+}
+
+// The word behind a vertex, where there is one.
+fn word_behind(vertices: &[u32], i: u16) -> u32
+    ensures { λ r. ⌜ r ≡ wordBehind (now (vertices .entry)) i ⌝ }
+{
+    let at = 3 * (i as usize) + 3;
+    if at < vertices.len() { vertices[at] } else { 0 }
 }
 
 fn greater(a: usize, b: usize) -> usize
@@ -113,7 +122,7 @@ fn within(i: u16, j: u16, k: u16, words: usize) -> bool
 
 // Bit 15 of a vertex number is a flag.
 pub fn triangle_box(v1: u16, v2: u16, v3: u16, vertices: &[u32]) -> WideBox
-    ensures { λ r. ⌜ boxIn r ≡ triangleBox (now (vertices .entry)) v1 v2 v3 ⌝ }
+    ensures { λ r. ⌜ r ≡ triangleWide (now (vertices .entry)) v1 v2 v3 ⌝ }
 {
     let i = v1 % 32768;
     let j = v2 % 32768;
@@ -129,5 +138,5 @@ pub fn triangle_box(v1: u16, v2: u16, v3: u16, vertices: &[u32]) -> WideBox
     let a = vertex_words(vertices, i);
     let b = vertex_words(vertices, j);
     let c = vertex_words(vertices, k);
-    word_box(a, b, c)
+    word_box(a, b, c, word_behind(vertices, j), word_behind(vertices, k))
 }

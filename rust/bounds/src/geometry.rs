@@ -142,7 +142,7 @@ impl Polygon {
         let words = ffi::vector_words(vertices);
         match *self {
             Polygon::Triangle { v, .. } => {
-                let WideBox { min, max, .. } = ffi::triangle_bbox(v, words);
+                let WideBox { min, max, .. } = ffi::triangle_wide_box(v, words);
                 (floats(min), floats(max))
             }
             _ => {
@@ -171,7 +171,7 @@ impl Polygon {
     fn other_box(&self, words: &[u32]) -> PolygonBox {
         match *self {
             Polygon::Triangle { v, .. } => {
-                let WideBox { min, max, .. } = ffi::triangle_bbox(v, words);
+                let WideBox { min, max, .. } = ffi::triangle_wide_box(v, words);
                 PolygonBox { min, max }
             }
             Polygon::Sphere { index, radius, .. } => ffi::sphere_bbox(index, radius, words),
