@@ -7,6 +7,7 @@ use Rattle.float32.specs.Extremes.{vminWord, vmaxWord}
 use Rattle.math.specs.declared.words3.Words3.{Words3}
 use Rattle.polygon_boxes.specs.Boxes.{vertexWords, threeBox}
 use Rattle.polygon_boxes.specs.Numbers.{Numbers}
+use Rattle.polygon_boxes.specs.declared.PolygonBox.{PolygonBox}
 use Rattle.wide_boxes.specs.declared.WideBox.{WideBox}
 use Rattle.wide_boxes.specs.declared.Words4.{Words4}
 
@@ -34,3 +35,7 @@ wideBox a b c u v =
 abbrev pub triangleWide : List ℕ → ℕ → ℕ → ℕ → WideBox
 triangleWide ws v1 v2 v3 =
     wideBox (vertexWords ws (v1 % 32768)) (vertexWords ws (v2 % 32768)) (vertexWords ws (v3 % 32768)) (wordBehind ws (v2 % 32768)) (wordBehind ws (v3 % 32768))
+
+-- The box without the spare words.
+abbrev pub boxIn : WideBox → PolygonBox
+boxIn w = record { min = w .min; max = w .max }

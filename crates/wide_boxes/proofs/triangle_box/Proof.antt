@@ -36,9 +36,9 @@ returns c =
     let start = first .before .before .before .before in
     let ws = start .args .vertices .now in
     c .number-box .ensures
-        ∙ ap (λ (a : Words4). wideBox (a .vertex) (b .vertex) (c3 .vertex) (b .next) (c3 .next)) (first .four-words .ensures)
-        ∙ ap (λ (b : Words4). wideBox (vertexWords ws (start .args .v1 % 32768)) (b .vertex) (c3 .vertex) (b .next) (c3 .next)) (second .four-words2 .ensures)
-        ∙ ap (λ (c : Words4). wideBox (vertexWords ws (start .args .v1 % 32768)) (vertexWords ws (start .args .v2 % 32768)) (c .vertex) (wordBehind ws (start .args .v2 % 32768)) (c .next)) (third .four-words3 .ensures)
+    ∙ ap (λ (a : Words4). wideBox (a .vertex) (b .vertex) (c3 .vertex) (b .next) (c3 .next)) (first .four-words .ensures)
+    ∙ ap (λ (b : Words4). wideBox (vertexWords ws (start .args .v1 % 32768)) (b .vertex) (c3 .vertex) (b .next) (c3 .next)) (second .four-words2 .ensures)
+    ∙ ap (λ (c : Words4). wideBox (vertexWords ws (start .args .v1 % 32768)) (vertexWords ws (start .args .v2 % 32768)) (c .vertex) (wordBehind ws (start .args .v2 % 32768)) (c .next)) (third .four-words3 .ensures)
 
 vertex-words-requires : tie.Need-vertex-words-requires
 vertex-words-requires c κs = search needs
