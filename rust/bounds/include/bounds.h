@@ -241,6 +241,14 @@ typedef struct {
 
 typedef struct { bounds_words3 min, max; } bounds_polygon_box;
 
+/* A box as two runs of four words. A spare one is the fold of 0 and of the words behind the second and the third vertex. */
+typedef struct {
+    bounds_words3 min;
+    uint32_t spare_min;
+    bounds_words3 max;
+    uint32_t spare_max;
+} bounds_wide_box;
+
 typedef struct {
     uint32_t refusal;
     size_t count;  /* materials in the list; 0 where refused */
@@ -259,7 +267,14 @@ bounds_box_answer bounds_polygon_bbox(bounds_polygon polygon, const uint32_t *ve
 
 /* The same by the kind, from the numbers of its vertices: no struct is copied, and nothing is refused. Of a triangle's
  * numbers bit 15 is left out; a cylinder's box is a capsule's. */
-bounds_polygon_box bounds_triangle_bbox(uint16_t v1, uint16_t v2, uint16_t v3, const uint32_t *vertices, size_t vertices_len);
+bounds_wide_box bounds_triangle_wide_box(uint16_t v1, uint16_t v2, uint16_t v3, const uint32_t *vertices, size_t vertices_len);
+
+static inline bounds_polygon_box bounds_triangle_bbox(uint16_t v1, uint16_t v2, uint16_t v3, const uint32_t *vertices,
+                                                      size_t vertices_len) {
+    bounds_wide_box b = bounds_triangle_wide_box(v1, v2, v3, vertices, vertices_len);
+    return (bounds_polygon_box){b.min, b.max};
+}
+
 bounds_polygon_box bounds_sphere_bbox(uint16_t index, float radius, const uint32_t *vertices, size_t vertices_len);
 bounds_polygon_box bounds_capsule_bbox(uint16_t i1, uint16_t i2, float radius, const uint32_t *vertices, size_t vertices_len);
 bounds_polygon_box bounds_box_bbox(uint16_t i1, uint16_t i2, uint16_t i3, uint16_t i4, const uint32_t *vertices,

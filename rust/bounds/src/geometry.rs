@@ -13,7 +13,7 @@
 //! ```
 
 use crate::bvh::parts;
-use crate::ffi::{self, PolygonBox, PolygonC};
+use crate::ffi::{self, PolygonBox, PolygonC, WideBox};
 pub use crate::types::{BoundMaterial, BoundVertex};
 use crate::{BvhItem, Refusal, Vec3};
 
@@ -140,11 +140,16 @@ impl Polygon {
     #[inline]
     pub fn bbox(&self, vertices: &[Vec3]) -> (Vec3, Vec3) {
         let words = ffi::vector_words(vertices);
-        let PolygonBox { min, max } = match *self {
-            Polygon::Triangle { v, .. } => ffi::triangle_bbox(v, words),
-            _ => self.other_box(words),
-        };
-        (floats(min), floats(max))
+        match *self {
+            Polygon::Triangle { v, .. } => {
+                let WideBox { min, max, .. } = ffi::triangle_wide_box(v, words);
+                (floats(min), floats(max))
+            }
+            _ => {
+                let PolygonBox { min, max } = self.other_box(words);
+                (floats(min), floats(max))
+            }
+        }
     }
 
     /// The same box by the struct that a C caller hands over, `bounds_polygon_bbox`: slower, since the struct is stored and
@@ -165,7 +170,10 @@ impl Polygon {
     /// Apart, so that a triangle's box is small enough to be compiled into the caller's loop.
     fn other_box(&self, words: &[u32]) -> PolygonBox {
         match *self {
-            Polygon::Triangle { v, .. } => ffi::triangle_bbox(v, words),
+            Polygon::Triangle { v, .. } => {
+                let WideBox { min, max, .. } = ffi::triangle_wide_box(v, words);
+                PolygonBox { min, max }
+            }
             Polygon::Sphere { index, radius, .. } => ffi::sphere_bbox(index, radius, words),
             Polygon::Capsule { i1, i2, radius, .. } | Polygon::Cylinder { i1, i2, radius, .. } => {
                 ffi::capsule_bbox(i1, i2, radius, words)
