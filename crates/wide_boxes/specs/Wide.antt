@@ -34,7 +34,8 @@ wideBox a b c u v =
 -- Rule G9 (01: `bbox` masks triangle vertices by 7FFF hexadecimal), the two words being those behind the second and the third vertex.
 abbrev pub triangleWide : List ℕ → ℕ → ℕ → ℕ → WideBox
 triangleWide ws v1 v2 v3 =
-    wideBox (vertexWords ws (v1 % 32768)) (vertexWords ws (v2 % 32768)) (vertexWords ws (v3 % 32768)) (wordBehind ws (v2 % 32768)) (wordBehind ws (v3 % 32768))
+    wideBox (vertexWords ws (v1 % 32768)) (vertexWords ws (v2 % 32768)) (vertexWords ws (v3 % 32768))
+    (wordBehind ws (v2 % 32768)) (wordBehind ws (v3 % 32768))
 
 -- The box without the spare words.
 abbrev pub boxIn : WideBox → PolygonBox

@@ -7,6 +7,7 @@ use math::words3::vmin_words;
 use polygon_boxes::near_words;
 use polygon_boxes::numbers::are_numbers;
 use polygon_boxes::numbers::high3;
+use polygon_boxes::numbers::is_number;
 use polygon_boxes::numbers::low3;
 use polygon_boxes::vertex_words;
 ghost use mathlib.Core.Bool.{true};
@@ -40,12 +41,6 @@ fn four_words(vertices: &[u32], i: u16) -> Words4
         vertex,
         next: vertices[3 * (i as usize) + 3],
     }
-}
-
-fn is_number(word: u32) -> bool
-    ensures { λ r. ⌜ (r ≡ true → Number word) ⌝ }
-{
-    word % 0x8000_0000 <= 0x7f80_0000
 }
 
 fn are_numbers_4(w: Words4) -> bool

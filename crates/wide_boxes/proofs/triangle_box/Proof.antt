@@ -3,7 +3,7 @@ use borrow.Author.Needs.{needs}
 use Prim.Native.Nat.{_%_}
 use mathlib.Core.Path.{ap, _∙_}
 use Rattle.polygon_boxes.specs.Boxes.{vertexWords}
-use Rattle.wide_boxes.specs.Wide.{wordBehind, wideBox}
+use Rattle.wide_boxes.specs.Wide.{fourWords, wideBox}
 use Rattle.wide_boxes.specs.declared.Words4.{Words4}
 use Rattle.wide_boxes.proofs.triangle_box.Statement.{statement}
 use Rattle.wide_boxes.proofs.triangle_box.Tie as tie
@@ -31,14 +31,16 @@ returns c =
     let third = c .before .before .before in
     let second = third .before in
     let first = second .before in
+    let s = first .before .before .before .before .args in
+    let ws = s .vertices .now in
     let b = second .four-words2 .result in
-    let c3 = third .four-words3 .result in
-    let start = first .before .before .before .before in
-    let ws = start .args .vertices .now in
+    let d = third .four-words3 .result in
+    let one = vertexWords ws (s .v1 % 32768) in
+    let two = fourWords ws (s .v2 % 32768) in
     c .number-box .ensures
-    ∙ ap (λ (a : Words4). wideBox (a .vertex) (b .vertex) (c3 .vertex) (b .next) (c3 .next)) (first .four-words .ensures)
-    ∙ ap (λ (b : Words4). wideBox (vertexWords ws (start .args .v1 % 32768)) (b .vertex) (c3 .vertex) (b .next) (c3 .next)) (second .four-words2 .ensures)
-    ∙ ap (λ (c : Words4). wideBox (vertexWords ws (start .args .v1 % 32768)) (vertexWords ws (start .args .v2 % 32768)) (c .vertex) (wordBehind ws (start .args .v2 % 32768)) (c .next)) (third .four-words3 .ensures)
+    ∙ ap (λ (a : Words4). wideBox (a .vertex) (b .vertex) (d .vertex) (b .next) (d .next)) (first .four-words .ensures)
+    ∙ ap (λ (b : Words4). wideBox one (b .vertex) (d .vertex) (b .next) (d .next)) (second .four-words2 .ensures)
+    ∙ ap (λ (d : Words4). wideBox one (two .vertex) (d .vertex) (two .next) (d .next)) (third .four-words3 .ensures)
 
 vertex-words-requires : tie.Need-vertex-words-requires
 vertex-words-requires c κs = search needs
