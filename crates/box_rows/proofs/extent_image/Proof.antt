@@ -40,9 +40,10 @@ returns c =
     let m = scaled .before .before .args .m in
     let e = scaled .scale .result in
     let half-extent = scaled .scale .ensures ∙ ap (λ (v : Vec3). scaleOf v half) (scaled .before .sub .ensures) in
-    let row0 = ap (λ (r : Vec4). vectorOf (record { row0 = r; row1 = second .abs-row2 .result; row2 = third .abs-row3 .result; row3 = m .row3 }) e) (first .abs-row .ensures) in
-    let row1 = ap (λ (r : Vec4). vectorOf (record { row0 = absRow (m .row0); row1 = r; row2 = third .abs-row3 .result; row3 = m .row3 }) e) (second .abs-row2 .ensures) in
-    let row2 = ap (λ (r : Vec4). vectorOf (record { row0 = absRow (m .row0); row1 = absRow (m .row1); row2 = r; row3 = m .row3 }) e) (third .abs-row3 .ensures) in
+    let of : Vec4 → Vec4 → Vec4 → Vec3 = λ x y z. vectorOf (record { row0 = x; row1 = y; row2 = z; row3 = m .row3 }) e in
+    let row0 = ap (λ (r : Vec4). of r (second .abs-row2 .result) (third .abs-row3 .result)) (first .abs-row .ensures) in
+    let row1 = ap (λ (r : Vec4). of (absRow (m .row0)) r (third .abs-row3 .result)) (second .abs-row2 .ensures) in
+    let row2 = ap (λ (r : Vec4). of (absRow (m .row0)) (absRow (m .row1)) r) (third .abs-row3 .ensures) in
     c .abs .ensures ∙ ap absOf (turned .transform-vector .ensures ∙ row0 ∙ row1 ∙ row2 ∙ ap (vectorOf (absMatrix m)) half-extent)
 
 pub extent-image-spec : {M : Type 1} → statement M
