@@ -1,4 +1,4 @@
-//! Whether the library's three hot loops take several numbers at once. The source is written so that the compiler does
+//! Whether the library's three hot loops, and a triangle's box, take several numbers at once. The source is written so that the compiler does
 //! it, but nothing else would tell when it no longer does, and the loops would be slow again.
 
 use std::process::{Command, ExitCode};
@@ -54,16 +54,16 @@ impl Instruction<'_> {
     }
 }
 
-/// What the walk, the counts and the rays have and what they lack, a line each; `Err` where one lacks something.
+/// What the walk, the counts, the rays and the box have and what they lack, a line each; `Err` where one lacks something.
 fn judged(listing: &str) -> Result<String, String> {
     let functions = functions(listing);
-    let loops = [walk(&functions), counts(&functions), rays(&functions)];
-    let whole = loops.iter().all(Result::is_ok);
+    let parts = [walk(&functions), counts(&functions), rays(&functions), corners(&functions)];
+    let whole = parts.iter().all(Result::is_ok);
     let line = |found: Result<String, String>| match found {
         Ok(has) => format!("has     {has}\n"),
         Err(why) => format!("LACKS   {why}\n"),
     };
-    let lines: String = loops.into_iter().map(line).collect();
+    let lines: String = parts.into_iter().map(line).collect();
     if whole {
         Ok(lines)
     } else {
@@ -183,6 +183,21 @@ fn rays(functions: &[Function]) -> Result<String, String> {
     ))
 }
 
+/// Both corners of a triangle's box in four lanes: two minima and two maxima of three vertices.
+fn corners(functions: &[Function]) -> Result<String, String> {
+    let of = named(functions, &["triangle_wide_box"]);
+    let count = |name: &str| of.iter().flat_map(|f| &f.code).filter(|i| i.name == name).count();
+    let (low, high) = (count("minps"), count("maxps"));
+    match (low, high) {
+        _ if of.is_empty() => Err("box: no function named triangle_wide_box in the archive".to_string()),
+        (2.., 2..) => Ok(format!("box: {low} minps and {high} maxps in {}", names(&of))),
+        _ => Err(format!(
+            "box: {low} minps and {high} maxps in {}, two of each are wanted: a corner is made word by word",
+            names(&of)
+        )),
+    }
+}
+
 /// Prints what was found in the archive that is named.
 pub fn looked(words: &[String]) -> ExitCode {
     let [archive] = words else {
@@ -256,20 +271,29 @@ mod tests {
         format!("0000000000000000 <rays::rows::hits_in>:\n{half}  40:\t{division}  %xmm3,%xmm4\n{half}")
     }
 
+    const CORNERS: &str = "\
+0000000000000000 <bounds_triangle_wide_box>:
+ 2fc:\tminps  %xmm0,%xmm13
+ 300:\tminps  %xmm1,%xmm13
+ 309:\tmaxps  %xmm0,%xmm15
+ 30d:\tmaxps  %xmm1,%xmm15
+";
+
     #[test]
-    fn all_loops_are_found() {
-        let found = judged(&format!("{WALK}\n{COUNTS}\n{}", rays("divps", 26))).expect("vector code");
+    fn all_parts_are_found() {
+        let found = judged(&format!("{WALK}\n{COUNTS}\n{}\n{CORNERS}", rays("divps", 26))).expect("vector code");
         let lines = [
             "has     walk: 2 pcmpgtw in bounds_walk",
             "has     counts: movups, cmpltps, psubd in bounds_build_bvh",
             "has     rays: 1 divps with 20 mulps or more around it in rays::rows::hits_in",
+            "has     box: 2 minps and 2 maxps in bounds_triangle_wide_box",
         ];
         assert_eq!(found.lines().collect::<Vec<_>>(), lines);
     }
 
     #[test]
     fn rays_one_by_one_are_found() {
-        let lacking = |rays: &str| judged(&format!("{WALK}\n{COUNTS}\n{rays}")).expect_err("no vector code");
+        let lacking = |rays: &str| judged(&format!("{WALK}\n{COUNTS}\n{CORNERS}\n{rays}")).expect_err("no vector code");
         assert!(lacking(&rays("divss", 26)).contains("LACKS   rays: no divps with 20 mulps around it"));
         assert!(lacking(&rays("divps", 4)).contains("in rays::rows::hits_in: triangles are taken one by one\n"));
         assert!(lacking("").contains("LACKS   rays: no function named rays::"));
@@ -277,7 +301,15 @@ mod tests {
         let inlined = rays("divps", 26).replace("rays::rows::hits_in", "bounds_calculate_verts_shrunk");
         assert!(lacking(&inlined).contains("; bounds_calculate_verts_shrunk has 1 of 2"));
         let second: String = rays("divps", 26).lines().skip(1).map(|line| format!("{line}\n")).collect();
-        assert!(judged(&format!("{WALK}\n{COUNTS}\n{inlined}{second}")).is_ok());
+        assert!(judged(&format!("{WALK}\n{COUNTS}\n{CORNERS}\n{inlined}{second}")).is_ok());
+    }
+
+    #[test]
+    fn a_box_word_by_word_is_found() {
+        let judge = |corners: &str| judged(&format!("{WALK}\n{COUNTS}\n{}\n{corners}", rays("divps", 26)));
+        let once = CORNERS.replace(" 30d:\tmaxps  %xmm1,%xmm15\n", "");
+        assert!(judge(&once).expect_err("one").contains("LACKS   box: 2 minps and 1 maxps in bounds_triangle_wide_box"));
+        assert!(judge("").expect_err("none").contains("LACKS   box: no function named triangle_wide_box"));
     }
 
     #[test]
