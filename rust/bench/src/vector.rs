@@ -308,7 +308,9 @@ mod tests {
     fn a_box_word_by_word_is_found() {
         let judge = |corners: &str| judged(&format!("{WALK}\n{COUNTS}\n{}\n{corners}", rays("divps", 26)));
         let once = CORNERS.replace(" 30d:\tmaxps  %xmm1,%xmm15\n", "");
-        assert!(judge(&once).expect_err("one").contains("LACKS   box: 2 minps and 1 maxps in bounds_triangle_wide_box"));
+        assert!(judge(&once)
+            .expect_err("one")
+            .contains("LACKS   box: 2 minps and 1 maxps in bounds_triangle_wide_box"));
         assert!(judge("").expect_err("none").contains("LACKS   box: no function named triangle_wide_box"));
     }
 
