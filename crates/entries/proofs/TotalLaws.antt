@@ -5,9 +5,9 @@ use native.Mathlib.Omega.{arith}
 use mathlib.Core.Path.{_≡_, refl, sym, ap, _∙_, subst}
 use mathlib.Core.Logic.{⊎-elim}
 use mathlib.Core.Bool.{Bool, false, not, _||_}
-use mathlib.Core.List.{List, [], _∷_}
+use mathlib.Core.List.{List, [], _∷_, _++_}
 use lib.Dec.{T}
-use lib.ListN.{getD}
+use lib.ListN.{getD, take, drop, take-append-drop}
 use lib.Ieee.{binary32, ofBits, toBits, isNan}
 use lib.Ieee.Bits.{toBits-ofBits, nanBits-is, nanBits-above}
 use borrow.Author.Tests.{le-ltb}
@@ -24,13 +24,9 @@ use Rattle.entries.specs.Boxes.{boxAt}
 use Rattle.entries.specs.Folding.{startBox, foldStep, foldFrom, foldBox}
 use Rattle.entries.specs.Average.{origin, sumFrom}
 use Rattle.entries.specs.Plain.{Number}
-use Rattle.entries.specs.steps.Totals.{cornersOf, totalsOf, totalStep, anyNan}
+use Rattle.entries.specs.steps.Totals.{cornersOf, totalsOf, totalStep, totalsFrom, totalsAll, anyNan}
 
 -- ---- by value
-abbrev pub totalsFrom : (ℕ → BoxWords) → Totals → List ℕ → Totals
-totalsFrom at t [] = t
-totalsFrom at t (p ∷ ps) = totalsFrom at (totalStep t (cornersOf (at p))) ps
-
 min-values : (a b : Words3) → valuesOf (vminWordsOf a b) ≡ vmin3Of (valuesOf a) (valuesOf b)
 min-values a b = λ i. record { x = vminWord-value (a .x) (b .x) i; y = vminWord-value (a .y) (b .y) i; z = vminWord-value (a .z) (b .z) i }
 
@@ -50,9 +46,22 @@ totals-are at acc s [] = refl
 totals-are at acc s (p ∷ ps) =
     ap (λ (t : Totals). totalsFrom at t ps) (sym (step-is acc (at p) s)) ∙ totals-are at (foldStep acc (at p)) (sumStep s (at p)) ps
 
-pub all-totals : (at : ℕ → BoxWords) (ps : List ℕ) → totalsFrom at (totalsOf startBox origin) ps ≡ totalsOf (foldBox at ps) (sumFrom at origin ps)
+pub all-totals : (at : ℕ → BoxWords) (ps : List ℕ) → totalsFrom at (totalsOf startBox origin) ps ≡ totalsAll at ps
 unfolding foldBox
 all-totals at ps = totals-are at startBox origin ps
+
+-- the rest after what a list begins with
+totals-append : (at : ℕ → BoxWords) (t : Totals) (ps qs : List ℕ) → totalsFrom at t (ps ++ qs) ≡ totalsFrom at (totalsFrom at t ps) qs
+totals-append at t [] qs = refl
+totals-append at t (p ∷ ps) qs = totals-append at (totalStep t (cornersOf (at p))) ps qs
+
+pub go-on : (at : ℕ → BoxWords) (ps : List ℕ) (k : ℕ) (t : Totals) → t ≡ totalsAll at (take k ps) → totalsFrom at t (drop k ps) ≡ totalsAll at ps
+go-on at ps k t e =
+    let start : Totals = totalsOf startBox origin in
+    ap (λ (s : Totals). totalsFrom at s (drop k ps)) (e ∙ sym (all-totals at (take k ps)))
+    ∙ sym (totals-append at start (take k ps) (drop k ps))
+    ∙ ap (totalsFrom at start) (take-append-drop k ps)
+    ∙ all-totals at ps
 
 -- ---- what is so of each word that is folded is so of the fold's
 abbrev Words : (ℕ → Type 0) → Words3 → Type 0

@@ -1,6 +1,7 @@
 // The average of a node's boxes, and the centres that are kept of all boxes.
 use crate::boxes::BoxWords;
 use crate::boxes::Corners;
+use crate::totals::Begun;
 use base::numbers::Place;
 use math::vec3::Vec3;
 ghost use mathlib.Core.Path.{_≡_};
@@ -18,6 +19,7 @@ ghost use Rattle.math.specs.Vec3s.{_⊘_, addOf, scaleOf};
 ghost use Rattle.math.specs.Transform.{half};
 ghost use Rattle.entries.specs.Folding.{foldBox};
 ghost use Rattle.entries.specs.Average.{averageOf};
+ghost use Rattle.entries.specs.steps.Begun.{Begins};
 
 pub fn centre(b: Corners) -> Vec3
     ensures { λ r. ⌜ r ≡ scaleOf (addOf (b .low) (b .high)) half ⌝ }
@@ -25,10 +27,11 @@ pub fn centre(b: Corners) -> Vec3
     b.low.add(b.high).scale(0.5)
 }
 
-// The box around a node's items, and the average of their boxes.
+// The box around a node's items, the average of their boxes, and what is kept of the totals.
 pub struct Measured {
     pub around: BoxWords,
     pub average: Vec3,
+    pub begun: Begun,
 }
 
 // The sum times 0.5 / n.
@@ -40,15 +43,20 @@ fn average(sum: Vec3, n: usize) -> Vec3
 }
 
 // The fold and the average of the places' boxes, in their order.
-pub fn measure(entries: &[u32], places: &[u32], plain: bool) -> Measured
-    requires { ⌜ (Within (length (now entries)) (now places)) × (length (now places) < 65536) × (Plain plain (now entries)) ⌝ }
+pub fn measure(entries: &[u32], places: &[u32], plain: bool, begun: Begun) -> Measured
+    requires { ⌜ (Within (length (now entries)) (now places)) × (length (now places) < 65536) × (Plain plain (now entries))
+        × (Begins (boxAt (now entries)) begun (now places)) ⌝ }
     ensures { λ r. ⌜ (r .around ≡ foldBox (boxAt (now (entries .entry))) (now (places .entry)))
-        × (r .average ≡ averageOf (boxAt (now (entries .entry))) (now (places .entry))) ⌝ }
+        × (r .average ≡ averageOf (boxAt (now (entries .entry))) (now (places .entry)))
+        × (Begins (boxAt (now (entries .entry))) (r .begun) (now (places .entry))) ⌝ }
 {
-    let t = crate::totals::total(entries, places, plain);
+    let g = crate::totals::gather(entries, places, plain, begun);
+    let t = g.totals;
+    let kept = g.begun;
     Measured {
         around: crate::fold::fold_by_value(entries, places, t.low, t.high, plain),
         average: average(t.sum, places.len()),
+        begun: kept,
     }
 }
 

@@ -1,14 +1,18 @@
 // The tree of a list of places, laid out as rows in preorder. Segment after segment is taken from a stack, since hostile boxes make trees too
 // deep to recurse.
+use entries::totals::Begun;
+use entries::totals::no_longer;
+use entries::totals::not_begun;
 use rows::table::put_row;
 ghost use mathlib.Core.Path.{_≡_};
 ghost use Prim.Native.Nat.{_+_, _-_, _*_, _≤_, _<_};
-ghost use lib.ListN.{length, set};
+ghost use lib.ListN.{length, set, take};
 ghost use Rattle.base.specs.Lists.{Within};
 ghost use Rattle.entries.specs.Boxes.{boxAt};
 ghost use Rattle.entries.specs.Folding.{foldBox};
 ghost use Rattle.entries.specs.Kept.{Kept};
 ghost use Rattle.entries.specs.Plain.{Plain};
+ghost use Rattle.entries.specs.steps.Begun.{Begins};
 ghost use Rattle.growth.specs.Grow.{builder};
 ghost use Rattle.growth.specs.steps.Laid.{Room, InnerPut, Laid, Grown};
 ghost use Rattle.rows.specs.steps.Table.{withRow};
@@ -27,6 +31,12 @@ fn put_leaf(rows: &mut [u32], m: usize, entries: &[u32], places: &[u32], lo: usi
     put_row(rows, m, around, lo, places.len());
 }
 
+// How many places the first child has, and the totals of what they begin with.
+pub struct Inner {
+    pub first: usize,
+    pub begun: Begun,
+}
+
 // Row m of an inner node, whose places are split. Their box is that of before the split, which permutes them: with a NaN the order decides.
 fn put_inner(
     places: &mut [u32],
@@ -36,17 +46,23 @@ fn put_inner(
     centres: &[f32],
     m: usize,
     plain: bool,
-) -> usize
+    begun: Begun,
+) -> Inner
     requires { ⌜ (8 * m + 8 ≤ length (now rows)) × (2 ≤ length (now places)) × (length (now places) < 32768)
         × (length (now places) ≤ length (now temp)) × (Within (length (now entries)) (now places)) × (Plain plain (now entries))
-        × (Kept (now entries) (now centres)) ⌝ }
-    ensures { λ r. ⌜ InnerPut (builder (boxAt (now (entries .entry)))) m (now (places .entry)) (now (places .exit)) (now (rows .entry))
-        (now (rows .exit)) r ⌝ }
+        × (Kept (now entries) (now centres)) × (Begins (boxAt (now entries)) begun (now places)) ⌝ }
+    ensures { λ r. ⌜ (InnerPut (builder (boxAt (now (entries .entry)))) m (now (places .entry)) (now (places .exit)) (now (rows .entry))
+        (now (rows .exit)) (r .first))
+        × (Begins (boxAt (now (entries .entry))) (r .begun) (take (r .first) (now (places .exit)))) ⌝ }
 {
-    let cut = split::divide::divide(places, temp, entries, centres, plain);
+    let cut = split::divide::divide(places, temp, entries, centres, plain, begun);
     let around = cut.around;
+    let kept = cut.begun;
     put_row(rows, m, around, 0, 0);
-    cut.first
+    Inner {
+        first: cut.first,
+        begun: kept,
+    }
 }
 
 // Two lengths in the place of the one at `sp`: the stack grows down.
@@ -79,16 +95,29 @@ pub fn grow(
     stack[sp] = n as u32;
     let mut lo = 0;
     let mut m = 0;
+    let mut begun = not_begun();
     while lo < n {
         let k = stack[sp] as usize;
         let hi = lo + k;
         if k <= threshold {
             put_leaf(rows, m, entries, &places[lo..hi], lo, plain);
+            begun = no_longer(begun);
             lo = hi;
             sp += 1;
             m += 1;
         } else {
-            let a = put_inner(&mut places[lo..hi], temp, entries, rows, centres, m, plain);
+            let inner = put_inner(
+                &mut places[lo..hi],
+                temp,
+                entries,
+                rows,
+                centres,
+                m,
+                plain,
+                begun,
+            );
+            let a = inner.first;
+            begun = inner.begun;
             push_two(stack, sp, a, k - a);
             sp -= 1;
             m += 1;

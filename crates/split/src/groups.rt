@@ -2,7 +2,7 @@
 use base::numbers::Place;
 use math::axis::Axis;
 use math::vec3::Vec3;
-ghost use mathlib.Core.Bool.{true, not};
+ghost use mathlib.Core.Bool.{true, not, cond};
 ghost use mathlib.Core.Path.{_≡_};
 ghost use mathlib.Core.List.{List};
 ghost use Prim.Native.Nat.{ℕ, _+_, _-_, _*_, _≤_, _<_};
@@ -14,7 +14,7 @@ ghost use Rattle.entries.specs.Boxes.{boxAt};
 ghost use Rattle.base.specs.Lists.{oneIf, sift, Within};
 ghost use Rattle.entries.specs.Kept.{Kept};
 ghost use Rattle.split.specs.Rule.{above, offset, twoLeads};
-ghost use Rattle.split.specs.steps.Groups.{countsOf, axisBy, stepOf, passes, Nowhere, Leading, Parted, LeaderFirst};
+ghost use Rattle.split.specs.steps.Groups.{countsOf, axisBy, stepOf, passes, Nowhere, Leading, Parted, LeaderFirst, Same};
 
 // How many centres are below the average, on each axis, and how many are above it on x.
 pub struct Counts {
@@ -288,8 +288,22 @@ fn seen_above(
     0
 }
 
-// The group above the average and the others, the group that leads first, with `temp` to work in; how many it has. Where none is
-// above, as of equal and of nested boxes, all stay where they are.
+// How many the first group has, and how many of the first places stand where they stood.
+pub struct Groups {
+    pub first: usize,
+    pub same: usize,
+}
+
+// How many of the first places stand where they stood: the places that were seen, where group one leads.
+fn unmoved(seen: usize, k: usize, m: usize) -> usize
+    ensures { λ r. ⌜ ((at : ℕ → BoxWords) (one two : List ℕ) → k ≡ length one → m ≡ length two
+        → r ≡ cond (twoLeads at one two) 0 seen) ⌝ }
+{
+    if two_leads(k, m) { 0 } else { seen }
+}
+
+// The group above the average and the others, the group that leads first, with `temp` to work in. Where none is above, as of equal
+// and of nested boxes, all stay where they are.
 pub fn part(
     places: &mut [u32],
     temp: &mut [u32],
@@ -298,17 +312,25 @@ pub fn part(
     avg: Vec3,
     axis: Axis,
     counts: Counts,
-) -> usize
+) -> Groups
     requires { ⌜ (0 < length (now places)) × (length (now places) ≤ length (now temp)) × (Within (length (now entries)) (now places))
         × (Kept (now entries) (now centres)) × (counts ≡ countsOf (boxAt (now entries)) avg (now places)) ⌝ }
-    ensures { λ r. ⌜ LeaderFirst (boxAt (now (entries .entry)))
+    ensures { λ r. ⌜ (LeaderFirst (boxAt (now (entries .entry)))
         (sift (above (boxAt (now (entries .entry))) avg axis) (now (places .entry)))
-        (sift (λ p. not (above (boxAt (now (entries .entry))) avg axis p)) (now (places .entry))) (now (places .exit)) r ⌝ }
+        (sift (λ p. not (above (boxAt (now (entries .entry))) avg axis p)) (now (places .entry))) (now (places .exit)) (r .first))
+        × (Same (r .same) (now (places .entry)) (now (places .exit)) (r .first)) ⌝ }
 {
     if seen_none_above(places, entries, centres, avg, axis, counts) {
-        return places.len();
+        return Groups {
+            first: places.len(),
+            same: 0,
+        };
     }
     let seen = seen_above(places, entries, centres, avg, axis, counts);
     let k = partition(places, temp, entries, centres, avg, axis, seen);
-    unite(places, temp, k)
+    let m = places.len() - k;
+    Groups {
+        first: unite(places, temp, k),
+        same: unmoved(seen, k, m),
+    }
 }

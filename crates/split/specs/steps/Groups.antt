@@ -71,6 +71,11 @@ pub record LeaderFirst (at : ℕ → BoxWords) (one two w : List ℕ) (r : ℕ) 
   pub list : w ≡ cond (twoLeads at one two) (two ++ one) (one ++ two)
   pub count : r ≡ cond (twoLeads at one two) (length two) (length one)
 
+-- the first k places of ps, none of them behind the first group's r, stand in w where they stood
+pub record Same (k : ℕ) (ps w : List ℕ) (r : ℕ) : Type 0 where
+  pub stand : take k w ≡ take k ps
+  pub inside : k ≤ r
+
 -- Rule T6: of places whose first group has k, as they are, or sorted and cut in the middle where it has all of them.
 pub record Settled (at : ℕ → BoxWords) (k : ℕ) (ps w : List ℕ) (r : ℕ) : Type 0 where
   pub stands : k < length ps → (w ≡ ps) × (r ≡ k)

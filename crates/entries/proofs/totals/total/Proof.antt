@@ -10,8 +10,8 @@ use Rattle.entries.specs.declared.totals.Totals.{Totals}
 use Rattle.entries.specs.Boxes.{boxAt}
 use Rattle.entries.specs.Folding.{startBox}
 use Rattle.entries.specs.Average.{origin}
-use Rattle.entries.specs.steps.Totals.{totalsOf, totalStep}
-use Rattle.entries.proofs.TotalLaws.{totalsFrom, all-totals}
+use Rattle.entries.specs.steps.Totals.{totalsOf, totalStep, totalsFrom}
+use Rattle.entries.proofs.TotalLaws.{all-totals}
 use Rattle.entries.proofs.Places.{Pass, begin, taken, finished, next-within}
 
 abbrev Inv-loop : tie.InvT-loop
