@@ -1,4 +1,5 @@
 pub mod AxisRule
+mod Beginning
 mod Counted
 mod Counting
 pub mod DivideLaws

@@ -64,7 +64,7 @@ pub record Parting (test : ℕ → Bool) (a₀ t₀ a t : List ℕ) (k i : ℕ) 
   pub back : take (i - k) t ++ sift (λ p. not (test p)) (drop i a₀) ≡ sift (λ p. not (test p)) a₀
 
 -- what passes at the front is where it belongs, and none of it is among the others
-led : (test : ℕ → Bool) (ps : List ℕ) (r : ℕ) → Leading test ps r
+pub led : (test : ℕ → Bool) (ps : List ℕ) (r : ℕ) → Leading test ps r
     → (take r ps ++ sift test (drop r ps) ≡ sift test ps) × (sift (λ p. not (test p)) (drop r ps) ≡ sift (λ p. not (test p)) ps)
 led test ps zero w = (refl, refl)
 led test [] (suc r) w = absurd (omega (arith, w .within))

@@ -1,11 +1,12 @@
 -- The steps of `divide_by` lead to the rule: the partition, the groups united, and the sort where a group is empty.
-use Prim.Native.Nat.{ℕ, suc, _+_, _-_, _/_, _≤_, _<_}
+use Prim.Native.Nat.{ℕ, zero, suc, _+_, _-_, _/_, _≤_, _<_}
 use native.Mathlib.Omega.{arith}
 use mathlib.Core.Path.{_≡_, refl, sym, ap, subst, _∙_}
 use mathlib.Core.Bool.{Bool, true, false, not, cond, _||_}
 use mathlib.Core.List.{List, [], _∷_, _++_, append-nil}
 use lib.Dec.{eqb}
 use lib.ListN.{length, take, drop, length-append}
+use lib.Seq.{length-take-le, take-append-le, take-at}
 use borrow.Author.Tests.{lt-ltb, le-ltb, eqb-true, eqb-false, ne-eqb}
 use Rattle.base.specs.Lists.{sift, Within}
 use Rattle.base.proofs.ListLaws.{length-both}
@@ -18,8 +19,9 @@ use Rattle.entries.specs.Average.{averageOf}
 use Rattle.box_sort.specs.Sorted.{sortBoxes}
 use Rattle.split.specs.declared.groups.Counts.{Counts}
 use Rattle.split.specs.Rule.{above, axisOf, chosen, one, two, stuck, groupOne, groupTwo, twoLeads, firstOf, secondOf, Divided}
-use Rattle.split.specs.steps.Groups.{countsOf, axisBy, Nowhere, Parted, LeaderFirst, Settled}
+use Rattle.split.specs.steps.Groups.{countsOf, axisBy, Nowhere, Leading, Parted, LeaderFirst, Same, Settled}
 use Rattle.split.proofs.DivideLaws.{divide-total, divide-some-first, divide-some-second}
+use Rattle.split.proofs.Parting.{led}
 
 -- a list of which none passes
 nowhere : (test : ℕ → Bool) (ps : List ℕ) → Nowhere test 0 ps → (sift test ps ≡ []) × (sift (λ p. not (test p)) ps ≡ ps)
@@ -28,6 +30,27 @@ nowhere test (p ∷ ps) w =
     let e = w .fails 0 (omega arith) (omega arith) in
     let n = nowhere test ps (record { fails = λ k l h. w .fails (suc k) (omega arith) (omega arith) }) in
     (rw e (n .0), rw e (ap (λ (l : List ℕ). p ∷ l) (n .1)))
+
+-- the first 0 places stand in any list
+pub none-same : (ps w : List ℕ) (r : ℕ) → Same 0 ps w r
+none-same ps w r = record { stand = refl; inside = omega arith }
+
+-- the places that lead their list stand where they stood, where group one is first
+stay : (b : Bool) (test : ℕ → Bool) (ps w : List ℕ) (r seen : ℕ) → Leading test ps seen
+    → w ≡ cond b (sift (λ p. not (test p)) ps ++ sift test ps) (sift test ps ++ sift (λ p. not (test p)) ps)
+    → r ≡ cond b (length (sift (λ p. not (test p)) ps)) (length (sift test ps)) → Same (cond b 0 seen) ps w r
+stay true test ps w r seen l e f = none-same ps w r
+stay false test ps w r seen l e f =
+    let g₁ : List ℕ = sift test ps in
+    let g₂ : List ℕ = sift (λ p. not (test p)) ps in
+    let rest : List ℕ = sift test (drop seen ps) in
+    let d : take seen ps ++ rest ≡ g₁ = led test ps seen l .0 in
+    let long : length (take seen ps) ≡ seen = length-take-le seen ps (l .within) in
+    let size : length g₁ ≡ length (take seen ps) + length rest = ap length (sym d) ∙ length-append (take seen ps) rest in
+    record {
+      stand = ap (take seen) e ∙ take-append-le seen g₁ g₂ (omega arith) ∙ ap (take seen) (sym d) ∙ take-at (take seen ps) rest seen long;
+      inside = omega (arith, f);
+    }
 
 module _ (at : ℕ → BoxWords) where
   -- ---- two groups united
@@ -89,6 +112,12 @@ module _ (at : ℕ → BoxWords) where
         subst (λ (g : List ℕ). LeaderFirst at (sift test ps) g w r) (ap (λ (n : ℕ). take (n - k) v) e ∙ p .others)
         (subst (λ (g : List ℕ). LeaderFirst at g (take (length u - k) v) w r) (p .passed) l)
 
+    pub parted-same : (test : ℕ → Bool) (w : List ℕ) (r seen same : ℕ) → Leading test ps seen
+        → LeaderFirst at (sift test ps) (sift (λ p. not (test p)) ps) w r
+        → same ≡ cond (twoLeads at (sift test ps) (sift (λ p. not (test p)) ps)) 0 seen → Same same ps w r
+    parted-same test w r seen same l u e =
+        rw e (stay (twoLeads at (sift test ps) (sift (λ p. not (test p)) ps)) test ps w r seen l (u .list) (u .count))
+
     -- where none passes, all are in the second group, which leads
     pub nowhere-united : (test : ℕ → Bool) → 0 < length ps → Nowhere test 0 ps
         → LeaderFirst at (sift test ps) (sift (λ p. not (test p)) ps) ps (length ps)
@@ -132,3 +161,12 @@ module _ (at : ℕ → BoxWords) where
         let q = t .stands (omega (arith, some-in-each g₁ g₂ w n r total l e, long)) in
         rw (q .0, q .1) l in
         leads-divided x s h (by-test (stuck at ps) (take (n / 2) sorted) (drop (n / 2) sorted) g₁ g₂ x s cut stands)
+
+    -- what stood before the sort stands after it, where nothing is sorted
+    pub settled-same : (w x : List ℕ) (k r same s : ℕ) → Same same ps w k → Settled at k w x r → (s ≤ same) × (0 < s → (s ≡ same) × (k < length w))
+        → Same s ps x r
+    settled-same w x k r same zero p t u = none-same ps x r
+    settled-same w x k r same (suc s) p t u =
+        let v = u .1 (omega arith) in
+        let q = t .stands (v .1) in
+        record { stand = rw (v .0, q .0) (p .stand); inside = omega (arith, v .0, q .1, p .inside) }
