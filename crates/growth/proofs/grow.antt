@@ -1,3 +1,4 @@
+pub mod Beginning
 pub mod Finished
 pub mod Going
 pub mod Pending

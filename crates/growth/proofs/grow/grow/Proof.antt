@@ -1,5 +1,6 @@
 -- `grow::grow` meets its contract. The loop's invariant is `Going`: the rows that are laid, followed by those of the segments that wait, are
--- the whole tree's.
+-- the whole tree's. And what is begun is what the segment at the top of the stack begins with.
+use borrow.Author.Needs.{needs}
 use Rattle.base.proofs.WithinLaws.{within-take, within-drop}
 use Rattle.base.specs.Lists.{Within}
 use Rattle.growth.proofs.grow.grow.Statement.{statement}
@@ -10,36 +11,39 @@ use native.Mathlib.Omega.{arith}
 use mathlib.Core.Path.{_≡_, refl, _∙_}
 use lib.ListN.{length, getD, set, take, drop, length-set}
 use Rattle.entries.specs.Boxes.{boxAt}
+use Rattle.entries.specs.steps.Begun.{Begins}
 use Rattle.growth.specs.Grow.{builder}
 use Rattle.growth.specs.steps.Laid.{Room}
 use Rattle.growth.proofs.Lawful.{Lawful, lawful}
+use Rattle.growth.proofs.grow.Beginning.{first-segment, none-begun, turn-begun, inner-begun}
 use Rattle.growth.proofs.grow.Going.{Slices, Going, Top, top, start, ended, leaf-turn, inner-turn, segment-length, room-set}
 
 abbrev Inv-loop : tie.InvT-loop
-Inv-loop places₀ temp₀ entries stack₀ rows₀ centres threshold plain n sp₀ lo₀ m₀ places temp stack rows sp lo m =
+Inv-loop places₀ temp₀ entries stack₀ rows₀ centres threshold plain n sp₀ lo₀ m₀ begun₀ places temp stack rows sp lo m begun =
     let s₀ : Slices = record { places = places₀; temp = temp₀; stack = stack₀; rows = rows₀ } in
     let s : Slices = record { places = places; temp = temp; stack = stack; rows = rows } in
     (Going (builder (boxAt entries)) threshold entries s₀ s sp lo m) × (n ≡ length places₀)
+    × (Begins (boxAt entries) begun (first-segment stack sp places lo))
 
 abbrev μ-loop : tie.MeasureT-loop
-μ-loop places₀ temp₀ entries stack₀ rows₀ centres threshold plain n sp₀ lo₀ m₀ places temp stack rows sp lo m = 2 * n - m
+μ-loop places₀ temp₀ entries stack₀ rows₀ centres threshold plain n sp₀ lo₀ m₀ begun₀ places temp stack rows sp lo m begun = 2 * n - m
 
 -- the entry of the function that a turn is in
 abbrev entry : tie.In-loop Inv-loop μ-loop → tie.Start Inv-loop μ-loop
-entry c = c .before .before .before .before .before .before .before .before
+entry c = c .before .before .before .before .before .before .before .before .before
 
 -- the turn that either arm is in: before its call, after it, and at its end
 abbrev leaf-call : tie.After-put-leaf-arg2 Inv-loop μ-loop → tie.In-loop Inv-loop μ-loop
 leaf-call c = c .before .before .before .before .before
 
-abbrev leaf-arm : tie.After-slice-known6 Inv-loop μ-loop → tie.In-loop Inv-loop μ-loop
-leaf-arm c = c .before .before .before .before .before .before .before .before
+abbrev leaf-arm : tie.After-no-longer Inv-loop μ-loop → tie.In-loop Inv-loop μ-loop
+leaf-arm c = c .before .before .before .before .before .before .before .before .before
 
 abbrev inner-call : tie.After-put-inner-arg3 Inv-loop μ-loop → tie.In-loop Inv-loop μ-loop
 inner-call c = c .before .before .before .before .before
 
 abbrev split-put : tie.After-push-two-arg Inv-loop μ-loop → tie.After-put-inner Inv-loop μ-loop
-split-put c = c .before .before .before .before .before .before .before
+split-put c = c .before .before .before .before .before .before .before .before
 
 abbrev inner-arm : tie.After-slice-known10 Inv-loop μ-loop → tie.After-put-inner Inv-loop μ-loop
 inner-arm c = split-put (c .before .before .before)
@@ -102,10 +106,16 @@ mul-stack c = omega arith
 slice-write-stack : tie.Need-slice-write-stack Inv-loop μ-loop
 slice-write-stack c = omega arith
 
+not-begun-requires : tie.Need-not-begun-requires Inv-loop μ-loop
+not-begun-requires c κs = search needs
+
 loop-holds : tie.Need-loop-holds Inv-loop μ-loop
 loop-holds c =
-    let s = c .before .before .before .before .before .before in
-    (start _ (law s) _ _ (before s) (room s) (s .args .stack .now) refl (s .pre .0), refl)
+    let s = c .before .before .before .before .before .before .before in (
+      start _ (law s) _ _ (before s) (room s) (s .args .stack .now) refl (s .pre .0),
+      refl,
+      none-begun _ _ _ (c .not-begun .ensures),
+    )
 
 mul-k : tie.Need-mul-k Inv-loop μ-loop
 mul-k c =
@@ -145,11 +155,14 @@ put-leaf-requires c κs =
     let l = segment-long i in
     (t .in-rows, segment-within i, omega (arith, t .few), omega (arith, t .few), entry i .pre .2)
 
+no-longer-requires : tie.Need-no-longer-requires Inv-loop μ-loop
+no-longer-requires c κs = search needs
+
 add-sp : tie.Need-add-sp Inv-loop μ-loop
 add-sp c =
     let t = turn (leaf-arm c) in
     let d = depth (leaf-arm c) in
-    omega arith
+    omega (arith, entry (leaf-arm c) .good .1 .1 .1 .0)
 
 add-m : tie.Need-add-m Inv-loop μ-loop
 add-m c =
@@ -165,11 +178,12 @@ loop-again : tie.Need-loop-again Inv-loop μ-loop
 loop-again c =
     let i = leaf-arm c in
     let l = i .before .loop in
-    let p = c .before .before .put-leaf in
-    let small = c .before .before .before .before .before .before .if1 .taken in (
+    let p = c .before .before .before .put-leaf in
+    let small = c .before .before .before .before .before .before .before .if1 .taken in (
       leaf-turn _ (law (entry i)) _ _ (before (entry i)) (room (entry i)) (here i) _ _ _ (l .inv .0) (omega arith) small (width i)
           (p .last .0) (omega arith) (p .ensures) (p .kept .0),
       l .inv .1,
+      none-begun _ _ _ (c .no-longer .ensures),
     )
 
 mul-put-inner : tie.Need-mul-put-inner Inv-loop μ-loop
@@ -187,6 +201,7 @@ part-put-inner-end c = turn (c .before .before) .in-places
 put-inner-requires : tie.Need-put-inner-requires Inv-loop μ-loop
 put-inner-requires c κs =
     let i = inner-call c in
+    let s = i .before .loop in
     let t = turn i in
     let l = segment-long i in (
       t .in-rows,
@@ -196,20 +211,21 @@ put-inner-requires c κs =
       segment-within i,
       entry i .pre .2,
       entry i .pre .3,
+      turn-begun _ _ (s .stack) (s .sp) (s .places) (s .lo) (s .inv .2),
     )
 
 sub-push-two : tie.Need-sub-push-two Inv-loop μ-loop
 sub-push-two c =
     let p = split-put c in
     let l = segment-long (inner-call (p .before)) in
-    omega (arith, p .put-inner .ensures .rest)
+    omega (arith, p .put-inner .ensures .0 .rest)
 
 push-two-requires : tie.Need-push-two-requires Inv-loop μ-loop
 push-two-requires c κs =
     let p = split-put c in
     let t = turn (inner-call (p .before)) in
     let l = segment-long (inner-call (p .before)) in
-    let e = p .put-inner .ensures in
+    let e = p .put-inner .ensures .0 in
     (t .more (p .before .before .before .before .if1 .left), t .in-stack, omega (arith, t .few, e .rest), omega (arith, t .few, e .rest))
 
 sub-sp-2 : tie.Need-sub-sp-2 Inv-loop μ-loop
@@ -238,9 +254,12 @@ loop-again-2 c =
     let large = a .before .before .before .before .if1 .left in
     let pushed = c .before .before .push-two in (
       inner-turn _ (law (entry i)) _ _ (before (entry i)) (room (entry i)) (here i) _ _ _ (l .inv .0) (omega arith) large (width i)
-          (p .result) (p .last .0) (p .last .1 .0) (pushed .last .0) (p .last .1 .1 .1 .0) (omega arith) (p .ensures) (p .kept .0)
+          (p .result .first) (p .last .0) (p .last .1 .0) (pushed .last .0) (p .last .1 .1 .1 .0) (omega arith) (p .ensures .0) (p .kept .0)
           (p .kept .1 .0) (p .kept .1 .1 .1 .0) (pushed .ensures),
       l .inv .1,
+      inner-begun _ (p .result .begun) (l .places) (p .last .0) (l .stack) (pushed .last .0) (l .lo) (width i) (l .sp) (p .result .first)
+          (top-length i - p .result .first) (omega (arith, t .in-places)) (omega (arith, p .ensures .0 .rest, p .kept .0)) (t .more large)
+          (t .in-stack) (pushed .ensures) (p .ensures .1),
     )
 
 same-length : tie.Need-same-length Inv-loop μ-loop
@@ -257,7 +276,7 @@ same-length-4 c = omega arith
 
 returns : tie.Need-returns Inv-loop μ-loop
 returns c =
-    let s = c .before .before .before .before .before .before .before .before in
+    let s = c .before .before .before .before .before .before .before .before .before in
     ended _ (law s) _ _ (before s) (room s) _ _ _ _ (c .before .loop .inv .0) (omega arith)
 
 pub grow-spec : {M : Type 1} → statement M
@@ -270,6 +289,7 @@ grow-spec =
     cast-stack
     mul-stack
     slice-write-stack
+    not-begun-requires
     loop-holds
     mul-k
     slice-read-k
@@ -280,6 +300,7 @@ grow-spec =
     part-put-leaf-start
     part-put-leaf-end
     put-leaf-requires
+    no-longer-requires
     add-sp
     add-m
     loop-less

@@ -20,14 +20,16 @@ same-length-3 c = search needs
 
 returns : tie.Need-returns
 returns c =
-    let d = c .before .before .before .before .before .before .before .before .before .divide .ensures in
-    record {
-      row-put = rw (d .1) at (c .before .before .put-row .ensures);
-      groups = d .0 .list;
-      group-size = d .0 .count;
-      some = d .0 .some;
-      rest = d .0 .rest;
-    }
+    let d = c .before .before .before .before .before .before .before .before .before .before .divide .ensures in (
+      record {
+        row-put = rw (d .1) at (c .before .before .put-row .ensures);
+        groups = d .0 .list;
+        group-size = d .0 .count;
+        some = d .0 .some;
+        rest = d .0 .rest;
+      },
+      d .2,
+    )
 
 pub put-inner-spec : {M : Type 1} → statement M
 put-inner-spec =

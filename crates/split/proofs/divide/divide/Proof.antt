@@ -3,8 +3,8 @@ use borrow.Author.Needs.{needs}
 use native.Mathlib.Omega.{arith}
 use Rattle.split.proofs.divide.divide.Statement.{statement}
 use Rattle.split.proofs.divide.divide.Tie as tie
-use mathlib.Core.List.{List}
 use Prim.Native.Nat.{ℕ}
+use mathlib.Core.List.{List}
 use Rattle.entries.specs.Boxes.{boxAt}
 use Rattle.split.proofs.Beginning.{first-begins}
 

@@ -4,7 +4,7 @@ use Rattle.split.proofs.groups.unmoved.Statement.{statement}
 use Rattle.split.proofs.groups.unmoved.Tie as tie
 use Prim.Native.Nat.{ℕ}
 use mathlib.Core.Bool.{Bool, cond}
-use mathlib.Core.Path.{_≡_, sym, ap, _∙_}
+use mathlib.Core.Path.{sym, ap, _∙_}
 
 two-leads-requires : tie.Need-two-leads-requires
 two-leads-requires c κs = search needs
