@@ -24,7 +24,7 @@ fn fold_step(acc: BoxWords, b: BoxWords) -> BoxWords
 }
 
 // The fold of the places' boxes, in their order, word by word: a NaN keeps its bits.
-fn fold_words(entries: &[u32], places: &[u32]) -> BoxWords
+pub fn fold_words(entries: &[u32], places: &[u32]) -> BoxWords
     requires { ⌜ Within (length (now entries)) (now places) ⌝ }
     ensures { λ r. ⌜ r ≡ foldBox (boxAt (now (entries .entry))) (now (places .entry)) ⌝ }
 {

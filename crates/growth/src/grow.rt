@@ -142,7 +142,8 @@ pub fn grow_tree(
 {
     // An empty leaf and an inner row both have the count 0: only here is a leaf empty.
     if places.len() == 0 {
-        put_leaf(rows, 0, entries, places, 0, false);
+        let around = entries::fold::fold_words(entries, places);
+        put_row(rows, 0, around, 0, places.len());
         return 1;
     }
     let plain = entries::boxes::all_numbers(entries);

@@ -3,8 +3,6 @@ use borrow.Author.Needs.{needs}
 use Rattle.growth.proofs.grow.grow_tree.Statement.{statement}
 use Rattle.growth.proofs.grow.grow_tree.Tie as tie
 use Prim.Native.Nat.{_*_, _≤_, _<_}
-use mathlib.Core.Path.{sym, subst}
-use lib.Dec.{T}
 use lib.ListN.{length}
 use Rattle.entries.specs.Boxes.{boxAt}
 use Rattle.growth.proofs.Lawful.{lawful}
@@ -27,11 +25,11 @@ some c = let z = c .before .before .before .before .before .before .before .befo
 fits : (c : tie.After-grow) → 8 * c .grow .result ≤ length (c .grow .last .1 .1 .1 .1 .0)
 fits c = omega (arith, c .grow .kept .1 .1 .1 .1 .0, c .grow .ensures .most, entry c .pre .0 .rows-room)
 
-put-leaf-requires : tie.Need-put-leaf-requires
-put-leaf-requires c κs =
-    let p = c .before .before .before .before .before .before .before .before .before .pre .0 in
-    let none = c .before .before .if1 .taken in
-    (omega (arith, p .rows-room), p .within, omega arith, omega arith, record { numbers = λ e. absurd (subst T (sym e) tt) })
+fold-words-requires : tie.Need-fold-words-requires
+fold-words-requires c κs = search needs
+
+put-row-requires : tie.Need-put-row-requires
+put-row-requires c κs = search needs
 
 same-length : tie.Need-same-length
 same-length c = search needs
@@ -41,9 +39,11 @@ same-length-2 c = search needs
 
 returns : tie.Need-returns
 returns c =
-    let s = c .before .before .before .before .before .before .before .before .before .before .before .before in
-    let none = c .before .before .before .before .before .if1 .taken in
-    empty _ _ (s .args .places .now) (s .args .rows .now) _ none (omega (arith, s .pre .0 .rows-room)) (c .before .before .put-leaf .ensures)
+    let folded = c .before .before .before .before in
+    let s = folded .before .before .before .before .before .before .before .before .before in
+    let none = folded .before .before .if1 .taken in
+    empty _ _ (s .args .places .now) (s .args .rows .now) _ none (omega (arith, s .pre .0 .rows-room))
+    (rw (folded .fold-words .ensures) at (c .before .before .put-row .ensures))
 
 all-numbers-requires : tie.Need-all-numbers-requires
 all-numbers-requires c κs = search needs
@@ -87,7 +87,8 @@ pub grow-tree-spec : {M : Type 1} → statement M
 grow-tree-spec =
     tie.close
     (tie.spec
-    put-leaf-requires
+    fold-words-requires
+    put-row-requires
     same-length
     same-length-2
     returns
