@@ -24,7 +24,7 @@ use Rattle.entries.specs.Boxes.{boxAt}
 use Rattle.entries.specs.Folding.{startBox, foldStep, foldFrom, foldBox}
 use Rattle.entries.specs.Average.{origin, sumFrom}
 use Rattle.entries.specs.Plain.{Number}
-use Rattle.entries.specs.steps.Totals.{cornersOf, totalsOf, totalStep, totalsFrom, totalsAll, anyNan}
+use Rattle.entries.specs.steps.Totals.{cornersOf, totalsBy, totalsOf, totalStep, totalsFrom, totalsAll, anyNan}
 
 -- ---- by value
 min-values : (a b : Words3) → valuesOf (vminWordsOf a b) ≡ vmin3Of (valuesOf a) (valuesOf b)
@@ -38,8 +38,7 @@ abbrev sumStep : Vec3 → BoxWords → Vec3
 sumStep s b = addOf (addOf s (valuesOf (b .min))) (valuesOf (b .max))
 
 step-is : (acc b : BoxWords) (s : Vec3) → totalsOf (foldStep acc b) (sumStep s b) ≡ totalStep (totalsOf acc s) (cornersOf b)
-step-is acc b s =
-    λ i. record { low = min-values (acc .min) (b .min) i; high = max-values (acc .max) (b .max) i; sum = sumStep s b }
+step-is acc b s = λ i. totalsBy (min-values (acc .min) (b .min) i) (sumStep s b) (max-values (acc .max) (b .max) i)
 
 totals-are : (at : ℕ → BoxWords) (acc : BoxWords) (s : Vec3) (ps : List ℕ) → totalsFrom at (totalsOf acc s) ps ≡ totalsOf (foldFrom at acc ps) (sumFrom at s ps)
 totals-are at acc s [] = refl

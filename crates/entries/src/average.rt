@@ -54,8 +54,14 @@ pub fn measure(entries: &[u32], places: &[u32], plain: bool, begun: Begun) -> Me
     let t = g.totals;
     let kept = g.begun;
     Measured {
-        around: crate::fold::fold_by_value(entries, places, t.low, t.high, plain),
-        average: average(t.sum, places.len()),
+        around: crate::fold::fold_by_value(
+            entries,
+            places,
+            crate::totals::low_of(t),
+            crate::totals::high_of(t),
+            plain,
+        ),
+        average: average(crate::totals::sum_of(t), places.len()),
         begun: kept,
     }
 }

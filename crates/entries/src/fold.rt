@@ -116,5 +116,11 @@ pub fn fold_box(entries: &[u32], places: &[u32], plain: bool) -> BoxWords
     ensures { λ r. ⌜ r ≡ foldBox (boxAt (now (entries .entry))) (now (places .entry)) ⌝ }
 {
     let t = crate::totals::total(entries, places, plain);
-    fold_by_value(entries, places, t.low, t.high, plain)
+    fold_by_value(
+        entries,
+        places,
+        crate::totals::low_of(t),
+        crate::totals::high_of(t),
+        plain,
+    )
 }

@@ -11,40 +11,104 @@ ghost use Rattle.entries.specs.Folding.{startBox};
 ghost use Rattle.base.specs.Lists.{Within};
 ghost use Rattle.entries.specs.Plain.{Plain};
 ghost use Rattle.entries.specs.Average.{origin};
-ghost use Rattle.entries.specs.steps.Totals.{totalsOf, totalStep, totalsFrom, totalsAll};
+ghost use Rattle.entries.specs.steps.Totals.{totalsBy, lowOf, sumOf, highOf, totalsOf, totalStep, totalsFrom, totalsAll};
 ghost use Rattle.entries.specs.steps.Begun.{Begins};
 
-// The least min and the greatest max, and the sum of min and max. The sum stands between the two, since side by side they are
-// compiled into one vector of four, which takes longer than two of two.
+// The x and the y of a point.
+pub struct Plane {
+    pub x: f32,
+    pub y: f32,
+}
+
+// Three numbers on z.
+pub struct Heights {
+    pub low: f32,
+    pub sum: f32,
+    pub high: f32,
+}
+
+// The least min and the greatest max, and the sum of min and max. Each z stands apart, so that what is stored as a vector of two, an
+// x and its y, is read as one; and the sum between the two, since side by side they are compiled into one vector of four, which takes
+// longer than two of two.
 pub struct Totals {
-    pub low: Vec3,
-    pub sum: Vec3,
-    pub high: Vec3,
+    pub low: Plane,
+    pub sum: Plane,
+    pub high: Plane,
+    pub z: Heights,
+}
+
+fn totals_by(low: Vec3, sum: Vec3, high: Vec3) -> Totals
+    ensures { λ r. ⌜ r ≡ totalsBy low sum high ⌝ }
+{
+    Totals {
+        low: Plane { x: low.x, y: low.y },
+        sum: Plane { x: sum.x, y: sum.y },
+        high: Plane {
+            x: high.x,
+            y: high.y,
+        },
+        z: Heights {
+            low: low.z,
+            sum: sum.z,
+            high: high.z,
+        },
+    }
+}
+
+pub fn low_of(t: Totals) -> Vec3
+    ensures { λ r. ⌜ r ≡ lowOf t ⌝ }
+{
+    Vec3 {
+        x: t.low.x,
+        y: t.low.y,
+        z: t.z.low,
+    }
+}
+
+pub fn sum_of(t: Totals) -> Vec3
+    ensures { λ r. ⌜ r ≡ sumOf t ⌝ }
+{
+    Vec3 {
+        x: t.sum.x,
+        y: t.sum.y,
+        z: t.z.sum,
+    }
+}
+
+pub fn high_of(t: Totals) -> Vec3
+    ensures { λ r. ⌜ r ≡ highOf t ⌝ }
+{
+    Vec3 {
+        x: t.high.x,
+        y: t.high.y,
+        z: t.z.high,
+    }
 }
 
 fn no_totals() -> Totals
     ensures { λ r. ⌜ r ≡ totalsOf startBox origin ⌝ }
 {
     let b = crate::boxes::start_box();
-    Totals {
-        low: math::words3::values(b.min),
-        high: math::words3::values(b.max),
-        sum: Vec3 {
-            x: 0.0,
-            y: 0.0,
-            z: 0.0,
-        },
-    }
+    let zero = Vec3 {
+        x: 0.0,
+        y: 0.0,
+        z: 0.0,
+    };
+    totals_by(
+        math::words3::values(b.min),
+        zero,
+        math::words3::values(b.max),
+    )
 }
 
 fn total_step(t: Totals, b: Corners) -> Totals
     ensures { λ r. ⌜ r ≡ totalStep t b ⌝ }
 {
-    Totals {
-        low: math::vec3::vmin(t.low, b.low),
-        sum: t.sum.add(b.low).add(b.high),
-        high: math::vec3::vmax(t.high, b.high),
-    }
+    totals_by(
+        math::vec3::vmin(low_of(t), b.low),
+        sum_of(t).add(b.low).add(b.high),
+        math::vec3::vmax(high_of(t), b.high),
+    )
 }
 
 // The totals of the places' boxes, in their order.

@@ -16,18 +16,33 @@ use Rattle.entries.specs.Average.{origin, sumFrom}
 abbrev pub cornersOf : BoxWords → Corners
 cornersOf b = record { low = valuesOf (b .min); high = valuesOf (b .max) }
 
+-- three points with each z apart
+abbrev pub totalsBy : Vec3 → Vec3 → Vec3 → Totals
+totalsBy l s h =
+    record {
+      low = record { x = l .x; y = l .y };
+      sum = record { x = s .x; y = s .y };
+      high = record { x = h .x; y = h .y };
+      z = record { low = l .z; sum = s .z; high = h .z };
+    }
+
+abbrev pub lowOf : Totals → Vec3
+lowOf t = record { x = t .low .x; y = t .low .y; z = t .z .low }
+
+abbrev pub sumOf : Totals → Vec3
+sumOf t = record { x = t .sum .x; y = t .sum .y; z = t .z .sum }
+
+abbrev pub highOf : Totals → Vec3
+highOf t = record { x = t .high .x; y = t .high .y; z = t .z .high }
+
 -- the floats of a box, beside a sum
 abbrev pub totalsOf : BoxWords → Vec3 → Totals
-totalsOf b s = record { low = valuesOf (b .min); high = valuesOf (b .max); sum = s }
+totalsOf b s = totalsBy (valuesOf (b .min)) s (valuesOf (b .max))
 
 -- one box more: rule F3 by value, and min, then max, added
 abbrev pub totalStep : Totals → Corners → Totals
 totalStep t b =
-    record {
-      low = vmin3Of (t .low) (b .low);
-      high = vmax3Of (t .high) (b .high);
-      sum = addOf (addOf (t .sum) (b .low)) (b .high);
-    }
+    totalsBy (vmin3Of (lowOf t) (b .low)) (addOf (addOf (sumOf t) (b .low)) (b .high)) (vmax3Of (highOf t) (b .high))
 
 -- box after box
 abbrev pub totalsFrom : (ℕ → BoxWords) → Totals → List ℕ → Totals
