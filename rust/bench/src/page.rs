@@ -192,7 +192,7 @@ fn lists(series: &[Series], kind: Kind, size: &str, one: &str) -> String {
     let names = [size, "library, µs", "reference, µs", &each, "ratio"];
     let head = head("list", &with_instructions(&names, &BOTH, counted));
     rows(series, kind, head, |name, r| {
-        let micros = |side| cell(r.time(side).map(|t| t / 1e3), 1);
+        let micros = |side| cell(r.each(side).map(|t| t * r.size as f64 / 1e3), 1);
         let mut cells = vec![r.size.to_string(), micros(Side::Library), micros(Side::Reference)];
         cells.extend([cell(r.each(Side::Library), 1), ratio(r, Side::Reference)]);
         cells.extend(instructions(r, &BOTH, counted));

@@ -79,7 +79,10 @@ pub struct Queries {
 /// Few enough that the processor learns their branches, and too many.
 const STEPS: &[usize] = &[1_000, 100_000];
 
-const LISTS: &[usize] = &[1_000, 10_000, 32_767];
+const LISTS: &[usize] = &[1_000, 10_000, LONGEST];
+
+/// The most boxes of a list.
+const LONGEST: usize = 32_767;
 
 /// At threshold 1 more boxes would make too many nodes.
 const SINGLES: &[usize] = &[1_000, 4_000, 16_384];
@@ -88,20 +91,37 @@ pub fn vec3(p: [f32; 3]) -> Vec3 {
     Vec3::new(p[0], p[1], p[2])
 }
 
-/// Both builds over the same boxes: ours into buffers that are lent again and again, theirs without turning its records
-/// into bytes.
-fn builds(boxes: Vec<Aabb>, threshold: u32) -> Work {
-    let n = boxes.len();
-    let items: Vec<Option<Aabb>> = boxes.iter().copied().map(Some).collect();
-    let theirs = tree::builder(&items, threshold as usize);
-    let items: Vec<BvhItem> = boxes.into_iter().map(|b| BvhItem::new(vec3(b.min), vec3(b.max))).collect();
+/// Both builds over the same lists of n boxes, one list after another: ours into buffers that are lent again and again, theirs
+/// without turning its records into bytes.
+fn builds(lists: &[Vec<Aabb>], n: usize, threshold: u32) -> Work {
+    let present = |list: &Vec<Aabb>| list.iter().copied().map(Some).collect::<Vec<_>>();
+    let mut builders: Vec<_> = lists.iter().map(|list| tree::builder(&present(list), threshold as usize)).collect();
+    let theirs = move || builders.iter_mut().map(|build| build()).sum();
+    let item = |b: &Aabb| BvhItem::new(vec3(b.min), vec3(b.max));
+    let lists: Vec<Vec<BvhItem>> = lists.iter().map(|list| list.iter().map(item).collect()).collect();
+    let units = n * lists.len();
     let (mut nodes, mut trees) = (vec![0; records_len(n)], vec![0; records_len(n)]);
     let (mut order, mut work) = (vec![0; n], vec![0; work_len(n)]);
     let ours = move || {
-        let built = build_bvh(black_box(&items), threshold, &mut nodes, &mut trees, &mut order, &mut work);
-        built.expect("a list within the limits").nodes_count as usize
+        let mut build = |items: &Vec<BvhItem>| {
+            let built = build_bvh(black_box(items), threshold, &mut nodes, &mut trees, &mut order, &mut work);
+            built.expect("a list within the limits").nodes_count as usize
+        };
+        lists.iter().map(|items| build(items)).sum()
     };
-    agreeing(ours, theirs, n)
+    agreeing(ours, theirs, units)
+}
+
+/// Lists by one seed after another, as many as have the boxes of the longest: of one short list, built again and again, the
+/// processor learns the branches, and a list is built once.
+fn several(n: usize, seed: u64, threshold: u32, list: fn(usize, u64) -> Vec<Aabb>) -> Work {
+    let seeds = seed..seed + (LONGEST / n) as u64;
+    builds(&seeds.map(|seed| list(n, seed)).collect::<Vec<_>>(), n, threshold)
+}
+
+fn one(list: Vec<Aabb>, threshold: u32) -> Work {
+    let n = list.len();
+    builds(&[list], n, threshold)
 }
 
 /// The two sides, each of which answers a number: nodes of a tree, indices in all, a sum of points. They are the same at each
@@ -150,15 +170,16 @@ pub fn all() -> Vec<Subject> {
 fn builds_of_lists() -> Vec<Subject> {
     let build = |name, sizes, counted, work| Subject { kind: Kind::Build, name, sizes, counted, work };
     vec![
-        build("random, threshold 4", LISTS, &[10_000], |n, seed| builds(spread(n, seed), 4)),
-        build("random, threshold 1", SINGLES, &[4_000], |n, seed| builds(spread(n, seed), 1)),
-        build("equal, threshold 4", LISTS, &[10_000], |n, _| builds(lists::equal(n), 4)),
-        build("nested, threshold 4", LISTS, &[10_000], |n, _| builds(lists::nested(n), 4)),
-        build("one NaN, threshold 4", LISTS, &[10_000], |n, seed| builds(lists::one_nan(n, seed), 4)),
-        build("subnormal, threshold 4", LISTS, &[10_000], |n, seed| builds(lists::subnormal(n, seed), 4)),
-        build("hostile, threshold 1", SINGLES, &[1_000], |n, _| builds(lists::hostile(n), 1)),
+        build("random, threshold 4", LISTS, &[10_000], |n, seed| several(n, seed, 4, spread)),
+        build("random, one list learned", &[1_000], &[], |n, seed| one(spread(n, seed), 4)),
+        build("random, threshold 1", SINGLES, &[4_000], |n, seed| several(n, seed, 1, spread)),
+        build("equal, threshold 4", LISTS, &[10_000], |n, _| one(lists::equal(n), 4)),
+        build("nested, threshold 4", LISTS, &[10_000], |n, _| one(lists::nested(n), 4)),
+        build("one NaN, threshold 4", LISTS, &[10_000], |n, seed| several(n, seed, 4, lists::one_nan)),
+        build("subnormal, threshold 4", LISTS, &[10_000], |n, seed| several(n, seed, 4, lists::subnormal)),
+        build("hostile, threshold 1", SINGLES, &[1_000], |n, _| one(lists::hostile(n), 1)),
         build("deep subnormal, threshold 4", &[4_000, 16_384, 32_767], &[4_000], |n, _| {
-            builds(lists::deep_subnormal(n), 4)
+            one(lists::deep_subnormal(n), 4)
         }),
     ]
 }
