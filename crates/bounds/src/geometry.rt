@@ -53,7 +53,12 @@ pub extern "C" fn bounds_polygon_bbox(polygon: PolygonC, vertices: &[u32]) -> Bo
 
 // Bit 15 of a triangle's vertex numbers is left out.
 #[no_mangle]
-pub extern "C" fn bounds_triangle_word_box(v1: u16, v2: u16, v3: u16, vertices: &[u32]) -> PolygonBox
+pub extern "C" fn bounds_triangle_word_box(
+    v1: u16,
+    v2: u16,
+    v3: u16,
+    vertices: &[u32],
+) -> PolygonBox
     ensures { λ r. ⌜ r ≡ triangleBox (now (vertices .entry)) v1 v2 v3 ⌝ }
 {
     polygon_boxes::kinds::triangle_box(v1, v2, v3, vertices)

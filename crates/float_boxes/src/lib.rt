@@ -54,7 +54,8 @@ fn either_nan(a: f32, b: f32) -> bool
 fn nan_in(a: Floats4, b: Floats4) -> bool
     ensures { λ r. ⌜ r ≡ nanIn a b ⌝ }
 {
-    (either_nan(a.vertex.x, b.vertex.x) | either_nan(a.vertex.y, b.vertex.y)) | (either_nan(a.vertex.z, b.vertex.z) | either_nan(a.next, b.next))
+    (either_nan(a.vertex.x, b.vertex.x) | either_nan(a.vertex.y, b.vertex.y))
+        | (either_nan(a.vertex.z, b.vertex.z) | either_nan(a.next, b.next))
 }
 
 fn box_of(a: Floats4, b: Floats4, c: Floats4) -> FloatBox
