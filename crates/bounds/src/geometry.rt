@@ -1,5 +1,6 @@
 // Polygons, the links of their triangles, their materials, and stored vertices.
 use edges::entry::update_edge_indices;
+use float_boxes::FloatBox;
 use materials::building::build_materials;
 use math::aabb::Aabb;
 use math::vec3::Vec3;
@@ -10,14 +11,13 @@ use polygon_answers::ReadAnswer;
 use polygon_boxes::PolygonBox;
 use polygon_items::polygon_items;
 use records::BoundVertex;
-use wide_boxes::WideBox;
 ghost use mathlib.Core.Path.{_≡_};
 ghost use lib.ListN.{length};
 ghost use Rattle.materials.specs.Materials.{valuesOf};
 ghost use Rattle.polygon.specs.Answers.{readOf};
 ghost use Rattle.math.specs.Stored.{valuesOf as pointOf};
-ghost use Rattle.polygon_boxes.specs.Boxes.{vertexWords, grownBox, pairBox, fourBox};
-ghost use Rattle.wide_boxes.specs.Wide.{triangleWide};
+ghost use Rattle.polygon_boxes.specs.Boxes.{vertexWords, grownBox, pairBox, fourBox, triangleBox};
+ghost use Rattle.float_boxes.specs.Floats.{triangleFloats};
 ghost use Rattle.vertices.specs.Vertices.{quantumOfBox, storedOf, readBackOf};
 ghost use Rattle.polygon_answers.specs.Geometry.{readAnswer, WroteStruct, boxAnswer, ItemsAnswered, edgesWorkLen, EdgesAnswered, MaterialsAnswered};
 
@@ -51,12 +51,25 @@ pub extern "C" fn bounds_polygon_bbox(polygon: PolygonC, vertices: &[u32]) -> Bo
 
 // ---- the box by the kind: numbers go in registers, where a polygon is copied
 
-// Bit 15 of a triangle's vertex numbers is left out. The two spare words have no meaning.
+// Bit 15 of a triangle's vertex numbers is left out.
 #[no_mangle]
-pub extern "C" fn bounds_triangle_wide_box(v1: u16, v2: u16, v3: u16, vertices: &[u32]) -> WideBox
-    ensures { λ r. ⌜ r ≡ triangleWide (now (vertices .entry)) v1 v2 v3 ⌝ }
+pub extern "C" fn bounds_triangle_word_box(
+    v1: u16,
+    v2: u16,
+    v3: u16,
+    vertices: &[u32],
+) -> PolygonBox
+    ensures { λ r. ⌜ r ≡ triangleBox (now (vertices .entry)) v1 v2 v3 ⌝ }
 {
-    wide_boxes::triangle_box(v1, v2, v3, vertices)
+    polygon_boxes::kinds::triangle_box(v1, v2, v3, vertices)
+}
+
+// The same by floats, where none of them is a NaN. The two spare floats have no meaning.
+#[no_mangle]
+pub extern "C" fn bounds_triangle_float_box(v1: u16, v2: u16, v3: u16, vertices: &[f32]) -> FloatBox
+    ensures { λ r. ⌜ r ≡ triangleFloats (now (vertices .entry)) v1 v2 v3 ⌝ }
+{
+    float_boxes::triangle_box(v1, v2, v3, vertices)
 }
 
 #[no_mangle]

@@ -5,13 +5,24 @@ use crate::near_words;
 use crate::number_box_4;
 use crate::numbers::all_four;
 use crate::pair_box;
+use crate::three_box;
 use crate::triangles::within_4;
 use crate::vertex_words;
 use crate::word_box_4;
 use math::words3::values;
 ghost use mathlib.Core.Path.{_≡_};
 ghost use Rattle.math.specs.Stored.{valuesOf};
-ghost use Rattle.polygon_boxes.specs.Boxes.{vertexWords, grownBox, pairBox, fourBox};
+ghost use Rattle.polygon_boxes.specs.Boxes.{vertexWords, grownBox, pairBox, fourBox, triangleBox};
+
+// Bit 15 of a triangle's vertex numbers is a flag.
+pub fn triangle_box(v1: u16, v2: u16, v3: u16, vertices: &[u32]) -> PolygonBox
+    ensures { λ r. ⌜ r ≡ triangleBox (now (vertices .entry)) v1 v2 v3 ⌝ }
+{
+    let a = vertex_words(vertices, v1 % 32768);
+    let b = vertex_words(vertices, v2 % 32768);
+    let c = vertex_words(vertices, v3 % 32768);
+    three_box(a, b, c)
+}
 
 pub fn sphere_box(index: u16, radius: f32, vertices: &[u32]) -> PolygonBox
     ensures { λ r. ⌜ r ≡ grownBox (valuesOf (vertexWords (now (vertices .entry)) index)) (valuesOf (vertexWords (now (vertices .entry)) index)) radius ⌝ }

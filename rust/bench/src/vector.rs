@@ -185,14 +185,14 @@ fn rays(functions: &[Function]) -> Result<String, String> {
 
 /// Both corners of a triangle's box in four lanes: two minima and two maxima of three vertices.
 fn corners(functions: &[Function]) -> Result<String, String> {
-    let of = named(functions, &["triangle_wide_box"]);
+    let of = named(functions, &["triangle_float_box"]);
     let count = |name: &str| of.iter().flat_map(|f| &f.code).filter(|i| i.name == name).count();
     let (low, high) = (count("minps"), count("maxps"));
     match (low, high) {
-        _ if of.is_empty() => Err("box: no function named triangle_wide_box in the archive".to_string()),
+        _ if of.is_empty() => Err("box: no function named triangle_float_box in the archive".to_string()),
         (2.., 2..) => Ok(format!("box: {low} minps and {high} maxps in {}", names(&of))),
         _ => Err(format!(
-            "box: {low} minps and {high} maxps in {}, two of each are wanted: a corner is made word by word",
+            "box: {low} minps and {high} maxps in {}, two of each are wanted: a corner is made number by number",
             names(&of)
         )),
     }
@@ -272,7 +272,7 @@ mod tests {
     }
 
     const CORNERS: &str = "\
-0000000000000000 <bounds_triangle_wide_box>:
+0000000000000000 <bounds_triangle_float_box>:
  2fc:\tminps  %xmm0,%xmm13
  300:\tminps  %xmm1,%xmm13
  309:\tmaxps  %xmm0,%xmm15
@@ -286,7 +286,7 @@ mod tests {
             "has     walk: 2 pcmpgtw in bounds_walk",
             "has     counts: movups, cmpltps, psubd in bounds_build_bvh",
             "has     rays: 1 divps with 20 mulps or more around it in rays::rows::hits_in",
-            "has     box: 2 minps and 2 maxps in bounds_triangle_wide_box",
+            "has     box: 2 minps and 2 maxps in bounds_triangle_float_box",
         ];
         assert_eq!(found.lines().collect::<Vec<_>>(), lines);
     }
@@ -305,13 +305,13 @@ mod tests {
     }
 
     #[test]
-    fn a_box_word_by_word_is_found() {
+    fn a_box_number_by_number_is_found() {
         let judge = |corners: &str| judged(&format!("{WALK}\n{COUNTS}\n{}\n{corners}", rays("divps", 26)));
         let once = CORNERS.replace(" 30d:\tmaxps  %xmm1,%xmm15\n", "");
         assert!(judge(&once)
             .expect_err("one")
-            .contains("LACKS   box: 2 minps and 1 maxps in bounds_triangle_wide_box"));
-        assert!(judge("").expect_err("none").contains("LACKS   box: no function named triangle_wide_box"));
+            .contains("LACKS   box: 2 minps and 1 maxps in bounds_triangle_float_box"));
+        assert!(judge("").expect_err("none").contains("LACKS   box: no function named triangle_float_box"));
     }
 
     #[test]

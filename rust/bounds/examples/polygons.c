@@ -41,6 +41,27 @@ static void records(void) {
     number("read: kind 7", bounds_polygon_read(bytes, sizeof bytes).refusal, 6);
 }
 
+/* Vertices (1, 2, 3), (-4, 5, -6), (7, -8, 9), and one with a NaN, whose bits stay. */
+static void triangles(void) {
+    static const float floats[9] = {1, 2, 3, -4, 5, -6, 7, -8, 9};
+    uint32_t words[13] = {0};
+    memcpy(words, floats, sizeof floats);
+    words[9] = 0xFFC12345;
+    bounds_polygon_box b = bounds_triangle_bbox(0, 0x8001, 2, words, 10);
+    number("a NaN behind a vertex: min x", b.min.x, 0xC0800000);
+    words[9] = 0;
+    number("by floats: told", bounds_triangle_float_box(0, 0x8001, 2, floats, 9).told, 0);
+    b = bounds_triangle_bbox(0, 0x8001, 2, words, 10);
+    number("by floats: min x", b.min.x, 0xC0800000);
+    number("by floats: min y", b.min.y, 0xC1000000);
+    number("by floats: min z", b.min.z, 0xC0C00000);
+    number("by floats: max x", b.max.x, 0x40E00000);
+    number("by floats: max y", b.max.y, 0x40A00000);
+    number("by floats: max z", b.max.z, 0x41100000);
+    words[1] = 0xFFC12345;
+    number("a NaN last: its bits", bounds_triangle_bbox(1, 2, 0, words, 10).max.y, 0xFFC12345);
+}
+
 static void boxes(void) {
     static const uint32_t vertices[6] = {0x3F800000, 0x40000000, 0x40400000, 0, 0, 0}; /* (1, 2, 3), (0, 0, 0) */
     bounds_polygon sphere = {1, 0x3F800000, 0, 0, 0, 0, 0, 0};
@@ -49,6 +70,7 @@ static void boxes(void) {
     number("sphere: max z", box.max.z, 0x40800000);
     number("triangle: max y", bounds_polygon_bbox(triangle(0x8000, 1, 9), vertices, 6).max.y, 0x40000000);
     number("by numbers: triangle", bounds_triangle_bbox(0x8000, 1, 9, vertices, 6).max.y, 0x40000000);
+    triangles();
     number("by numbers: sphere", bounds_sphere_bbox(0, 1.0f, vertices, 6).max.z, 0x40800000);
     number("by numbers: capsule", bounds_capsule_bbox(0, 1, 1.0f, vertices, 6).min.x, 0xBF800000);
     number("by numbers: box", bounds_box_bbox(1, 9, 1, 0, vertices, 6).max.x, 0x3F800000);

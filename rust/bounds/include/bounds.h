@@ -12,6 +12,7 @@
 
 #include <stddef.h>
 #include <stdint.h>
+#include <string.h>
 
 #ifdef __cplusplus
 extern "C" {
@@ -241,13 +242,15 @@ typedef struct {
 
 typedef struct { bounds_words3 min, max; } bounds_polygon_box;
 
-/* A box as two runs of four words. A spare one is the fold of 0 and of the words behind the second and the third vertex. */
+/* A box as two runs of four floats, where told is 1; 0 throughout where it is 0. A spare float is the least, or the greatest,
+ * of those behind the three vertices. */
 typedef struct {
-    bounds_words3 min;
-    uint32_t spare_min;
-    bounds_words3 max;
-    uint32_t spare_max;
-} bounds_wide_box;
+    bounds_vec3 min;
+    float spare_min;
+    bounds_vec3 max;
+    float spare_max;
+    uint32_t told;
+} bounds_float_box;
 
 typedef struct {
     uint32_t refusal;
@@ -267,12 +270,21 @@ bounds_box_answer bounds_polygon_bbox(bounds_polygon polygon, const uint32_t *ve
 
 /* The same by the kind, from the numbers of its vertices: no struct is copied, and nothing is refused. Of a triangle's
  * numbers bit 15 is left out; a cylinder's box is a capsule's. */
-bounds_wide_box bounds_triangle_wide_box(uint16_t v1, uint16_t v2, uint16_t v3, const uint32_t *vertices, size_t vertices_len);
+bounds_polygon_box bounds_triangle_word_box(uint16_t v1, uint16_t v2, uint16_t v3, const uint32_t *vertices, size_t vertices_len);
 
+/* The same over floats, three a vertex, and quicker. It is told where none of the nine is a NaN, nor one of the three floats that
+ * stand behind the vertices, and none of the twelve is missing. */
+bounds_float_box bounds_triangle_float_box(uint16_t v1, uint16_t v2, uint16_t v3, const float *vertices, size_t vertices_len);
+
+/* By floats where that is told, else by words. */
 static inline bounds_polygon_box bounds_triangle_bbox(uint16_t v1, uint16_t v2, uint16_t v3, const uint32_t *vertices,
                                                       size_t vertices_len) {
-    bounds_wide_box b = bounds_triangle_wide_box(v1, v2, v3, vertices, vertices_len);
-    return (bounds_polygon_box){b.min, b.max};
+    bounds_float_box b = bounds_triangle_float_box(v1, v2, v3, (const float *)(const void *)vertices, vertices_len);
+    bounds_polygon_box words;
+    if (!b.told) return bounds_triangle_word_box(v1, v2, v3, vertices, vertices_len);
+    memcpy(&words.min, &b.min, sizeof words.min);
+    memcpy(&words.max, &b.max, sizeof words.max);
+    return words;
 }
 
 bounds_polygon_box bounds_sphere_bbox(uint16_t index, float radius, const uint32_t *vertices, size_t vertices_len);

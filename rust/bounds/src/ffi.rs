@@ -327,14 +327,15 @@ pub struct PolygonBox {
     pub max: Words3,
 }
 
-/// `bounds_wide_box`: each corner is read as it was stored, from four words at once.
+/// `bounds_float_box`: each corner is read as it was stored, from four floats at once.
 #[derive(Clone, Copy)]
 #[repr(C)]
-pub struct WideBox {
-    pub min: Words3,
-    pub spare_min: u32,
-    pub max: Words3,
-    pub spare_max: u32,
+pub struct FloatBox {
+    pub min: Vec3,
+    pub spare_min: f32,
+    pub max: Vec3,
+    pub spare_max: f32,
+    pub told: u32,
 }
 
 /// `bounds_materials_answer`.
@@ -356,7 +357,8 @@ unsafe extern "C" {
     fn bounds_polygon_read(bytes: *const u8, bytes_len: usize) -> ReadAnswer;
     fn bounds_polygon_write(out: *mut u8, out_len: usize, polygon: PolygonC) -> u32;
     fn bounds_polygon_bbox(polygon: PolygonC, vertices: *const u32, vertices_len: usize) -> BoxAnswer;
-    fn bounds_triangle_wide_box(v1: u16, v2: u16, v3: u16, vertices: *const u32, vertices_len: usize) -> WideBox;
+    fn bounds_triangle_float_box(v1: u16, v2: u16, v3: u16, vertices: *const f32, vertices_len: usize) -> FloatBox;
+    fn bounds_triangle_word_box(v1: u16, v2: u16, v3: u16, vertices: *const u32, vertices_len: usize) -> PolygonBox;
     fn bounds_sphere_bbox(index: u16, radius: f32, vertices: *const u32, vertices_len: usize) -> PolygonBox;
     fn bounds_capsule_bbox(i1: u16, i2: u16, radius: f32, vertices: *const u32, vertices_len: usize) -> PolygonBox;
     fn bounds_box_bbox(i1: u16, i2: u16, i3: u16, i4: u16, vertices: *const u32, vertices_len: usize) -> PolygonBox;
@@ -418,12 +420,19 @@ pub fn polygon_bbox(polygon: PolygonC, vertices: &[u32]) -> BoxAnswer {
     unsafe { bounds_polygon_bbox(polygon, vertices.as_ptr(), vertices.len()) }
 }
 
-/// `bounds_triangle_wide_box`.
+/// `bounds_triangle_float_box`, over vertices as they lie in memory.
 #[inline]
-pub fn triangle_wide_box([v1, v2, v3]: [u16; 3], vertices: &[u32]) -> WideBox {
+pub fn triangle_float_box([v1, v2, v3]: [u16; 3], vertices: &[Vec3]) -> FloatBox {
+    // SAFETY: the pointer comes from a slice, which is only read, and goes with its length in floats: a point is `repr(C)`, three
+    // f32 without padding. The numbers may be any: the library reads a float only where the slice has it.
+    unsafe { bounds_triangle_float_box(v1, v2, v3, vertices.as_ptr().cast(), 3 * vertices.len()) }
+}
+
+/// `bounds_triangle_word_box`.
+pub fn triangle_word_box([v1, v2, v3]: [u16; 3], vertices: &[u32]) -> PolygonBox {
     // SAFETY: the pointer comes from a slice, which is only read, and goes with its length. The numbers may be any: the
     // library reads a vertex only where the slice has it.
-    unsafe { bounds_triangle_wide_box(v1, v2, v3, vertices.as_ptr(), vertices.len()) }
+    unsafe { bounds_triangle_word_box(v1, v2, v3, vertices.as_ptr(), vertices.len()) }
 }
 
 /// `bounds_sphere_bbox`.
@@ -534,7 +543,7 @@ const _: () = {
     assert!(size_of::<ReadAnswer>() == 24 && align_of::<ReadAnswer>() == 4);
     assert!(size_of::<BoxAnswer>() == 28 && align_of::<BoxAnswer>() == 4);
     assert!(size_of::<PolygonBox>() == 24 && align_of::<PolygonBox>() == 4);
-    assert!(size_of::<WideBox>() == 32 && align_of::<WideBox>() == 4);
+    assert!(size_of::<FloatBox>() == 36 && align_of::<FloatBox>() == 4);
     assert!(size_of::<MaterialsAnswer>() == 16 && align_of::<MaterialsAnswer>() == 8);
     assert!(size_of::<BoundMaterial>() == 8 && align_of::<BoundMaterial>() == 4);
     assert!(size_of::<BoundVertex>() == 6 && align_of::<BoundVertex>() == 2);

@@ -13,7 +13,7 @@
 //! ```
 
 use crate::bvh::parts;
-use crate::ffi::{self, PolygonBox, PolygonC, WideBox};
+use crate::ffi::{self, PolygonBox, PolygonC};
 pub use crate::types::{BoundMaterial, BoundVertex};
 use crate::{BvhItem, Refusal, Vec3};
 
@@ -139,17 +139,13 @@ impl Polygon {
     /// ```
     #[inline]
     pub fn bbox(&self, vertices: &[Vec3]) -> (Vec3, Vec3) {
-        let words = ffi::vector_words(vertices);
-        match *self {
-            Polygon::Triangle { v, .. } => {
-                let WideBox { min, max, .. } = ffi::triangle_wide_box(v, words);
-                (floats(min), floats(max))
-            }
-            _ => {
-                let PolygonBox { min, max } = self.other_box(words);
-                (floats(min), floats(max))
+        if let Polygon::Triangle { v, .. } = *self {
+            let by_floats = ffi::triangle_float_box(v, vertices);
+            if by_floats.told != 0 {
+                return (by_floats.min, by_floats.max);
             }
         }
+        self.word_box(vertices)
     }
 
     /// The same box by the struct that a C caller hands over, `bounds_polygon_bbox`: slower, since the struct is stored and
@@ -167,19 +163,19 @@ impl Polygon {
         (floats(answer.min), floats(answer.max))
     }
 
-    /// Apart, so that a triangle's box is small enough to be compiled into the caller's loop.
-    fn other_box(&self, words: &[u32]) -> PolygonBox {
-        match *self {
-            Polygon::Triangle { v, .. } => {
-                let WideBox { min, max, .. } = ffi::triangle_wide_box(v, words);
-                PolygonBox { min, max }
-            }
+    /// Of a triangle's box by words, where a NaN keeps its bits. Apart, so that its box by floats is small enough to be compiled
+    /// into the caller's loop.
+    fn word_box(&self, vertices: &[Vec3]) -> (Vec3, Vec3) {
+        let words = ffi::vector_words(vertices);
+        let PolygonBox { min, max } = match *self {
+            Polygon::Triangle { v, .. } => ffi::triangle_word_box(v, words),
             Polygon::Sphere { index, radius, .. } => ffi::sphere_bbox(index, radius, words),
             Polygon::Capsule { i1, i2, radius, .. } | Polygon::Cylinder { i1, i2, radius, .. } => {
                 ffi::capsule_bbox(i1, i2, radius, words)
             }
             Polygon::Box { i, .. } => ffi::box_bbox(i.map(|i| i as u16), words),
-        }
+        };
+        (floats(min), floats(max))
     }
 
     fn as_struct(&self) -> PolygonC {
