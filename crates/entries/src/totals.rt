@@ -128,7 +128,8 @@ pub fn total(entries: &[u32], places: &[u32], plain: bool) -> Totals
     t
 }
 
-// The totals so far, and the places' boxes after them, in their order.
+// The totals so far, and the places' boxes after them, in their order. A loop of its own, since a start that is lent is read from
+// memory, which a leaf of a few boxes need not.
 fn total_on(entries: &[u32], places: &[u32], plain: bool, start: Totals) -> Totals
     requires { ⌜ (Within (length (now entries)) (now places)) × (Plain plain (now entries)) ⌝ }
     ensures { λ r. ⌜ r ≡ totalsFrom (boxAt (now (entries .entry))) start (now (places .entry)) ⌝ }
