@@ -68,7 +68,10 @@ const BUILDS: &str = "\
 Of the library a call of `bounds::build_bvh`, from floats to records in bytes; of the reference its `build_bvh`, up to
 records that are not yet bytes. Random boxes are up to 10 wide and spread over 400; nested ones have one centre, each
 within the next; of the hostile and the deep list the split rule takes off a few boxes at a time, thousands of levels
-deep. Subnormal: every coordinate, and on the deep list those of y and z. Instructions are those of one box.
+deep. Subnormal: every coordinate, and on the deep list those of y and z. Of lists by a seed a pass builds as many as have
+32,767 boxes together, one after another, and a time is that of one: a list is built once, and of a short one that is built
+again and again a processor learns the branches, of which the reference has more. The last row is such a list. Instructions
+are those of one box.
 ";
 
 const WALKS: &str = "\

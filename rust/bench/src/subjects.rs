@@ -171,7 +171,6 @@ fn builds_of_lists() -> Vec<Subject> {
     let build = |name, sizes, counted, work| Subject { kind: Kind::Build, name, sizes, counted, work };
     vec![
         build("random, threshold 4", LISTS, &[10_000], |n, seed| several(n, seed, 4, spread)),
-        build("random, one list learned", &[1_000], &[], |n, seed| one(spread(n, seed), 4)),
         build("random, threshold 1", SINGLES, &[4_000], |n, seed| several(n, seed, 1, spread)),
         build("equal, threshold 4", LISTS, &[10_000], |n, _| one(lists::equal(n), 4)),
         build("nested, threshold 4", LISTS, &[10_000], |n, _| one(lists::nested(n), 4)),
@@ -181,6 +180,7 @@ fn builds_of_lists() -> Vec<Subject> {
         build("deep subnormal, threshold 4", &[4_000, 16_384, 32_767], &[4_000], |n, _| {
             one(lists::deep_subnormal(n), 4)
         }),
+        build("random, threshold 4, one list learned", &LISTS[..1], &[], |n, seed| one(spread(n, seed), 4)),
     ]
 }
 
