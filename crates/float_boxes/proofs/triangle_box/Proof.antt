@@ -3,7 +3,7 @@ use borrow.Author.Needs.{needs}
 use Rattle.float_boxes.proofs.triangle_box.Statement.{statement}
 use Rattle.float_boxes.proofs.triangle_box.Tie as tie
 use Prim.Native.Nat.{_%_}
-use mathlib.Core.Path.{_≡_, sym, ap, ap₂, _∙_}
+use mathlib.Core.Path.{_≡_, sym, ap₂, _∙_}
 use mathlib.Core.Bool.{Bool, true, false, cond, _||_}
 use mathlib.Core.Logic.{⊎-elim}
 use Rattle.float_boxes.specs.Floats.{fourFloats, nanIn, boxOf, notTold}

@@ -2,7 +2,7 @@
 use borrow.Author.Needs.{needs}
 use Rattle.float_boxes.proofs.within.Statement.{statement}
 use Rattle.float_boxes.proofs.within.Tie as tie
-use Prim.Native.Nat.{ℕ, _+_, _*_, _<_}
+use Prim.Native.Nat.{ℕ, _+_, _<_}
 use mathlib.Core.Path.{_≡_}
 use mathlib.Core.Logic.{_⊎_, inl, inr, ⊎-elim}
 use borrow.Author.Tests.{leb-true, leb-false}
@@ -29,12 +29,9 @@ small a b r e h k = ⊎-elim (λ p. omega (arith, p, h)) (λ p. omega (arith, p,
 
 add-result : tie.Need-add-result
 add-result c =
-    let start = c .before .before in
-    let args = start .args in
-    let two : c .before .greater .result < 0x30000 =
-    small (3 * args .i) (3 * args .j) (c .before .greater .result) (c .before .greater .ensures .2) (omega (arith, start .fits)) (omega (arith, start .fits)) in
-    let three : c .greater2 .result < 0x30000 =
-    small (c .before .greater .result) (3 * args .k) (c .greater2 .result) (c .greater2 .ensures .2) two (omega (arith, start .fits)) in
+    let fits = c .before .before .fits in
+    let two = small _ _ _ (c .before .greater .ensures .2) (omega (arith, fits)) (omega (arith, fits)) in
+    let three = small _ _ _ (c .greater2 .ensures .2) two (omega (arith, fits)) in
     omega (arith, three)
 
 returns : tie.Need-returns
