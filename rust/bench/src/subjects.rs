@@ -103,11 +103,11 @@ fn builds(lists: &[Vec<Aabb>], n: usize, threshold: u32) -> Work {
     let (mut nodes, mut trees) = (vec![0; records_len(n)], vec![0; records_len(n)]);
     let (mut order, mut work) = (vec![0; n], vec![0; work_len(n)]);
     let ours = move || {
-        let mut build = |items: &Vec<BvhItem>| {
+        let build = |items: &Vec<BvhItem>| {
             let built = build_bvh(black_box(items), threshold, &mut nodes, &mut trees, &mut order, &mut work);
             built.expect("a list within the limits").nodes_count as usize
         };
-        lists.iter().map(|items| build(items)).sum()
+        lists.iter().map(build).sum()
     };
     agreeing(ours, theirs, units)
 }

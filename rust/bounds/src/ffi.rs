@@ -327,14 +327,15 @@ pub struct PolygonBox {
     pub max: Words3,
 }
 
-/// `bounds_float_box`: each corner is read as it was stored, from four floats at once.
+/// `bounds_float_box`, its floats by their words: a point of floats would be copied whole, in other pieces than those in which it
+/// was stored, and wait.
 #[derive(Clone, Copy)]
 #[repr(C)]
 pub struct FloatBox {
-    pub min: Vec3,
-    pub spare_min: f32,
-    pub max: Vec3,
-    pub spare_max: f32,
+    pub min: Words3,
+    pub spare_min: u32,
+    pub max: Words3,
+    pub spare_max: u32,
     pub told: u32,
 }
 

@@ -13,7 +13,7 @@
 //! ```
 
 use crate::bvh::parts;
-use crate::ffi::{self, PolygonBox, PolygonC};
+use crate::ffi::{self, FloatBox, PolygonBox, PolygonC};
 pub use crate::types::{BoundMaterial, BoundVertex};
 use crate::{BvhItem, Refusal, Vec3};
 
@@ -140,12 +140,13 @@ impl Polygon {
     #[inline]
     pub fn bbox(&self, vertices: &[Vec3]) -> (Vec3, Vec3) {
         if let Polygon::Triangle { v, .. } = *self {
-            let by_floats = ffi::triangle_float_box(v, vertices);
-            if by_floats.told != 0 {
-                return (by_floats.min, by_floats.max);
+            let FloatBox { min, max, told, .. } = ffi::triangle_float_box(v, vertices);
+            if told != 0 {
+                return (floats(min), floats(max));
             }
         }
-        self.word_box(vertices)
+        let PolygonBox { min, max } = self.word_box(vertices);
+        (floats(min), floats(max))
     }
 
     /// The same box by the struct that a C caller hands over, `bounds_polygon_bbox`: slower, since the struct is stored and
@@ -165,17 +166,16 @@ impl Polygon {
 
     /// Of a triangle's box by words, where a NaN keeps its bits. Apart, so that its box by floats is small enough to be compiled
     /// into the caller's loop.
-    fn word_box(&self, vertices: &[Vec3]) -> (Vec3, Vec3) {
+    fn word_box(&self, vertices: &[Vec3]) -> PolygonBox {
         let words = ffi::vector_words(vertices);
-        let PolygonBox { min, max } = match *self {
+        match *self {
             Polygon::Triangle { v, .. } => ffi::triangle_word_box(v, words),
             Polygon::Sphere { index, radius, .. } => ffi::sphere_bbox(index, radius, words),
             Polygon::Capsule { i1, i2, radius, .. } | Polygon::Cylinder { i1, i2, radius, .. } => {
                 ffi::capsule_bbox(i1, i2, radius, words)
             }
             Polygon::Box { i, .. } => ffi::box_bbox(i.map(|i| i as u16), words),
-        };
-        (floats(min), floats(max))
+        }
     }
 
     fn as_struct(&self) -> PolygonC {
