@@ -180,7 +180,7 @@ fn builds_of_lists() -> Vec<Subject> {
         build("deep subnormal, threshold 4", &[4_000, 16_384, 32_767], &[4_000], |n, _| {
             one(lists::deep_subnormal(n), 4)
         }),
-        build("random, threshold 4, one list learned", &LISTS[..1], &[], |n, seed| one(spread(n, seed), 4)),
+        build("one list learned, threshold 4", &LISTS[..1], &[], |n, seed| one(spread(n, seed), 4)),
     ]
 }
 
