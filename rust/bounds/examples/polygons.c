@@ -43,14 +43,15 @@ static void records(void) {
 
 /* Vertices (1, 2, 3), (-4, 5, -6), (7, -8, 9), and one with a NaN, whose bits stay. */
 static void triangles(void) {
-    static const float floats[9] = {1, 2, 3, -4, 5, -6, 7, -8, 9};
+    static const float floats[10] = {1, 2, 3, -4, 5, -6, 7, -8, 9, 0};
     uint32_t words[13] = {0};
     memcpy(words, floats, sizeof floats);
     words[9] = 0xFFC12345;
     bounds_polygon_box b = bounds_triangle_bbox(0, 0x8001, 2, words, 10);
     number("a NaN behind a vertex: min x", b.min.x, 0xC0800000);
     words[9] = 0;
-    number("by floats: told", bounds_triangle_float_box(0, 0x8001, 2, floats, 9).told, 0);
+    number("by floats: told", bounds_triangle_float_box(0, 0x8001, 2, floats, 10).told, 1);
+    number("none behind the last: told", bounds_triangle_float_box(0, 0x8001, 2, floats, 9).told, 0);
     b = bounds_triangle_bbox(0, 0x8001, 2, words, 10);
     number("by floats: min x", b.min.x, 0xC0800000);
     number("by floats: min y", b.min.y, 0xC1000000);
