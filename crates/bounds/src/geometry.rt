@@ -1,6 +1,13 @@
 // Polygons, the links of their triangles, their materials, and stored vertices.
 use edges::entry::update_edge_indices;
 use float_boxes::FloatBox;
+use float_boxes::box_of_three;
+use float_boxes::moved_box;
+use float_boxes::nan_in_sums;
+use float_boxes::nan_in_three;
+use float_boxes::not_told;
+use float_boxes::vertices_at;
+use float_boxes::within;
 use materials::building::build_materials;
 use math::aabb::Aabb;
 use math::vec3::Vec3;
@@ -17,7 +24,7 @@ ghost use Rattle.materials.specs.Materials.{valuesOf};
 ghost use Rattle.polygon.specs.Answers.{readOf};
 ghost use Rattle.math.specs.Stored.{valuesOf as pointOf};
 ghost use Rattle.polygon_boxes.specs.Boxes.{vertexWords, grownBox, pairBox, fourBox, triangleBox};
-ghost use Rattle.float_boxes.specs.Floats.{triangleFloats};
+ghost use Rattle.float_boxes.specs.Floats.{triangleFloats, movedFloats};
 ghost use Rattle.vertices.specs.Vertices.{quantumOfBox, storedOf, readBackOf};
 ghost use Rattle.polygon_answers.specs.Geometry.{readAnswer, WroteStruct, boxAnswer, ItemsAnswered, edgesWorkLen, EdgesAnswered, MaterialsAnswered};
 
@@ -69,7 +76,40 @@ pub extern "C" fn bounds_triangle_word_box(
 pub extern "C" fn bounds_triangle_float_box(v1: u16, v2: u16, v3: u16, vertices: &[f32]) -> FloatBox
     ensures { λ r. ⌜ r ≡ triangleFloats (now (vertices .entry)) v1 v2 v3 ⌝ }
 {
-    float_boxes::triangle_box(v1, v2, v3, vertices)
+    let i = (v1 % 32768) as u32;
+    let j = (v2 % 32768) as u32;
+    let k = (v3 % 32768) as u32;
+    if within(i, j, k, k, vertices.len()) {
+        let v = vertices_at(vertices, i, j, k, k);
+        if nan_in_three(v) {
+            return not_told();
+        }
+        return box_of_three(v);
+    }
+    not_told()
+}
+
+// The same of the other kinds, with no branch on the kind. Numbers of 32 bits come as they are, where those of 16 are widened.
+#[no_mangle]
+pub extern "C" fn bounds_moved_float_box(
+    i1: u32,
+    i2: u32,
+    i3: u32,
+    i4: u32,
+    low: f32,
+    high: f32,
+    vertices: &[f32],
+) -> FloatBox
+    ensures { λ r. ⌜ r ≡ movedFloats (now (vertices .entry)) i1 i2 i3 i4 low high ⌝ }
+{
+    if within(i1, i2, i3, i4, vertices.len()) {
+        let v = vertices_at(vertices, i1, i2, i3, i4);
+        if nan_in_sums(v, low, high) {
+            return not_told();
+        }
+        return moved_box(v, low, high);
+    }
+    not_told()
 }
 
 #[no_mangle]

@@ -3,13 +3,12 @@
 use Prim.Native.Nat.{ℕ, zero, suc, _+_, _*_, _/_, _%_, _<_}
 use native.Mathlib.Omega.{arith}
 use mathlib.Core.Path.{_≡_, refl, sym, ap, subst, _∙_}
-use mathlib.Core.Bool.{Bool, true, false, cond, _||_, true≢false}
+use mathlib.Core.Bool.{Bool, true, false, cond, true≢false}
 use mathlib.Core.List.{List, [], _∷_, map}
 use lib.ListN.{length, getD}
 use lib.Ieee.{Float, binary32, ofBits, isNan, nan}
 use lib.Ieee.Bits.{nanBits-is, nanBits-above}
 use borrow.Author.Tests.{lt-ltb, ltb-false}
-use Rattle.base.proofs.Truth.{neither}
 use Rattle.entries.specs.Plain.{Number}
 use Rattle.float32.specs.Extremes.{vminOf, vmaxOf}
 use Rattle.math.specs.Stored.{bitsOf, vminWordsOf, vmaxWordsOf}
@@ -19,9 +18,10 @@ use Rattle.math.specs.declared.words3.Words3.{Words3}
 use Rattle.polygon_boxes.specs.Boxes.{vertexWords, threeBox, triangleBox}
 use Rattle.polygon_boxes.specs.declared.PolygonBox.{PolygonBox}
 use Rattle.polygon_boxes.proofs.NumberLaws.{Word, Of, of-word, of-min, of-max, word-by}
-use Rattle.float_boxes.specs.Floats.{fourFloats, nanIn, boxOf, notTold, triangleFloats}
+use Rattle.float_boxes.specs.Floats.{fourFloats, verticesAt, lesserOf, greaterOf, toldBox, boxOfThree, nanInThree, notTold, triangleFloats}
 use Rattle.float_boxes.specs.declared.FloatBox.{FloatBox}
-use Rattle.float_boxes.specs.declared.Floats4.{Floats4}
+use Rattle.float_boxes.specs.declared.Vertices4.{Vertices4}
+use Rattle.float_boxes.proofs.NanLaws.{Plain, three-plain}
 
 -- the floats that the words stand for, and the words of a box without what is spare
 abbrev pub floatsOf : List ℕ → List Float
@@ -48,66 +48,47 @@ of-float ws h i e =
     subst (λ (x : Float). Of x n) (sym is) (of-word n (h i) number-is)
 
 -- ---- axis by axis
-abbrev OfVertex : Vec3 → Words3 → Type 0
+abbrev pub OfVertex : Vec3 → Words3 → Type 0
 OfVertex v w = Of (v .x) (w .x) × Of (v .y) (w .y) × Of (v .z) (w .z)
 
-of-lesser : (a b : Vec3) (u v : Words3) → OfVertex a u → OfVertex b v → OfVertex (vmin3Of a b) (vminWordsOf u v)
+pub of-lesser : (a b : Vec3) (u v : Words3) → OfVertex a u → OfVertex b v → OfVertex (vmin3Of a b) (vminWordsOf u v)
 of-lesser a b u v g h = (
   of-min (vminOf (a .x) (b .x)) (a .x) (b .x) (u .x) (v .x) refl (g .0) (h .0),
   of-min (vminOf (a .y) (b .y)) (a .y) (b .y) (u .y) (v .y) refl (g .1) (h .1),
   of-min (vminOf (a .z) (b .z)) (a .z) (b .z) (u .z) (v .z) refl (g .2) (h .2),
 )
 
-of-greater : (a b : Vec3) (u v : Words3) → OfVertex a u → OfVertex b v → OfVertex (vmax3Of a b) (vmaxWordsOf u v)
+pub of-greater : (a b : Vec3) (u v : Words3) → OfVertex a u → OfVertex b v → OfVertex (vmax3Of a b) (vmaxWordsOf u v)
 of-greater a b u v g h = (
   of-max (vmaxOf (a .x) (b .x)) (a .x) (b .x) (u .x) (v .x) refl (g .0) (h .0),
   of-max (vmaxOf (a .y) (b .y)) (a .y) (b .y) (u .y) (v .y) refl (g .1) (h .1),
   of-max (vmaxOf (a .z) (b .z)) (a .z) (b .z) (u .z) (v .z) refl (g .2) (h .2),
 )
 
-words-by : (v : Vec3) (w : Words3) → OfVertex v w → bitsOf v ≡ w
+pub words-by : (v : Vec3) (w : Words3) → OfVertex v w → bitsOf v ≡ w
 words-by v w g =
     let x = word-by (v .x) (w .x) (g .0) in
     let y = word-by (v .y) (w .y) (g .1) in
     let z = word-by (v .z) (w .z) (g .2) in
     λ i. record { x = x i; y = y i; z = z i }
 
-box-words : (a b d : Floats4) (u v w : Words3) → OfVertex (a .vertex) u → OfVertex (b .vertex) v → OfVertex (d .vertex) w
-    → wordsOf (boxOf a b d) ≡ threeBox u v w
-unfolding boxOf threeBox
-box-words a b d u v w g h k =
-    let low : Vec3 = vmin3Of (a .vertex) (b .vertex) in
-    let high : Vec3 = vmax3Of (a .vertex) (b .vertex) in
+box-words : (t : Vertices4) (u v w : Words3) → OfVertex (t .a .vertex) u → OfVertex (t .b .vertex) v → OfVertex (t .c .vertex) w
+    → wordsOf (boxOfThree t) ≡ threeBox u v w
+unfolding toldBox lesserOf greaterOf threeBox
+box-words t u v w g h k =
+    let a : Vec3 = t .a .vertex in
+    let b : Vec3 = t .b .vertex in
+    let d : Vec3 = t .c .vertex in
+    let low : Vec3 = vmin3Of a b in
+    let high : Vec3 = vmax3Of a b in
     let lows : Words3 = vminWordsOf u v in
     let highs : Words3 = vmaxWordsOf u v in
-    let min = words-by (vmin3Of low (d .vertex)) (vminWordsOf lows w)
-    (of-lesser low (d .vertex) lows w (of-lesser (a .vertex) (b .vertex) u v g h) k) in
-    let max = words-by (vmax3Of high (d .vertex)) (vmaxWordsOf highs w)
-    (of-greater high (d .vertex) highs w (of-greater (a .vertex) (b .vertex) u v g h) k) in
+    let min = words-by (vmin3Of low d) (vminWordsOf lows w) (of-lesser low d lows w (of-lesser a b u v g h) k) in
+    let max = words-by (vmax3Of high d) (vmaxWordsOf highs w) (of-greater high d highs w (of-greater a b u v g h) k) in
     λ i. record { min = min i; max = max i }
 
 -- ---- a vertex without a NaN
-record Plain (v : Vec3) : Type 0 where
-  pub x : isNan (v .x) ≡ false
-  pub y : isNan (v .y) ≡ false
-  pub z : isNan (v .z) ≡ false
-
-both-plain : (a b : Floats4) → nanIn a b ≡ false → Plain (a .vertex) × Plain (b .vertex)
-unfolding nanIn
-both-plain a b e =
-    let x : Bool = isNan (a .vertex .x) || isNan (b .vertex .x) in
-    let y : Bool = isNan (a .vertex .y) || isNan (b .vertex .y) in
-    let z : Bool = isNan (a .vertex .z) || isNan (b .vertex .z) in
-    let w : Bool = isNan (a .next) || isNan (b .next) in
-    let all = neither (x || y) (z || w) e in
-    let near = neither x y (all .0) in
-    let far = neither z w (all .1) in
-    let xs = neither (isNan (a .vertex .x)) (isNan (b .vertex .x)) (near .0) in
-    let ys = neither (isNan (a .vertex .y)) (isNan (b .vertex .y)) (near .1) in
-    let zs = neither (isNan (a .vertex .z)) (isNan (b .vertex .z)) (far .0) in
-    (record { x = xs .0; y = ys .0; z = zs .0 }, record { x = xs .1; y = ys .1; z = zs .1 })
-
-of-vertex : (ws : List ℕ) → ((i : ℕ) → Word (getD ws i 0)) → (i : ℕ) → Plain (fourFloats (floatsOf ws) i .vertex)
+pub of-vertex : (ws : List ℕ) → ((i : ℕ) → Word (getD ws i 0)) → (i : ℕ) → Plain (fourFloats (floatsOf ws) i)
     → OfVertex (fourFloats (floatsOf ws) i .vertex) (vertexWords ws i)
 unfolding fourFloats vertexWords
 of-vertex ws h i p =
@@ -116,7 +97,7 @@ of-vertex ws h i p =
     rw (lt-ltb i (length ws / 3) within) (of-float ws h (3 * i) (p .x), of-float ws h (3 * i + 1) (p .y), of-float ws h (3 * i + 2) (p .z))
 
 -- ---- the box
-told-by : (t : Bool) (r : FloatBox) → cond t notTold r .told ≡ 1 → t ≡ false
+pub told-by : (t : Bool) (r : FloatBox) → cond t notTold r .told ≡ 1 → t ≡ false
 unfolding notTold
 told-by true r e = absurd (omega (arith, e))
 told-by false r e = refl
@@ -128,13 +109,8 @@ box-by-floats ws h v1 v2 v3 e =
     let i : ℕ = v1 % 32768 in
     let j : ℕ = v2 % 32768 in
     let k : ℕ = v3 % 32768 in
-    let a : Floats4 = fourFloats (floatsOf ws) i in
-    let b : Floats4 = fourFloats (floatsOf ws) j in
-    let d : Floats4 = fourFloats (floatsOf ws) k in
-    let none : (nanIn a b || nanIn b d) ≡ false = told-by (nanIn a b || nanIn b d) (boxOf a b d) e in
-    let tests = neither (nanIn a b) (nanIn b d) none in
-    let first = both-plain a b (tests .0) in
-    let second = both-plain b d (tests .1) in
-    ap (λ (t : Bool). wordsOf (cond t notTold (boxOf a b d))) none
-    ∙ box-words a b d (vertexWords ws i) (vertexWords ws j) (vertexWords ws k)
-    (of-vertex ws h i (first .0)) (of-vertex ws h j (first .1)) (of-vertex ws h k (second .1))
+    let v : Vertices4 = verticesAt (floatsOf ws) i j k k in
+    let none : nanInThree v ≡ false = told-by (nanInThree v) (boxOfThree v) e in
+    let p = three-plain v none in
+    ap (λ (t : Bool). wordsOf (cond t notTold (boxOfThree v))) none
+    ∙ box-words v (vertexWords ws i) (vertexWords ws j) (vertexWords ws k) (of-vertex ws h i (p .0)) (of-vertex ws h j (p .1)) (of-vertex ws h k (p .2))

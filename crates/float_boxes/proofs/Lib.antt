@@ -1,2 +1,6 @@
 pub mod BoxLaws
-mod NanLaws
+mod FoldLaws
+mod MinusZero
+pub mod MovedLaws
+pub mod NanLaws
+pub mod TestLaws

@@ -8,7 +8,7 @@ ghost use Rattle.entries.specs.Plain.{Number};
 ghost use Rattle.float32.specs.Extremes.{vminWord, vmaxWord};
 ghost use Rattle.polygon_boxes.specs.Numbers.{Numbers};
 
-pub fn is_number(word: u32) -> bool
+fn is_number(word: u32) -> bool
     ensures { λ r. ⌜ (r ≡ true → Number word) ⌝ }
 {
     word % 0x8000_0000 <= 0x7f80_0000

@@ -7,7 +7,7 @@ use Rattle.entries.specs.declared.boxes.BoxWords.{BoxWords}
 use Rattle.entries.specs.declared.totals.Begun.{Begun}
 use Rattle.entries.specs.steps.Totals.{totalsAll}
 
--- where any are kept, they are those of the list's first places
+-- Rules T1 and T4, a step: where any totals are kept, they are those of the first places of the list.
 pub record Begins (at : ℕ → BoxWords) (b : Begun) (ps : List ℕ) : Type 0 where
   pub within : b .count ≤ length ps
   pub kept : 0 < b .count → b .totals ≡ totalsAll at (take (b .count) ps)

@@ -1,15 +1,18 @@
--- `greater`: by the test.
+-- `greater`: what its calls ensure.
+use borrow.Author.Needs.{needs}
 use Rattle.float_boxes.proofs.greater.Statement.{statement}
 use Rattle.float_boxes.proofs.greater.Tie as tie
-use mathlib.Core.Path.{refl}
-use mathlib.Core.Logic.{inl, inr}
-use native.Mathlib.Omega.{arith}
+use Rattle.float_boxes.specs.Floats.{greaterOf}
+
+vmax-requires : tie.Need-vmax-requires
+vmax-requires c κs = search needs
+
+vmax-requires-2 : tie.Need-vmax-requires-2
+vmax-requires-2 c κs = search needs
 
 returns : tie.Need-returns
-returns c = (omega arith, omega (arith, c .if1 .taken), inl refl)
-
-returns-2 : tie.Need-returns-2
-returns-2 c = (omega (arith, c .if1 .left), omega arith, inr refl)
+unfolding greaterOf
+returns c = λ i. record { vertex = c .before .vmax .ensures i; next = c .vmax2 .ensures i }
 
 pub greater-spec : {M : Type 1} → statement M
-greater-spec = tie.close (tie.spec returns returns-2)
+greater-spec = tie.close (tie.spec vmax-requires vmax-requires-2 returns)
