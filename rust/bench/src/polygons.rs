@@ -29,6 +29,9 @@ pub fn all() -> Vec<Subject> {
         row("materials, 8", LISTS, &[10_000], |n, seed| materials(n, 8, seed)),
         row("materials, 256", LISTS, &[10_000], |n, seed| materials(n, 256, seed)),
         row("bbox, triangles", ONE, ONE, |n, seed| boxes(&inputs(n, seed, corners), seed)),
+        row("bbox, spheres", ONE, ONE, |n, seed| boxes(&inputs(n, seed, |tame| of_kind(1, parts(tame))), seed)),
+        row("bbox, capsules", ONE, ONE, |n, seed| boxes(&inputs(n, seed, |tame| of_kind(2, parts(tame))), seed)),
+        row("bbox, boxes", ONE, ONE, |n, seed| boxes(&inputs(n, seed, |tame| of_kind(3, parts(tame))), seed)),
         row("bbox, mixed kinds", ONE, ONE, |n, seed| boxes(&inputs(n, seed, mixed), seed)),
         row("items, triangles", ENDS, ENDS, |n, seed| items(&inputs(n, seed, corners), seed)),
         row("items, mixed kinds", ENDS, ENDS, |n, seed| items(&inputs(n, seed, mixed), seed)),
@@ -75,10 +78,17 @@ fn corners(tame: &mut Tame) -> Polygon {
 
 /// Of any kind, of any vertices.
 fn mixed(tame: &mut Tame) -> Polygon {
+    let parts = parts(tame);
+    of_kind(tame.0.below(5), parts)
+}
+
+fn parts(tame: &mut Tame) -> ([u16; 4], f32) {
+    ([0; 4].map(|_| tame.0.below(VERTICES) as u16), tame.float().abs())
+}
+
+fn of_kind(kind: usize, ([a, b, c, d], radius): ([u16; 4], f32)) -> Polygon {
     let material = 0;
-    let [a, b, c, d] = [0; 4].map(|_| tame.0.below(VERTICES) as u16);
-    let radius = tame.float().abs();
-    match tame.0.below(5) {
+    match kind {
         0 => triangle([a, b, c]),
         1 => Polygon::Sphere { material, index: a, radius },
         2 => Polygon::Capsule { material, i1: a, i2: b, radius },

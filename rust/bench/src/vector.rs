@@ -1,4 +1,4 @@
-//! Whether the library's three hot loops, and a triangle's box, take several numbers at once. The source is written so that the compiler does
+//! Whether the library's three hot loops, and a polygon's box, take several numbers at once. The source is written so that the compiler does
 //! it, but nothing else would tell when it no longer does, and the loops would be slow again.
 
 use std::process::{Command, ExitCode};
@@ -57,7 +57,9 @@ impl Instruction<'_> {
 /// What the walk, the counts, the rays and the box have and what they lack, a line each; `Err` where one lacks something.
 fn judged(listing: &str) -> Result<String, String> {
     let functions = functions(listing);
-    let parts = [walk(&functions), counts(&functions), rays(&functions), corners(&functions)];
+    let triangle = corners(&functions, "triangle_float_box", 2);
+    let other = corners(&functions, "moved_float_box", 3);
+    let parts = [walk(&functions), counts(&functions), rays(&functions), triangle, other];
     let whole = parts.iter().all(Result::is_ok);
     let line = |found: Result<String, String>| match found {
         Ok(has) => format!("has     {has}\n"),
@@ -183,18 +185,16 @@ fn rays(functions: &[Function]) -> Result<String, String> {
     ))
 }
 
-/// Both corners of a triangle's box in four lanes: two minima and two maxima of three vertices.
-fn corners(functions: &[Function]) -> Result<String, String> {
-    let of = named(functions, &["triangle_float_box"]);
+/// Both corners of a box in four lanes: so many minima and maxima, one fewer than it has vertices.
+fn corners(functions: &[Function], name: &str, wanted: usize) -> Result<String, String> {
+    let of = named(functions, &[name]);
     let count = |name: &str| of.iter().flat_map(|f| &f.code).filter(|i| i.name == name).count();
     let (low, high) = (count("minps"), count("maxps"));
-    match (low, high) {
-        _ if of.is_empty() => Err("box: no function named triangle_float_box in the archive".to_string()),
-        (2.., 2..) => Ok(format!("box: {low} minps and {high} maxps in {}", names(&of))),
-        _ => Err(format!(
-            "box: {low} minps and {high} maxps in {}, two of each are wanted: a corner is made number by number",
-            names(&of)
-        )),
+    let found = format!("box: {low} minps and {high} maxps in {}", names(&of));
+    match low.min(high) {
+        _ if of.is_empty() => Err(format!("box: no function named {name} in the archive")),
+        enough if enough >= wanted => Ok(found),
+        _ => Err(format!("{found}, {wanted} of each are wanted: a corner is made number by number")),
     }
 }
 
@@ -277,6 +277,14 @@ mod tests {
  300:\tminps  %xmm1,%xmm13
  309:\tmaxps  %xmm0,%xmm15
  30d:\tmaxps  %xmm1,%xmm15
+
+0000000000000000 <bounds_moved_float_box>:
+  5d:\tminps  %xmm4,%xmm2
+  60:\tminps  %xmm5,%xmm2
+  63:\tminps  %xmm6,%xmm2
+  70:\tmaxps  %xmm4,%xmm0
+  73:\tmaxps  %xmm5,%xmm0
+  76:\tmaxps  %xmm6,%xmm0
 ";
 
     #[test]
@@ -287,6 +295,7 @@ mod tests {
             "has     counts: movups, cmpltps, psubd in bounds_build_bvh",
             "has     rays: 1 divps with 20 mulps or more around it in rays::rows::hits_in",
             "has     box: 2 minps and 2 maxps in bounds_triangle_float_box",
+            "has     box: 3 minps and 3 maxps in bounds_moved_float_box",
         ];
         assert_eq!(found.lines().collect::<Vec<_>>(), lines);
     }
@@ -307,11 +316,13 @@ mod tests {
     #[test]
     fn a_box_number_by_number_is_found() {
         let judge = |corners: &str| judged(&format!("{WALK}\n{COUNTS}\n{}\n{corners}", rays("divps", 26)));
+        let lacks = |corners: &str, what: &str| judge(corners).expect_err("number by number").contains(what);
         let once = CORNERS.replace(" 30d:\tmaxps  %xmm1,%xmm15\n", "");
-        assert!(judge(&once)
-            .expect_err("one")
-            .contains("LACKS   box: 2 minps and 1 maxps in bounds_triangle_float_box"));
-        assert!(judge("").expect_err("none").contains("LACKS   box: no function named triangle_float_box"));
+        assert!(lacks(&once, "LACKS   box: 2 minps and 1 maxps in bounds_triangle_float_box, 2 of each are wanted"));
+        let twice = CORNERS.replace("  63:\tminps  %xmm6,%xmm2\n", "");
+        assert!(lacks(&twice, "LACKS   box: 2 minps and 3 maxps in bounds_moved_float_box, 3 of each are wanted"));
+        assert!(lacks("", "LACKS   box: no function named triangle_float_box"));
+        assert!(lacks("", "LACKS   box: no function named moved_float_box"));
     }
 
     #[test]

@@ -2,6 +2,7 @@
  * cc -std=c11 -Wall -Wextra -Iinclude examples/polygons.c LIBDIR/libbounds.a -o polygons && ./polygons */
 #include "bounds.h"
 #include <inttypes.h>
+#include <math.h>
 #include <stdio.h>
 #include <string.h>
 
@@ -63,6 +64,27 @@ static void triangles(void) {
     number("a NaN last: its bits", bounds_triangle_bbox(1, 2, 0, words, 10).max.y, 0xFFC12345);
 }
 
+/* The same by floats of the other kinds: vertices (1, 2, 3), (-4, 5, -6), (7, -8, -0). */
+static void moved(void) {
+    static const float floats[10] = {1, 2, 3, -4, 5, -6, 7, -8, -0.0f, 0};
+    bounds_float_box b = bounds_moved_float_box(0, 0, 0, 0, 1.5f, 1.5f, floats, 10);
+    number("moved: sphere: told", b.told, 1);
+    number("moved: sphere: twice min x", (int64_t)(2 * b.min.x), -1);
+    number("moved: sphere: twice max z", (int64_t)(2 * b.max.z), 9);
+    b = bounds_moved_float_box(0, 0, 0, 1, 1, 1, floats, 10);
+    number("moved: capsule: min z", (int64_t)b.min.z, -7);
+    number("moved: capsule: max y", (int64_t)b.max.y, 6);
+    b = bounds_moved_float_box(2, 2, 2, 2, 0.0f, -0.0f, floats, 10);
+    number("moved: box: -0 stays, min z", signbit(b.min.z) != 0, 1);
+    number("moved: box: -0 stays, max z", signbit(b.max.z) != 0, 1);
+    b = bounds_moved_float_box(0, 1, 0, 2, 0.0f, -0.0f, floats, 10);
+    number("moved: box: min y", (int64_t)b.min.y, -8);
+    number("moved: box: max x", (int64_t)b.max.x, 7);
+    number("moved: bit 15 counts: told", bounds_moved_float_box(0, 0, 0, 0x8000, 1, 1, floats, 10).told, 0);
+    number("moved: none behind the last: told", bounds_moved_float_box(2, 0, 0, 0, 1, 1, floats, 9).told, 0);
+    number("moved: a NaN for a radius: told", bounds_moved_float_box(0, 0, 0, 0, NAN, NAN, floats, 10).told, 0);
+}
+
 static void boxes(void) {
     static const uint32_t vertices[6] = {0x3F800000, 0x40000000, 0x40400000, 0, 0, 0}; /* (1, 2, 3), (0, 0, 0) */
     bounds_polygon sphere = {1, 0x3F800000, 0, 0, 0, 0, 0, 0};
@@ -72,6 +94,7 @@ static void boxes(void) {
     number("triangle: max y", bounds_polygon_bbox(triangle(0x8000, 1, 9), vertices, 6).max.y, 0x40000000);
     number("by numbers: triangle", bounds_triangle_bbox(0x8000, 1, 9, vertices, 6).max.y, 0x40000000);
     triangles();
+    moved();
     number("by numbers: sphere", bounds_sphere_bbox(0, 1.0f, vertices, 6).max.z, 0x40800000);
     number("by numbers: capsule", bounds_capsule_bbox(0, 1, 1.0f, vertices, 6).min.x, 0xBF800000);
     number("by numbers: box", bounds_box_bbox(1, 9, 1, 0, vertices, 6).max.x, 0x3F800000);

@@ -243,7 +243,7 @@ typedef struct {
 typedef struct { bounds_words3 min, max; } bounds_polygon_box;
 
 /* A box as two runs of four floats, where told is 1; 0 throughout where it is 0. A spare float is the least, or the greatest,
- * of those behind the three vertices. */
+ * of those behind the vertices, moved as the corner is. */
 typedef struct {
     bounds_vec3 min;
     float spare_min;
@@ -275,6 +275,13 @@ bounds_polygon_box bounds_triangle_word_box(uint16_t v1, uint16_t v2, uint16_t v
 /* The same over floats, three a vertex, and quicker. It is told where none of the nine is a NaN, nor one of the three floats that
  * stand behind the vertices, and none of the twelve is missing. */
 bounds_float_box bounds_triangle_float_box(uint16_t v1, uint16_t v2, uint16_t v3, const float *vertices, size_t vertices_len);
+
+/* The same of the other kinds, with no branch on the kind: the box of four vertices, its least corner less low and its greatest plus
+ * high. A sphere's is that of i, i, i, i with its radius twice; a capsule's and a cylinder's that of i1, i1, i1, i2; a box's that of its
+ * four with 0.0f and -0.0f, which leave every float as it is. It is told where none of the sixteen floats is missing and no sum of the
+ * four vertices, nor of the two corners, is a NaN: so no float is one. */
+bounds_float_box bounds_moved_float_box(uint32_t i1, uint32_t i2, uint32_t i3, uint32_t i4, float low, float high,
+                                        const float *vertices, size_t vertices_len);
 
 /* By floats where that is told, else by words. */
 static inline bounds_polygon_box bounds_triangle_bbox(uint16_t v1, uint16_t v2, uint16_t v3, const uint32_t *vertices,

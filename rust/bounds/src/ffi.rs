@@ -6,6 +6,7 @@
 //! total and in bounds for every argument that its C signature admits.
 #![allow(unsafe_code)]
 
+use crate::geometry::Polygon;
 use crate::prepare::{Bound, Frame};
 use crate::types::{BoundMaterial, BoundVertex, BvhItem, Child, Mat4, Records, ShrinkBound, Vec3, Vec4};
 
@@ -359,6 +360,16 @@ unsafe extern "C" {
     fn bounds_polygon_write(out: *mut u8, out_len: usize, polygon: PolygonC) -> u32;
     fn bounds_polygon_bbox(polygon: PolygonC, vertices: *const u32, vertices_len: usize) -> BoxAnswer;
     fn bounds_triangle_float_box(v1: u16, v2: u16, v3: u16, vertices: *const f32, vertices_len: usize) -> FloatBox;
+    fn bounds_moved_float_box(
+        i1: u32,
+        i2: u32,
+        i3: u32,
+        i4: u32,
+        low: f32,
+        high: f32,
+        vertices: *const f32,
+        vertices_len: usize,
+    ) -> FloatBox;
     fn bounds_triangle_word_box(v1: u16, v2: u16, v3: u16, vertices: *const u32, vertices_len: usize) -> PolygonBox;
     fn bounds_sphere_bbox(index: u16, radius: f32, vertices: *const u32, vertices_len: usize) -> PolygonBox;
     fn bounds_capsule_bbox(i1: u16, i2: u16, radius: f32, vertices: *const u32, vertices_len: usize) -> PolygonBox;
@@ -427,6 +438,71 @@ pub fn triangle_float_box([v1, v2, v3]: [u16; 3], vertices: &[Vec3]) -> FloatBox
     // SAFETY: the pointer comes from a slice, which is only read, and goes with its length in floats: a point is `repr(C)`, three
     // f32 without padding. The numbers may be any: the library reads a float only where the slice has it.
     unsafe { bounds_triangle_float_box(v1, v2, v3, vertices.as_ptr().cast(), 3 * vertices.len()) }
+}
+
+/// By the kind, what its box by floats is made of; of a triangle without the mask, which its own function has.
+struct BoxParts {
+    /// Where the numbers of its vertices stand, as [`places`] has it.
+    numbers: [u32; 8],
+    /// Which bits of the word at byte 4, the radius if it has one, are taken from the least corner: all, or none, which is 0.
+    keep: [u32; 8],
+    /// What is set in that for what is added to the greatest corner: nothing, or the sign, since -0 and not 0 leaves -0 as it is.
+    set: [u32; 8],
+}
+
+/// The first number stands at byte 2, the second at `second`, the third at twice that less 2, the fourth at `fourth`; a kind with fewer
+/// has its first again. Both are one word, which is read at once.
+const fn places(second: u32, fourth: u32) -> u32 {
+    second | fourth << 16
+}
+
+const SIGN: u32 = 1 << 31;
+
+/// Of five kinds, and as long as no index is outside.
+const BOX_PARTS: BoxParts = BoxParts {
+    numbers: [
+        places(4, 6),
+        places(2, 2),
+        places(2, 8),
+        places(4, 8),
+        places(2, 8),
+        places(2, 2),
+        places(2, 2),
+        places(2, 2),
+    ],
+    keep: [0, !0, !0, 0, !0, 0, 0, 0],
+    set: [SIGN, 0, 0, SIGN, 0, 0, 0, 0],
+};
+
+/// The numbers of four vertices, what is taken from the least corner of their box, and what is added to the greatest.
+#[inline]
+fn corners(polygon: &Polygon) -> ([u16; 4], f32, f32) {
+    let first = std::ptr::from_ref(polygon).cast::<u8>();
+    // SAFETY: a polygon is `repr(u8)`, so its first byte is its kind, and behind that its fields stand as in a `repr(C)` struct. At each
+    // place that is read its kind has a field of two bytes, at byte 4 a field of four or two of two, all initialised; places of two
+    // bytes are even, and a polygon begins at a multiple of 4. The pointer comes from a reference to the whole of it. A test below holds
+    // what is read to the fields.
+    let (kind, numbers, word) = unsafe {
+        let kind = usize::from(*first & 7);
+        let both = BOX_PARTS.numbers[kind];
+        let (second, fourth) = ((both & 0xFFFF) as usize, (both >> 16) as usize);
+        let number = |at: usize| first.add(at).cast::<u16>().read();
+        (kind, [number(2), number(second), number(2 * second - 2), number(fourth)], first.add(4).cast::<u32>().read())
+    };
+    let kept = word & BOX_PARTS.keep[kind];
+    (numbers, f32::from_bits(kept), f32::from_bits(kept | BOX_PARTS.set[kind]))
+}
+
+const _: () = assert!(size_of::<Polygon>() == 20 && align_of::<Polygon>() == 4);
+
+/// `bounds_moved_float_box` of a polygon that is no triangle, over vertices as they lie in memory: the same steps for each kind, so that
+/// nothing is waited for where kinds are mixed.
+#[inline]
+pub fn moved_float_box(polygon: &Polygon, vertices: &[Vec3]) -> FloatBox {
+    let (numbers, low, high) = corners(polygon);
+    let [i1, i2, i3, i4] = numbers.map(u32::from);
+    // SAFETY: as for a triangle's; float arithmetic has an answer for any floats.
+    unsafe { bounds_moved_float_box(i1, i2, i3, i4, low, high, vertices.as_ptr().cast(), 3 * vertices.len()) }
 }
 
 /// `bounds_triangle_word_box`.
@@ -1178,6 +1254,37 @@ const _: () = {
 #[cfg(test)]
 mod tests {
     use super::*;
+
+    /// What `corners` is to find, by the fields of each kind.
+    fn fields(polygon: Polygon) -> ([u16; 4], u32, u32) {
+        let grown = |numbers, radius: f32| (numbers, radius.to_bits(), radius.to_bits());
+        let plain = |numbers| (numbers, 0.0_f32.to_bits(), (-0.0_f32).to_bits());
+        match polygon {
+            Polygon::Triangle { v: [a, b, c], .. } => plain([a, b, c, c]),
+            Polygon::Sphere { index, radius, .. } => grown([index; 4], radius),
+            Polygon::Capsule { i1, i2, radius, .. } | Polygon::Cylinder { i1, i2, radius, .. } => {
+                grown([i1, i1, i1, i2], radius)
+            }
+            Polygon::Box { i, .. } => plain(i.map(|i| i as u16)),
+        }
+    }
+
+    #[test]
+    fn corners_are_the_fields_of_each_kind() {
+        let (material, i1, i2) = (0xAB, 0x1234, 0xFEDC);
+        for radius in [0.0, -0.0, 1.5, -1.5, f32::INFINITY, f32::NAN, f32::from_bits(0xFF81_2345), f32::from_bits(1)] {
+            for polygon in [
+                Polygon::Triangle { material, v: [i1, i2, 0x5678], area: radius, edges: [-1, 2, -3] },
+                Polygon::Sphere { material, index: i2, radius },
+                Polygon::Capsule { material, i1, i2, radius },
+                Polygon::Box { material, i: [0x0102, -0x0304, 0x0506, -0x0708] },
+                Polygon::Cylinder { material, i1, i2, radius },
+            ] {
+                let (numbers, low, high) = corners(&polygon);
+                assert_eq!((numbers, low.to_bits(), high.to_bits()), fields(polygon), "{polygon:?}");
+            }
+        }
+    }
 
     const ENTRIES: usize = 3;
     /// Entries, places, temp, stack, rows, centres.

@@ -49,14 +49,16 @@ pub const MATERIALS_LEN: usize = 2048;
 /// assert_eq!(Polygon::read(&bytes)?, Polygon::Capsule { material: 0, i1: 4, i2: 5, radius: 0.5 });
 /// # Ok::<(), bounds::Refusal>(())
 /// ```
+// The layout is told, and each kind has its numbers from byte 2 on: a box is made of them without a branch on the kind.
 #[derive(Clone, Copy, Debug, PartialEq)]
 #[allow(missing_docs)]
+#[repr(u8)]
 pub enum Polygon {
-    Triangle { material: u8, area: f32, v: [u16; 3], edges: [i16; 3] },
+    Triangle { material: u8, v: [u16; 3], area: f32, edges: [i16; 3] },
     Sphere { material: u8, index: u16, radius: f32 },
-    Capsule { material: u8, i1: u16, i2: u16, radius: f32 },
+    Capsule { material: u8, i1: u16, radius: f32, i2: u16 },
     Box { material: u8, i: [i16; 4] },
-    Cylinder { material: u8, i1: u16, i2: u16, radius: f32 },
+    Cylinder { material: u8, i1: u16, radius: f32, i2: u16 },
 }
 
 impl Polygon {
@@ -139,14 +141,14 @@ impl Polygon {
     /// ```
     #[inline]
     pub fn bbox(&self, vertices: &[Vec3]) -> (Vec3, Vec3) {
-        if let Polygon::Triangle { v, .. } = *self {
-            let FloatBox { min, max, told, .. } = ffi::triangle_float_box(v, vertices);
-            if told != 0 {
-                return (floats(min), floats(max));
-            }
+        let mut found = match *self {
+            Polygon::Triangle { v, .. } => ffi::triangle_float_box(v, vertices),
+            _ => ffi::moved_float_box(self, vertices),
+        };
+        if found.told == 0 {
+            self.box_by_words(vertices, &mut found);
         }
-        let PolygonBox { min, max } = self.word_box(vertices);
-        (floats(min), floats(max))
+        (floats(found.min), floats(found.max))
     }
 
     /// The same box by the struct that a C caller hands over, `bounds_polygon_bbox`: slower, since the struct is stored and
@@ -164,8 +166,14 @@ impl Polygon {
         (floats(answer.min), floats(answer.max))
     }
 
-    /// Of a triangle's box by words, where a NaN keeps its bits. Apart, so that its box by floats is small enough to be compiled
-    /// into the caller's loop.
+    /// The box by words, where a NaN keeps its bits and a vertex may be missing. It is stored where the box by floats stands, so that
+    /// a caller reads both alike; apart, so that what is left is small enough to be compiled into the caller's loop.
+    #[cold]
+    fn box_by_words(&self, vertices: &[Vec3], found: &mut FloatBox) {
+        let PolygonBox { min, max } = self.word_box(vertices);
+        (found.min, found.max) = (min, max);
+    }
+
     fn word_box(&self, vertices: &[Vec3]) -> PolygonBox {
         let words = ffi::vector_words(vertices);
         match *self {
