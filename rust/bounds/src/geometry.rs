@@ -356,10 +356,11 @@ pub fn calculate_quantum(box_min: Vec3, box_max: Vec3) -> Vec3 {
 mod tests {
     use super::*;
 
-    /// Signs, a tie of zeros, an infinity, and NaN whose bits are to be kept; vertex 3 is the last.
-    const VERTICES: [[u32; 3]; 4] = [
+    /// Signs, a tie of zeros, a -0 by itself, an infinity, and NaN whose bits are to be kept; vertex 4 is the last.
+    const VERTICES: [[u32; 3]; 5] = [
         [0x3F80_0000, 0x8000_0000, 0x7F80_0001],
         [0xC000_0000, 0x0000_0000, 0x4040_0000],
+        [0x8000_0000, 0x4000_0000, 0x8000_0000],
         [0x7F80_0000, 0x3F00_0000, 0xBF80_0000],
         [0x0000_0001, 0xFFC0_0002, 0x4000_0000],
     ];
@@ -380,8 +381,8 @@ mod tests {
     fn by_the_kind_as_by_the_struct() {
         let vertices = VERTICES.map(|[x, y, z]| floats(ffi::Words3 { x, y, z }));
         let bits = |v: Vec3| [v.x, v.y, v.z].map(f32::to_bits);
-        let numbers = [0, 1, 2, 3, 4, 0x8001, 0xFFFF];
-        let lists = (0..7_usize.pow(4)).map(|k| [k, k / 7, k / 49, k / 343].map(|k| numbers[k % 7]));
+        let numbers = [0, 1, 2, 3, 4, 5, 0x8001, 0xFFFF];
+        let lists = (0..8_usize.pow(4)).map(|k| [k, k / 8, k / 64, k / 512].map(|k| numbers[k % 8]));
         for n in lists {
             for (kind, radius) in [(0, 1.0), (1, 0.5), (1, f32::NAN), (2, -0.0), (3, 1.0), (4, f32::INFINITY)] {
                 let polygon = of_kind(kind, n, radius);
