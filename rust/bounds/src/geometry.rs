@@ -49,11 +49,11 @@ pub const MATERIALS_LEN: usize = 2048;
 /// assert_eq!(Polygon::read(&bytes)?, Polygon::Capsule { material: 0, i1: 4, i2: 5, radius: 0.5 });
 /// # Ok::<(), bounds::Refusal>(())
 /// ```
-// The layout is told, and each kind has its numbers from byte 2 on: a box is made of them without a branch on the kind.
 #[derive(Clone, Copy, Debug, PartialEq)]
 #[allow(missing_docs)]
 #[repr(u8)]
 pub enum Polygon {
+    // Numbers of vertices from byte 2 on, a radius at byte 4: there ffi.rs reads them without a branch on the kind.
     Triangle { material: u8, v: [u16; 3], area: f32, edges: [i16; 3] },
     Sphere { material: u8, index: u16, radius: f32 },
     Capsule { material: u8, i1: u16, radius: f32, i2: u16 },
