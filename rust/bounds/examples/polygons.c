@@ -77,9 +77,11 @@ static void moved(void) {
     b = bounds_moved_float_box(2, 2, 2, 2, 0.0f, -0.0f, floats, 10);
     number("moved: box: -0 stays, min z", signbit(b.min.z) != 0, 1);
     number("moved: box: -0 stays, max z", signbit(b.max.z) != 0, 1);
-    b = bounds_moved_float_box(0, 1, 0, 2, 0.0f, -0.0f, floats, 10);
-    number("moved: box: min y", (int64_t)b.min.y, -8);
-    number("moved: box: max x", (int64_t)b.max.x, 7);
+    b = bounds_moved_float_box(0, 1, 2, 0, 0.0f, -0.0f, floats, 10);
+    number("moved: box: max z, of the first", (int64_t)b.max.z, 3);
+    number("moved: box: min x, of the second", (int64_t)b.min.x, -4);
+    number("moved: box: min y, of the third", (int64_t)b.min.y, -8);
+    number("moved: box: max x, of the third", (int64_t)b.max.x, 7);
     number("moved: bit 15 counts: told", bounds_moved_float_box(0, 0, 0, 0x8000, 1, 1, floats, 10).told, 0);
     number("moved: none behind the last: told", bounds_moved_float_box(2, 0, 0, 0, 1, 1, floats, 9).told, 0);
     number("moved: a NaN for a radius: told", bounds_moved_float_box(0, 0, 0, 0, NAN, NAN, floats, 10).told, 0);

@@ -2,7 +2,7 @@
 //!
 //! Names and types are those of the source that was ported (rage-formats). Every function calls the proved library
 //! (`libbounds.a`, `libbounds_prepare.a`); ffi.rs is the one file with unsafe code, and nothing here computes by itself but
-//! [`BvhItem::meets`], which compares two boxes.
+//! [`BvhItem::meets`], which compares two boxes; of a polygon it is chosen here which numbers its box is made of.
 //!
 //! - [`float`]: one float step each, on values and on words (a float's 32 bits).
 //! - [`math`]: points, boxes and transforms.
