@@ -392,15 +392,15 @@ pub extern "C" fn bounds_walk(
 
 // ---- premises of the walk's promise
 
-ghost use Rattle.premises.specs.Judgement.{Judged};
+ghost use Rattle.tree.specs.premises.Judgement.{Judged};
 
 // Whether the entries meet the premises under which a walk misses nothing, and what breaks them first where not.
 #[no_mangle]
 pub extern "C" fn bounds_ordinary(
     entry_count: usize,
     entries: &[u32],
-) -> premises::ordinary::Premises
+) -> tree::premises::ordinary::Premises
     ensures { λ r. ⌜ Judged (entriesIn «entry_count» (take (7 * «entry_count») (now (entries .entry)))) (length (now (entries .entry))) r ⌝ }
 {
-    premises::ordinary::ordinary(entry_count, entries)
+    tree::premises::ordinary::ordinary(entry_count, entries)
 }

@@ -1,3 +1,4 @@
 pub mod Pair
 pub mod Visit
 pub mod WellFormed
+pub mod premises

@@ -1,2 +1,3 @@
 // A build and the walk over its records, as one.
 pub mod pair;
+pub mod premises;
