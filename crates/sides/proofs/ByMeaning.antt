@@ -46,17 +46,23 @@ module _ (cs : List ℕ) where
       rising-sift (λ t. t) (λ t. eqb (keyOf cs t) (keyOf cs s)) (sidesOf cs)
       (rising-sift (λ t. t) (there cs) (upFrom 0 (length cs)) (counting-rises 0 (length cs)))
 
-  module _ (small : Corners cs) where
-    pub one-key : (s t : ℕ) → OnEdge cs s t → keyOf cs t ≡ keyOf cs s
-    unfolding keyOf
-    one-key s t o =
-        ⊎-elim (λ e. ap₂ pairOf (e .0) (e .1)) (λ e. ap₂ pairOf (e .0) (e .1) ∙ either-way (getD cs (nextOf s) 0) (getD cs s 0)) (o .corners)
+  pub one-key : (s t : ℕ) → OnEdge cs s t → keyOf cs t ≡ keyOf cs s
+  unfolding keyOf
+  one-key s t o =
+      ⊎-elim (λ e. ap₂ pairOf (e .0) (e .1)) (λ e. ap₂ pairOf (e .0) (e .1) ∙ either-way (getD cs (nextOf s) 0) (getD cs s 0)) (o .corners)
 
+  -- Whatever lies on the edge of s is among the sides of its key.
+  pub on-edge-same : (s t : ℕ) → OnEdge cs s t → Among t (sameAs cs s)
+  on-edge-same s t o =
+      subst (λ (k : ℕ). Among t (withKey (keyOf cs) k (sidesOf cs))) (one-key s t o)
+      (omega (arith, occurs-with (keyOf cs) t (sidesOf cs), among-sides t (o .other)))
+
+  module _ (c : Corners cs) where
     pub one-edge : (s t : ℕ) → IsSide cs s → IsSide cs t → keyOf cs t ≡ keyOf cs s → OnEdge cs s t
     unfolding keyOf
     one-edge s t i j e =
-        let own = small .small s (i .within) (i .of-triangle) in
-        let other = small .small t (j .within) (j .of-triangle) in
+        let own = c .small s (i .within) (i .of-triangle) in
+        let other = c .small t (j .within) (j .of-triangle) in
         record {
           own = i;
           other = j;
@@ -64,12 +70,7 @@ module _ (cs : List ℕ) where
               same-corners (getD cs t 0) (getD cs (nextOf t) 0) (getD cs s 0) (getD cs (nextOf s) 0) (other .0) (other .1) (own .0) (own .1) e;
         }
 
-    -- The sides of one key are those on one edge.
-    pub on-edge-same : (s t : ℕ) → OnEdge cs s t → Among t (sameAs cs s)
-    on-edge-same s t o =
-        subst (λ (k : ℕ). Among t (withKey (keyOf cs) k (sidesOf cs))) (one-key s t o)
-        (omega (arith, occurs-with (keyOf cs) t (sidesOf cs), among-sides t (o .other)))
-
+    -- And whatever is among them lies on it.
     pub same-on-edge : (s t : ℕ) → IsSide cs s → Among t (sameAs cs s) → OnEdge cs s t
     same-on-edge s t i m =
         let sides = every-sift (λ u. IsSide cs u) (λ u. eqb (keyOf cs u) (keyOf cs s)) (sidesOf cs) (every-of (IsSide cs) (sidesOf cs) side-among) in
@@ -78,7 +79,7 @@ module _ (cs : List ℕ) where
 
 -- ---- the link of a side
 
-module _ (cs : List ℕ) (small : Corners cs) (s : ℕ) (within : s < length cs) where
+module _ (cs : List ℕ) (c : Corners cs) (s : ℕ) (within : s < length cs) where
   -- Whatever holds of the link in each of 01's three cases holds of it: one of them is there.
   pub by-edge : (P : ℕ → Type 0) → (((t : ℕ) → OnEdge cs s t → t ≡ s) → P none) → ((t : ℕ) → NextOn cs s t → P (t / 3))
       → ((f : ℕ) → FirstOn cs s f → f < s → P (f / 3)) → P (linkOf cs s)
@@ -121,8 +122,8 @@ module _ (cs : List ℕ) (small : Corners cs) (s : ℕ) (within : s < length cs)
       by-side : (b : Bool) → there cs s ≡ b → P (linkOf cs s)
       by-side true e =
           let i : IsSide cs s = record { within = within; of-triangle = e } in
-          by-list e (record { own = i; other = i; corners = inl (refl, refl) }) (sameAs cs s) refl (edge-rises cs s) (on-edge-same cs small s)
-          (λ t. same-on-edge cs small s t i)
+          by-list e (record { own = i; other = i; corners = inl (refl, refl) }) (sameAs cs s) refl (edge-rises cs s) (on-edge-same cs s)
+          (λ t. same-on-edge cs c s t i)
       by-side false e = subst P (sym (no-side cs s e)) (alone (λ t o. absurd (true≢false (sym (o .own .of-triangle) ∙ e))))
 
   -- The link of every side is what 01 says of it.
