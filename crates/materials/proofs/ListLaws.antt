@@ -146,7 +146,7 @@ absent (y ∷ ys) x h = go (eqb y x) refl (absent ys x)
     go true e f = let k : suc (length ys) ≤ 0 = rw e at h in absurd (omega arith)
     go false e f = let k : suc (length ys) ≤ 1 + placeIn ys x = rw e at h in rw e (f (omega arith))
 
-abbrev Once : List ℕ → Type 0
+abbrev pub Once : List ℕ → Type 0
 Once xs = (x : ℕ) → occurrences x xs ≤ 1
 
 once-last : (xs : List ℕ) (x y : ℕ) → occurrences x xs ≡ 0 → occurrences y xs ≤ 1 → occurrences y (xs ++ (x ∷ [])) ≤ 1
@@ -169,7 +169,7 @@ listed-once ms = once-from [] ms (λ x. omega arith)
 
 -- ---- how many
 
-from-among : (vs xs ms : List ℕ) → Every (λ x. Among x vs) xs → Every (λ x. Among x vs) ms → Every (λ x. Among x vs) (listFrom xs ms)
+pub from-among : (vs xs ms : List ℕ) → Every (λ x. Among x vs) xs → Every (λ x. Among x vs) ms → Every (λ x. Among x vs) (listFrom xs ms)
 from-among vs xs [] v w = v
 from-among vs xs (m ∷ ms) v w =
     from-among vs (admit xs m) ms
@@ -198,7 +198,7 @@ others v vs (x ∷ xs) w = go (eqb x v) refl (others v vs xs (w .1))
         (⊎-elim (λ q. absurd (ne (sym q))) (λ m. m) (among-cases x v vs (w .0)), i)
 
 -- a list in which none stands twice is no longer than one that has them all
-once-fits : (vs xs : List ℕ) → Once xs → Every (λ x. Among x vs) xs → length xs ≤ length vs
+pub once-fits : (vs xs : List ℕ) → Once xs → Every (λ x. Among x vs) xs → length xs ≤ length vs
 once-fits [] [] o w = omega arith
 once-fits [] (x ∷ xs) o w = absurd (omega (arith, w .0))
 once-fits (v ∷ vs) xs o w =

@@ -53,7 +53,7 @@ among-at (x ∷ xs) zero h = among-head x xs
 among-at (x ∷ xs) (suc i) h = among-tail (getD xs i 0) x xs (among-at xs i (omega arith))
 
 -- one that is there has a place
-place-there : (xs : List ℕ) (x : ℕ) → Among x xs → placeIn xs x < length xs
+pub place-there : (xs : List ℕ) (x : ℕ) → Among x xs → placeIn xs x < length xs
 place-there xs x m = go (leb (length xs) (placeIn xs x)) refl
   where
     go : (b : Bool) → leb (length xs) (placeIn xs x) ≡ b → placeIn xs x < length xs

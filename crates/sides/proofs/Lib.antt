@@ -1,3 +1,4 @@
+pub mod ByMeaning
 pub mod EveryOf
 pub mod KeyedLaws
 pub mod LinkLaws

@@ -1,4 +1,5 @@
 pub mod Links
 pub mod Lists
+pub mod Meaning
 pub mod Sides
 pub mod steps

@@ -20,7 +20,7 @@ linkAmong s (f ∷ (g ∷ gs)) = cond (eqb s f) (g / 3) (f / 3)
 abbrev pub sameAs : List ℕ → ℕ → List ℕ
 sameAs cs s = withKey (keyOf cs) (keyOf cs s) (sidesOf cs)
 
--- Rule E2: none where there is no side.
+-- Rule E2: none where there is no side. In the words of 01, over corners alone, this is Meaning's `LinkMeaning`.
 unfoldable pub linkOf : List ℕ → ℕ → ℕ
 linkOf cs s = cond (there cs s) (linkAmong s (sameAs cs s)) none
 

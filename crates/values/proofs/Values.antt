@@ -1,17 +1,23 @@
 -- Document 01, "Values to check": those marked to be proved, each by computing the definition that a contract cites. Assumes nothing.
-use mathlib.Core.Path.{_≡_, refl}
-use mathlib.Core.Bool.{false}
-use mathlib.Core.List.{List, [], _∷_}
-use Prim.Native.Nat.{ℕ}
-use lib.IntN.{pos, negsuc}
-use lib.Ieee.{nan, inf, neg, sub, mul, lt, le, isNan, toSigned, binary32, ofBits, toBits}
-use Rattle.base.specs.LittleEndian.{littleEndian}
+use mathlib.Core.Path.{_≡_, refl, ap, _∙_}
+use mathlib.Core.Bool.{true, false}
+use mathlib.Core.List.{List, [], _∷_, _++_}
+use Prim.Native.Nat.{ℕ, _*_, _/_, _%_}
+use native.Mathlib.Omega.{arith}
+use borrow.Author.Tests.{eq-eqb}
+use lib.Dec.{eqb}
+use lib.ListN.{take, drop}
+use lib.IntN.{ℤ, pos, negsuc}
+use lib.Ieee.{Float, nan, inf, neg, sub, mul, lt, le, isNan, toSigned, binary32, ofBits, toBits}
+use Rattle.base.specs.LittleEndian.{littleEndian, leAt}
+use Rattle.base.specs.Lists.{over}
 use Rattle.float32.specs.Casts.{shortOf, clampOf, truncatedOf, vertexOf}
 use Rattle.float32.specs.SquareRoot.{sqrtOf}
 use Rattle.sides.specs.Links.{linkOf, linksOf}
 use Rattle.sides.specs.Sides.{pairOf, keyOf}
 use Rattle.materials.specs.Materials.{materialOf, valueAt, valuesOf, admit, listOf, indicesOf}
-use Rattle.corners.specs.Corners.{none, nextOf}
+use Rattle.corners.specs.Corners.{none, nextOf, isTriangle, cornerOf, cornersAt, cornersOf, linkBytes, linkedRecord, linkedRecords, linksPut}
+use Rattle.edges.specs.Edges.{linked}
 use Rattle.polygon.specs.Halves.{fourBytes, halvesBytes}
 use Rattle.polygon.specs.Polygons.{wordOr, triangleHalves, polygonBytes}
 use Rattle.polygon.specs.declared.Polygon.the-variants.{Triangle}
@@ -71,6 +77,47 @@ triangle-3f800005 beside = refl
 pub links-3 : linksOf (0 ∷ 1 ∷ 2 ∷ 2 ∷ 1 ∷ 3 ∷ 1 ∷ 2 ∷ 4 ∷ []) ≡ none ∷ 1 ∷ none ∷ 0 ∷ none ∷ none ∷ 0 ∷ none ∷ none ∷ []
 unfolding nextOf pairOf keyOf linkOf
 links-3 = refl
+
+-- The low three bits of a triangle's first byte are 0, whatever the word of its area is.
+kind-0 : (word : ℕ) → eqb (word % 65536 / 8 * 8 % 256 % 8) 0 ≡ true
+kind-0 word = eq-eqb (word % 65536 / 8 * 8 % 256 % 8) 0 (omega arith)
+
+-- the corners of three triangles, and their records with these links
+module _ (bytes : List ℕ) (first : isTriangle bytes 0 ≡ true) (second : isTriangle bytes 1 ≡ true) (third : isTriangle bytes 2 ≡ true) where
+  abbrev cornersIn : ℕ → List ℕ
+  cornersIn p = cornerOf bytes p 0 ∷ cornerOf bytes p 1 ∷ cornerOf bytes p 2 ∷ []
+
+  corners-of-3 : cornersOf 3 bytes ≡ cornersIn 0 ++ cornersIn 1 ++ cornersIn 2
+  unfolding cornersAt
+  corners-of-3 = rw (first, second, third)
+
+  abbrev recordWith : List ℕ → ℕ → List ℕ
+  recordWith links p = take 10 (take 16 (drop (16 * p) bytes)) ++ linkBytes links p
+
+  records-of-3 : (links : List ℕ) → linkedRecords 3 links bytes ≡ recordWith links 0 ++ recordWith links 1 ++ recordWith links 2
+  unfolding linkedRecord
+  records-of-3 links = rw (first, second, third)
+
+-- the records of the triangles (0,1,2), (2,1,3), (1,2,4), whatever their areas are and the words beside these, with three links each
+abbrev triangles-3 : (ℕ → Float) → (ℕ → ℕ) → ℤ → ℤ → ℤ → ℤ → ℤ → ℤ → ℤ → ℤ → ℤ → List ℕ
+triangles-3 area beside a b c d e f g h i =
+    polygonBytes (Triangle (area 0) (beside 0) 0 1 2 a b c) ++ polygonBytes (Triangle (area 1) (beside 1) 2 1 3 d e f)
+    ++ polygonBytes (Triangle (area 2) (beside 2) 1 2 4 g h i)
+
+-- Once they are linked, whatever links they came with, the records have the links (−1,1,−1), (0,−1,−1), (0,−1,−1).
+pub linked-3 : (area : ℕ → Float) (beside : ℕ → ℕ) (a b c d e f g h i : ℤ)
+    → linked 3 (triangles-3 area beside a b c d e f g h i)
+    ≡ triangles-3 area beside (negsuc 0) (pos 1) (negsuc 0) (pos 0) (negsuc 0) (negsuc 0) (pos 0) (negsuc 0) (negsuc 0)
+unfolding linked linksPut linkBytes leAt polygonBytes halvesBytes fourBytes littleEndian triangleHalves
+linked-3 area beside a b c d e f g h i =
+    let bytes = triangles-3 area beside a b c d e f g h i in
+    let first = kind-0 (wordOr (area 0) (beside 0)) in
+    let second = kind-0 (wordOr (area 1) (beside 1)) in
+    let third = kind-0 (wordOr (area 2) (beside 2)) in
+    ap (λ (cs : List ℕ). linksPut 3 (linksOf cs) bytes) (corners-of-3 bytes first second third)
+    ∙ ap (λ (links : List ℕ). linksPut 3 links bytes) links-3
+    ∙ ap (λ (records : List ℕ). over records bytes)
+    (records-of-3 bytes first second third (none ∷ 1 ∷ none ∷ 0 ∷ none ∷ none ∷ 0 ∷ none ∷ none ∷ []))
 
 -- what polygons 2, 0, 2, 9 have of the materials (1,0), (2,0), (1,0)
 abbrev materials-4 : List ℕ
