@@ -1,5 +1,4 @@
 -- How many bytes the parts of a header have, each below 256. Assumes nothing.
-use Rattle.math.specs.Stored.{bitsOf}
 use Rattle.math.specs.declared.words3.Words3.{Words3}
 use Rattle.base.proofs.LittleEndian.{Bytes, joined, number-bytes, zero-bytes}
 use Rattle.header.specs.Header.{nodeListBytes, pointBytes, pointsBytes, treeListBytes, headerBytes}
@@ -19,9 +18,9 @@ unfolding pointsBytes
 points-bytes h =
     joined
     (joined
-    (joined (joined (point-bytes (h .«bb_min»)) (point-bytes (h .«bb_max»))) (point-bytes (bitsOf (h .scale .cen))))
-    (point-bytes (bitsOf (h .scale .inverse))))
-    (point-bytes (bitsOf (h .scale .quantum)))
+    (joined (joined (point-bytes (h .«bb_min»)) (point-bytes (h .«bb_max»))) (point-bytes (h .«bb_center»)))
+    (point-bytes (h .«quantum_inverse»)))
+    (point-bytes (h .quantum))
 
 pub tree-list-bytes : (h : Bvh) → Bytes 16 (treeListBytes h)
 unfolding treeListBytes

@@ -5,7 +5,6 @@ use mathlib.Core.List.{List, _++_}
 use mathlib.Core.Path.{_≡_}
 use lib.Dec.{eqb, ltb}
 use lib.ListN.{length, replicate}
-use Rattle.math.specs.Stored.{bitsOf}
 use Rattle.math.specs.declared.words3.Words3.{Words3}
 use Rattle.base.specs.Lists.{over}
 use Rattle.base.specs.LittleEndian.{littleEndian}
@@ -21,14 +20,14 @@ nodeListBytes h = littleEndian 8 (h .«nodes_address») ++ littleEndian 4 (h .«
 unfoldable pub pointBytes : Words3 → List ℕ
 pointBytes p = littleEndian 4 (p .x) ++ littleEndian 4 (p .y) ++ littleEndian 4 (p .z) ++ littleEndian 4 0xffc0_0000
 
--- Rule R7 (01: min, max, cen, inverse, quantum): the copied words of the box, and the words of the scale.
+-- Rule R7 (01: min, max, cen, inverse, quantum; a copied NaN keeps its bits): the words of the five points as they were given.
 unfoldable pub pointsBytes : Bvh → List ℕ
 pointsBytes h =
     pointBytes (h .«bb_min»)
     ++ pointBytes (h .«bb_max»)
-    ++ pointBytes (bitsOf (h .scale .cen))
-    ++ pointBytes (bitsOf (h .scale .inverse))
-    ++ pointBytes (bitsOf (h .scale .quantum))
+    ++ pointBytes (h .«bb_center»)
+    ++ pointBytes (h .«quantum_inverse»)
+    ++ pointBytes (h .quantum)
 
 -- Rule R6 (01: tree address, count twice (u16), 4 zeros; base.rs, write_simple_list64).
 unfoldable pub treeListBytes : Bvh → List ℕ

@@ -1,14 +1,13 @@
 // The header of a tree: where its nodes and ranges are, the box around its items, and the units of its records.
 use base::little_endian::put_le;
 use math::words3::Words3;
-use records::scale::Scale;
 ghost use mathlib.Core.Path.{_≡_};
 ghost use Prim.Native.Nat.{_+_, _≤_};
 ghost use lib.ListN.{length};
 ghost use lib.Seq.{sets};
 ghost use Rattle.header.specs.Header.{nodeListBytes, pointBytes, pointsBytes, treeListBytes, Headed};
 
-// The box is copied, so that a NaN in it keeps its bits; the scale was computed.
+// Every point is words, which are copied: a NaN in it keeps its bits.
 #[repr(C)]
 pub struct Bvh {
     pub nodes_address: u64,
@@ -16,7 +15,9 @@ pub struct Bvh {
     pub nodes_capacity: u32,
     pub bb_min: Words3,
     pub bb_max: Words3,
-    pub scale: Scale,
+    pub bb_center: Words3,
+    pub quantum_inverse: Words3,
+    pub quantum: Words3,
     pub trees_address: u64,
     pub trees_count: u32,
 }
@@ -54,9 +55,9 @@ fn put_points(out: &mut [u8], h: Bvh)
 {
     put_point(out, 32, h.bb_min);
     put_point(out, 48, h.bb_max);
-    put_point(out, 64, math::words3::bits(h.scale.cen));
-    put_point(out, 80, math::words3::bits(h.scale.inverse));
-    put_point(out, 96, math::words3::bits(h.scale.quantum));
+    put_point(out, 64, h.bb_center);
+    put_point(out, 80, h.quantum_inverse);
+    put_point(out, 96, h.quantum);
 }
 
 fn put_tree_list(out: &mut [u8], h: Bvh)

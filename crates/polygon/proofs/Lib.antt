@@ -1,4 +1,5 @@
 pub mod Examples
 pub mod KindLaws
+pub mod NanLaws
 pub mod ReadBack
 pub mod Sizes

@@ -20,7 +20,7 @@ use Rattle.base.specs.LittleEndian.{littleEndian, leAt}
 use Rattle.base.proofs.LittleEndian.{le-after, le-back}
 use Rattle.base.proofs.StoreLaws.{rest-one}
 use Rattle.polygon.specs.Halves.{fourBytes, halvesBytes, halvesAt}
-use Rattle.polygon.specs.Polygons.{wordOr, triangleHalves, roundHalves, boxHalves, halvesOf, polygonBytes, joined}
+use Rattle.polygon.specs.Polygons.{nanOr, wordOr, triangleHalves, roundHalves, boxHalves, halvesOf, polygonBytes, joined}
 use Rattle.polygon.specs.Polygons.{triangleOf, sphereOf, capsuleOf, boxOf, cylinderOf, polygonOf, polygonAt, kindAt}
 use Rattle.polygon.specs.Answers.{readOf}
 use Rattle.polygon.specs.Canonical.{canonical, Word, PolygonFits, HalvesFit, kept}
@@ -69,12 +69,13 @@ short-back (pos n) h = low16-self (pos n) tt (omega (arith, h .sfits, le→leb))
 short-back (negsuc n) h = low16-self (negsuc n) (omega (arith, h .sfits, le→leb)) tt
 
 word-lt : (x : Float) (nan : ℕ) → Word x nan → wordOr x nan < 2 ^ 32
-unfolding wordOr
-word-lt x nan f = by (isNan x)
+unfolding wordOr nanOr
+word-lt x nan f = by (isNan x) (isNan (ofBits binary32 nan))
   where
-    by : (b : Bool) → cond b nan (toBits binary32 x) < 2 ^ 32
-    by true = f .1
-    by false = toBits-lt binary32 x (f .0)
+    by : (b stays : Bool) → cond b (cond stays nan 0x7fc0_0000) (toBits binary32 x) < 2 ^ 32
+    by true true = f .1
+    by true false = omega arith
+    by false stays = toBits-lt binary32 x (f .0)
 
 word-joined : (w : ℕ) → joined (w % 65536) (w / 65536) ≡ w
 word-joined w = omega arith
@@ -180,10 +181,10 @@ bits-back b h = by (ltb b 32768) refl
 
 -- the word that was read is the word that is written
 pub word-back : (w : ℕ) → w < 2 ^ 32 → wordOr (ofBits binary32 w) w ≡ w
-unfolding wordOr
+unfolding wordOr nanOr
 word-back w h = by (isNan (ofBits binary32 w)) refl
   where
-    by : (b : Bool) → isNan (ofBits binary32 w) ≡ b → cond b w (toBits binary32 (ofBits binary32 w)) ≡ w
+    by : (b : Bool) → isNan (ofBits binary32 w) ≡ b → cond b (cond b w 0x7fc0_0000) (toBits binary32 (ofBits binary32 w)) ≡ w
     by true e = refl
     by false e = toBits-ofBits binary32 w h (subst (λ (b : Bool). T (not b)) (sym e) tt)
 

@@ -14,9 +14,13 @@ use Rattle.polygon.specs.declared.Polygon.the-variants.{Triangle, Sphere
 
 -- ---- writing
 
--- Rule G2 (01: a copied NaN keeps its bits): the word of a float, and of a NaN the word that stands beside it.
+-- Rule G2 (01: a NaN's bits must be some NaN's): a word that is a NaN's, and 7FC00000 for any other.
+unfoldable pub nanOr : ℕ → ℕ
+nanOr word = cond (isNan (ofBits binary32 word)) word 0x7fc0_0000
+
+-- Rule G2 (01: a copied NaN keeps its bits): the word of a float, and of a NaN the word that stands beside it, if that is a NaN's.
 unfoldable pub wordOr : Float → ℕ → ℕ
-wordOr x nan = cond (isNan x) nan (toBits binary32 x)
+wordOr x nan = cond (isNan x) (nanOr nan) (toBits binary32 x)
 
 -- Rule G3 (01: byte 0's low three bits hold the kind; bounds.rs, write, to_bytes): bytes 0 to 3 are the area, of which the kind, 0, takes three bits;
 -- then three vertices and three links.

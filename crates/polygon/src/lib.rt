@@ -3,7 +3,7 @@ pub mod halves;
 pub mod reading;
 pub mod writing;
 
-// A polygon; its material is stored beside it. With a float goes the word that is written where it is a NaN, since an f32 keeps no bits of one.
+// A polygon; its material is stored beside it. With a float goes the word that is written where both are a NaN, since an f32 keeps no bits of one.
 pub enum Polygon {
     Triangle {
         area: f32,

@@ -8,14 +8,26 @@ ghost use mathlib.Core.Path.{_≡_};
 ghost use Prim.Native.Nat.{_+_, _/_, _%_, _≤_};
 ghost use lib.ListN.{length};
 ghost use lib.Seq.{sets};
-ghost use Rattle.polygon.specs.Polygons.{wordOr, roundHalves, triangleHalves, boxHalves, halvesOf, polygonBytes};
+ghost use Rattle.polygon.specs.Polygons.{nanOr, wordOr, roundHalves, triangleHalves, boxHalves, halvesOf, polygonBytes};
 ghost use Rattle.polygon.specs.Answers.{Wrote};
 
-// A float's word; of a NaN, `nan`.
+// A NaN's word as it is; any other word would make a number of a NaN.
+fn nan_or(word: u32) -> u32
+    ensures { λ r. ⌜ r ≡ nanOr word ⌝ }
+{
+    let x = float32::words::value(word);
+    if x != x { word } else { 0x7fc0_0000 }
+}
+
+// A float's word; of a NaN, `nan`, if that is a NaN's word.
 pub fn word_or(x: f32, nan: u32) -> u32
     ensures { λ r. ⌜ r ≡ wordOr x nan ⌝ }
 {
-    if x != x { nan } else { float32::words::bits(x) }
+    if x != x {
+        nan_or(nan)
+    } else {
+        float32::words::bits(x)
+    }
 }
 
 // A word's halves.

@@ -18,10 +18,10 @@ use Rattle.entries.specs.declared.boxes.BoxWords.{BoxWords}
 use Rattle.bvh.specs.declared.core.Build.{Build}
 use Rattle.bvh.specs.declared.core.Build.the-variants.{Built, Refused}
 use Rattle.bvh.specs.declared.core.BuiltTree.{BuiltTree}
-use Rattle.bvh.specs.Build.{Entries}
+use Rattle.bvh.specs.Build.{Entries, refusalNumber, answerOf}
 use Rattle.bvh.specs.Entry.{Outputs, Lent, lengthsOf, Answered}
 use Rattle.walk_steps.specs.Boxes.{queryOf, meetsBox}
-use Rattle.walk.specs.Walks.{Outcome, walkOf, Promise}
+use Rattle.walk.specs.Walks.{Outcome, walkOf, numberOf, Promise}
 use Rattle.tree.specs.declared.pair.Found.{Found}
 use Rattle.tree.specs.declared.pair.Found.the-variants.{Unbuilt, Walked}
 use Rattle.tree.specs.WellFormed.{countFor, itemsAt, FromLeaf, WellFormed}
@@ -79,14 +79,25 @@ abbrev pub buildIn : Found → Build
 buildIn (Unbuilt why) = Refused why
 buildIn (Walked b w) = Built b
 
+-- 01's number of each answer, 0 where nothing is refused: the build's refusal, or the walk's number.
+abbrev pub foundNumber : Found → ℕ
+foundNumber (Unbuilt why) = refusalNumber why
+foundNumber (Walked b w) = numberOf w
+
+-- Rule P5: the number of a pair by its build. A walk over what was built is refused where the output, of so many places, is shorter than the item count, and never else.
+abbrev pub pairNumber : ℕ → ℕ → ℕ → Build → ℕ
+pairNumber th entries room (Refused why) = refusalNumber why
+pairNumber th entries room (Built b) = cond (ltb room (countFor th entries (b .present))) 2 0
+
 -- Rule P5: a refused build is not walked, and the output keeps what it had; any other is walked, which comes to `outcomeOf`.
 abbrev pub WalkAfter : Entries → ℕ → Aabb → Outputs → List ℕ → List ℕ → Found → Type 0
 WalkAfter e th query after out out′ (Unbuilt why) = out′ ≡ out
 WalkAfter e th query after out out′ (Walked b w) = Promise (outcomeOf e th query b after (length out)) out out′ w
 
--- Rule P5 (request, point 3), whole, of a build and the walk over its records: what each of the two is;
+-- Rule P5 (request, point 3), whole, of a build and the walk over its records: 01's number, by what was lent alone; what each of the two is;
 -- and, if the build is not refused, that its records are well formed whatever the boxes, and what the walk delivers.
 pub record Paired (e : Entries) (th : ℕ) (query : Aabb) (given : Lent) (before after : Outputs) (out out′ : List ℕ) (r : Found) : Type 0 where
+  pub number-is : foundNumber r ≡ pairNumber th (e .number) (length out) (answerOf e th (lengthsOf before given))
   pub build-is : Answered e th (lengthsOf before given) (buildIn r) before after
   pub walk-is : WalkAfter e th query after out out′ r
   pub well-formed : (b : BuiltTree) → buildIn r ≡ Built b → WellFormed e th b after
