@@ -1,3 +1,4 @@
+pub mod CutLaws
 pub mod EveryLaws
 pub mod IntegerOrder
 pub mod ListLaws

@@ -1,3 +1,4 @@
+pub mod Cuts
 pub mod Every
 pub mod Lists
 pub mod LittleEndian
