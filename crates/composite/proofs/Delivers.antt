@@ -8,7 +8,7 @@ use mathlib.Core.Path.{_≡_, refl, sym, ap, ap₂, _∙_, subst}
 use lib.Dec.{ltb}
 use lib.ListN.{length, take, drop}
 use lib.Seq.{take-append-seam}
-use Rattle.base.specs.Lists.{occurrences}
+use Rattle.base.specs.Lists.{occurrences, over}
 use Rattle.math.specs.declared.aabb.Aabb.{Aabb}
 use Rattle.bvh.specs.Build as B
 use Rattle.bvh.specs.Entry as E
@@ -69,18 +69,32 @@ module _ (limit n : ℕ) (ws : List ℕ) (l : Lengths) (before after : Outputs) 
 
 -- ---- positions are places
 
-items-are : (o : Outputs) (is : List ℕ) → itemsAt 1 o is ≡ is
-items-are o [] = refl
-items-are o (i ∷ is) = ap (λ (l : List ℕ). i ∷ l) (items-are o is)
+pub positions-are-places : (o : Outputs) (is : List ℕ) → itemsAt 1 o is ≡ is
+positions-are-places o [] = refl
+positions-are-places o (i ∷ is) = ap (λ (l : List ℕ). i ∷ l) (positions-are-places o is)
+
+-- ---- the entries are the children
 
 module _ (n : ℕ) (ws : List ℕ) where
-  number-is : childEntries n ws .number ≡ n
+  pub entries-are-children : childEntries n ws .number ≡ n
   unfolding childEntries entriesOf
-  number-is = length-items ws 0 n
+  entries-are-children = length-items ws 0 n
 
-  listed : Listed (childEntries n ws)
+  pub children-listed : Listed (childEntries n ws)
   unfolding childEntries
-  listed = items-listed (childItems ws 0 n)
+  children-listed = items-listed (childItems ws 0 n)
+
+  pub present-among : (k : ℕ) → k < n → isPresent ws k ≡ true → List·Memᴰ k (childEntries n ws .places)
+  unfolding childEntries entriesOf
+  present-among k h there = present-listed ws 0 n k (omega arith) (omega arith) there
+
+  pub only-present-among : (k : ℕ) → 0 < occurrences k (childEntries n ws .places) → (k < n) × (isPresent ws k ≡ true)
+  unfolding childEntries entriesOf
+  only-present-among k h = let r = listed-present ws 0 n k h in (omega (arith, r .1), r .2)
+
+  pub entry-is-computed : (k : ℕ) → k < n → isPresent ws k ≡ true → boxValues (childEntries n ws .at k) ≡ computedBox ws k
+  unfolding childEntries entriesOf
+  entry-is-computed k h there = box-at ws n k h there
 
   module _ (query : Aabb) (b : BuiltTree) (after : Outputs) (out out′ : List ℕ) (w : Walk)
       (d : Delivered (childEntries n ws) 1 query b after (length out) (outcomeOf (childEntries n ws) 1 query b after (length out)))
@@ -95,40 +109,34 @@ module _ (n : ℕ) (ws : List ℕ) where
         (λ (m : ℕ). Promise
         (walkOf query (b .scale .cen) (b .scale .inverse) (record { nodes = b .nodes; trees = b .trees; items = m }) (after .nodes) (after .trees) (length out))
         out out′ w)
-        (sym number-is) p
+        (sym entries-are-children) p
 
     handed-is : countsOf w .handed ≡ length (o .given)
     handed-is = ap (λ (c : Counts). c .handed) (walk-is .counts-are) ∙ d .count-is
 
-    out-is : handedOut out′ w ≡ itemsAt 1 after (o .given)
-    out-is =
-        ap₂ take handed-is (walk-is .output-is) ∙ take-append-seam (o .given) (drop (length (o .given)) out) ∙ sym (items-are after (o .given))
+    out-is : handedOut out′ w ≡ o .given
+    out-is = ap₂ take handed-is (walk-is .output-is) ∙ take-append-seam (o .given) (drop (length (o .given)) out)
 
     counted : (k : ℕ) → occurrences k (handedOut out′ w) ≡ occurrences k (itemsAt 1 after (o .given))
-    counted k = ap (occurrences k) out-is
+    counted k = ap (occurrences k) (out-is ∙ sym (positions-are-places after (o .given)))
 
     met : (k : ℕ) → k < n → isPresent ws k ≡ true → meetsBox (computedBox ws k) query ≡ true → meetsBox (boxValues (childEntries n ws .at k)) query ≡ true
-    unfolding childEntries entriesOf
-    met k h there m = ap (λ (x : Aabb). meetsBox x query) (box-at ws n k h there) ∙ m
-
-    among : (k : ℕ) → k < n → isPresent ws k ≡ true → List·Memᴰ k (childEntries n ws .places)
-    unfolding childEntries entriesOf
-    among k h there = present-listed ws 0 n k (omega arith) (omega arith) there
-
-    only : (k : ℕ) → 0 < occurrences k (childEntries n ws .places) → (k < n) × (isPresent ws k ≡ true)
-    unfolding childEntries entriesOf
-    only k h = let r = listed-present ws 0 n k h in (omega (arith, r .1), r .2)
+    met k h there m = ap (λ (x : Aabb). meetsBox x query) (entry-is-computed k h there) ∙ m
 
     delivers : Delivers n ws query b after out out′ w
     delivers =
         record {
           well-formed = f;
-          refused-exactly = walk-is .number-is ∙ d .refused-exactly ∙ ap (λ (m : ℕ). cond (ltb (length out) m) 2 0) number-is;
+          refused-exactly-where-the-output-is-short =
+              walk-is .number-is ∙ d .refused-exactly ∙ ap (λ (m : ℕ). cond (ltb (length out) m) 2 0) entries-are-children;
           every-child-that-meets = λ ordinary z k h there m.
-              counted k ∙ d .every-item-that-meets ordinary (sym (walk-is .number-is) ∙ z) k (among k h there) (met k h there m);
+              counted k ∙ d .every-item-that-meets ordinary (sym (walk-is .number-is) ∙ z) k (present-among k h there) (met k h there m);
           no-child-twice = λ k. omega (arith, counted k, d .none-twice k);
-          only-present-children = λ k h. only k (omega (arith, counted k, d .only-present k));
-          reads-at-most = omega (arith, ap (λ (c : Counts). c .reads) (walk-is .counts-are), d .reads-at-most);
+          only-present-children = λ k h. only-present-among k (omega (arith, counted k, d .only-present k));
+          none-from-a-leaf-that-misses = λ k m. d .from-leaves-that-meet k (subst (List·Memᴰ k) out-is m);
+          as-many-as-it-says = ap length out-is ∙ sym handed-is;
+          rest-as-it-was = walk-is .output-is ∙ ap (λ (xs : List ℕ). over xs out) (sym out-is);
+          reads-at-most-nodes-plus-trees = omega (arith, ap (λ (c : Counts). c .reads) (walk-is .counts-are), d .reads-at-most);
         }
 
 -- ---- the statement
@@ -142,5 +150,5 @@ composite-delivers limit n ws l before after b a query out out′ w p =
     let e = childEntries n ws in
     let build = as-build limit n ws l before after b a in
     delivers n ws query b after out out′ w
-    (walk-delivers e (listed n ws) 1 l before after b build query (length out))
-    (records-well-formed e (listed n ws) 1 l before after b build) p
+    (walk-delivers e (children-listed n ws) 1 l before after b build query (length out))
+    (records-well-formed e (children-listed n ws) 1 l before after b build) p
