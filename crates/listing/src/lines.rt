@@ -84,7 +84,7 @@ pub fn put_node_lines(out: &mut [u8], at: usize, node_bytes: &[u8], count: usize
     let mut end = at;
     let mut i = 0;
     while i < count {
-        end = put_node_line(out, end, i, records::node_at(node_bytes, 16 * i));
+        end = put_node_line(out, end, i, walk::reader::read_node(node_bytes, i));
         i += 1;
     }
     end

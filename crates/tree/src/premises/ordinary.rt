@@ -22,14 +22,14 @@ pub struct Premises {
 }
 
 // What breaks the premises in the entry at p, if it is present.
-fn entry_fault(entries: &[u32], p: usize) -> u32
-    requires { ⌜ (7 * p + 7 ≤ length (now entries)) × (p < 32767) ⌝ }
-    ensures { λ r. ⌜ r ≡ cond (isMarked (getD (now (entries .entry)) (7 * p) 0)) (boxFault (boxAt (now (entries .entry)) p)) 0 ⌝ }
+fn entry_fault(entries: &[u32], p: Place) -> u32
+    requires { ⌜ 7 * p .0 + 7 ≤ length (now entries) ⌝ }
+    ensures { λ r. ⌜ r ≡ cond (isMarked (getD (now (entries .entry)) (7 * p .0) 0)) (boxFault (boxAt (now (entries .entry)) (p .0))) 0 ⌝ }
 {
-    if entries[7 * p] == 0 {
+    if entries[7 * (p.0 as usize)] == 0 {
         return 0;
     }
-    crate::premises::faults::box_fault(entries::boxes::box_at(entries, Place(p as u32)))
+    crate::premises::faults::box_fault(entries::boxes::box_at(entries, p))
 }
 
 // The first of n entries that breaks the premises by itself.
@@ -39,7 +39,7 @@ fn first_fault(entries: &[u32], n: usize) -> Premises
 {
     let mut p = 0;
     while p < n {
-        let fault = entry_fault(entries, p);
+        let fault = entry_fault(entries, Place(p as u32));
         if fault != 0 {
             return Premises {
                 refusal: 0,
@@ -57,14 +57,14 @@ fn first_fault(entries: &[u32], n: usize) -> Premises
 }
 
 // The box so far and that of the entry at p, if it is present.
-fn fold_entry(entries: &[u32], p: usize, acc: BoxWords) -> BoxWords
-    requires { ⌜ (7 * p + 7 ≤ length (now entries)) × (p < 32767) ⌝ }
-    ensures { λ r. ⌜ r ≡ cond (isMarked (getD (now (entries .entry)) (7 * p) 0)) (foldStep acc (boxAt (now (entries .entry)) p)) acc ⌝ }
+fn fold_entry(entries: &[u32], p: Place, acc: BoxWords) -> BoxWords
+    requires { ⌜ 7 * p .0 + 7 ≤ length (now entries) ⌝ }
+    ensures { λ r. ⌜ r ≡ cond (isMarked (getD (now (entries .entry)) (7 * p .0) 0)) (foldStep acc (boxAt (now (entries .entry)) (p .0))) acc ⌝ }
 {
-    if entries[7 * p] == 0 {
+    if entries[7 * (p.0 as usize)] == 0 {
         return acc;
     }
-    let b = entries::boxes::box_at(entries, Place(p as u32));
+    let b = entries::boxes::box_at(entries, p);
     BoxWords {
         min: math::words3::vmin_words(acc.min, b.min),
         max: math::words3::vmax_words(acc.max, b.max),
@@ -79,7 +79,7 @@ fn fold_present(entries: &[u32], n: usize) -> BoxWords
     let mut acc = entries::boxes::start_box();
     let mut p = 0;
     while p < n {
-        acc = fold_entry(entries, p, acc);
+        acc = fold_entry(entries, Place(p as u32), acc);
         p += 1;
     }
     acc

@@ -25,11 +25,8 @@ loop-holds c =
     let a = c .before .before .args in
     no-line (lineOf (a .node-bytes .now)) (a .out .now) (a .at) (a .count)
 
-mul-node-at : tie.Need-mul-node-at Inv-loop μ-loop
-mul-node-at c = omega arith
-
-node-at-requires : tie.Need-node-at-requires Inv-loop μ-loop
-node-at-requires c κs = omega arith
+read-node-requires : tie.Need-read-node-requires Inv-loop μ-loop
+read-node-requires c κs = omega arith
 
 put-node-line-requires : tie.Need-put-node-line-requires Inv-loop μ-loop
 put-node-line-requires c κs =
@@ -48,7 +45,7 @@ loop-again c =
     let a = c .before .before .before .before .before .before .before .before .before .args in
     let l = c .before .before .before .before .before .before .loop in
     let line = lineOf (a .node-bytes .now) in
-    let e = c .before .before .before .node-at .ensures in
+    let e = c .before .before .before .read-node .ensures in
     line-next line (l .inv) (omega arith) (put-as (ap (nodeLine (l .i)) e) (omega arith) (c .before .before .put-node-line .ensures))
 
 same-length : tie.Need-same-length Inv-loop μ-loop
@@ -65,8 +62,7 @@ put-node-lines-spec =
     Inv-loop
     μ-loop
     loop-holds
-    mul-node-at
-    node-at-requires
+    read-node-requires
     put-node-line-requires
     add-i
     loop-less

@@ -6,6 +6,9 @@ use mathlib.Core.Path.{ap, _∙_}
 use Rattle.tree.proofs.premises.Passing.{unmarked, is-marked}
 use Rattle.tree.specs.premises.Faults.{boxFault}
 
+cast-if1 : tie.Need-cast-if1
+cast-if1 c = search needs
+
 mul-if1 : tie.Need-mul-if1
 mul-if1 c = search needs
 
@@ -17,9 +20,6 @@ shared-slice-read-if1 c = search needs
 
 returns : tie.Need-returns
 returns c = unmarked _ _ _ (c .if1 .taken)
-
-cast-t6 : tie.Need-cast-t6
-cast-t6 c = search needs
 
 box-at-requires : tie.Need-box-at-requires
 box-at-requires c κs = search needs
@@ -34,11 +34,11 @@ pub entry-fault-spec : {M : Type 1} → statement M
 entry-fault-spec =
     tie.close
     (tie.spec
+    cast-if1
     mul-if1
     mul-if1-2
     shared-slice-read-if1
     returns
-    cast-t6
     box-at-requires
     box-fault-requires
     returns-2)

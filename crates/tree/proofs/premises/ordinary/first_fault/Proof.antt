@@ -14,11 +14,14 @@ abbrev μ-loop : tie.MeasureT-loop
 loop-holds : tie.Need-loop-holds Inv-loop μ-loop
 loop-holds c = clean-begin _ _
 
+cast-t6 : tie.Need-cast-t6 Inv-loop μ-loop
+cast-t6 c = search needs
+
 entry-fault-requires : tie.Need-entry-fault-requires Inv-loop μ-loop
 entry-fault-requires c κs = search needs
 
-cast-t6 : tie.Need-cast-t6 Inv-loop μ-loop
-cast-t6 c = search needs
+cast-t8 : tie.Need-cast-t8 Inv-loop μ-loop
+cast-t8 c = search needs
 
 returns : tie.Need-returns Inv-loop μ-loop
 returns c = clean-found _ _ _ _ (c .before .before .before .loop .inv) (c .before .before .loop-test .taken) (c .before .entry-fault .ensures) (c .if1 .taken)
@@ -42,8 +45,9 @@ first-fault-spec =
     Inv-loop
     μ-loop
     loop-holds
-    entry-fault-requires
     cast-t6
+    entry-fault-requires
+    cast-t8
     returns
     add-p
     loop-less

@@ -7,6 +7,9 @@ use Rattle.math.specs.Stored.{vminWordsOf, vmaxWordsOf}
 use Rattle.entries.specs.declared.boxes.BoxWords.{BoxWords}
 use Rattle.tree.proofs.premises.Passing.{unmarked, is-marked}
 
+cast-if1 : tie.Need-cast-if1
+cast-if1 c = search needs
+
 mul-if1 : tie.Need-mul-if1
 mul-if1 c = search needs
 
@@ -19,9 +22,6 @@ shared-slice-read-if1 c = search needs
 returns : tie.Need-returns
 returns c = unmarked _ _ _ (c .if1 .taken)
 
-cast-t8 : tie.Need-cast-t8
-cast-t8 c = search needs
-
 box-at-requires : tie.Need-box-at-requires
 box-at-requires c κs = search needs
 
@@ -33,7 +33,7 @@ vmax-words-requires c κs = search needs
 
 returns-2 : tie.Need-returns-2
 returns-2 c =
-    let acc = c .before .before .before .before .before .before .args .acc in
+    let acc = c .before .before .before .before .before .before .before .args .acc in
     let b = c .before .before .box-at .ensures in
     let lo = c .before .vmin-words .ensures ∙ ap (λ (b : BoxWords). vminWordsOf (acc .min) (b .min)) b in
     let hi = c .vmax-words .ensures ∙ ap (λ (b : BoxWords). vmaxWordsOf (acc .max) (b .max)) b in
@@ -43,11 +43,11 @@ pub fold-entry-spec : {M : Type 1} → statement M
 fold-entry-spec =
     tie.close
     (tie.spec
+    cast-if1
     mul-if1
     mul-if1-2
     shared-slice-read-if1
     returns
-    cast-t8
     box-at-requires
     vmin-words-requires
     vmax-words-requires

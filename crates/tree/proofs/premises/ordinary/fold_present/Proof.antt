@@ -18,6 +18,9 @@ start-box-requires c κs = search needs
 loop-holds : tie.Need-loop-holds Inv-loop μ-loop
 loop-holds c = folded-begin _ _ _ (c .start-box .ensures)
 
+cast-t6 : tie.Need-cast-t6 Inv-loop μ-loop
+cast-t6 c = search needs
+
 fold-entry-requires : tie.Need-fold-entry-requires Inv-loop μ-loop
 fold-entry-requires c κs = search needs
 
@@ -42,6 +45,7 @@ fold-present-spec =
     μ-loop
     start-box-requires
     loop-holds
+    cast-t6
     fold-entry-requires
     add-p
     loop-less
