@@ -30,7 +30,7 @@ numberOf TooManyPolygons = 1
 numberOf BufferTooShort = 2
 numberOf UnknownKind = 6
 
--- Rule E2: the records with their links. Those that they came with do not matter (polygon LinkLaws, `links-forget`).
+-- Rule E2: the records with their links. Those that they came with do not matter (corners LinkLaws, `links-forget`).
 unfoldable pub linked : ℕ → List ℕ → List ℕ
 linked n bytes = linksPut n (linksOf (cornersOf n bytes)) bytes
 

@@ -26,7 +26,7 @@ abbrev pub treeShort : Counts → Lengths → Bool
 treeShort c l =
     ltb (l .«node_bytes») (16 * (2 * c .polygons + 1)) || ltb (l .«tree_bytes») (16 * (2 * c .polygons + 1)) || ltb (l .order) (c .polygons)
 
--- Rule K5: ten parts to work in; what each is for stands in docs/DECISIONS.md.
+-- Rule K5: ten parts to work in; what each is for stands in docs/PREPARE.md.
 abbrev pub wordsShort : Counts → Lengths → Bool
 wordsShort c l =
     ltb (l .entries) (7 * c .polygons + 4 * c .vertices) || ltb (l .places) (3 * c .polygons + 3 * c .vertices)

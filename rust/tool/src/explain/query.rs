@@ -27,7 +27,7 @@ impl Explainer<'_> {
         let place = |&position: &usize| asked.dump.place(position);
         let handed = walked.positions.iter().filter_map(place).any(|place| place == asked.item);
         let meets = self.trace.items[asked.item].meets(asked.min, asked.max);
-        let mut steps = vec![Step::new(&[W1, F9], format!("the query in records: {}", span_words(&walked.span)))];
+        let mut steps = vec![Step::new(&[W1], format!("the query in records: {}", span_words(&walked.span)))];
         let leaf = asked.dump.leaves()[asked.item];
         match leaf {
             None => {
