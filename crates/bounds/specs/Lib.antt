@@ -1,2 +1,3 @@
+pub mod CompositePointThree
 pub mod Composites
 pub mod PointThree
