@@ -1,2 +1,3 @@
 pub mod BuildLaws
+pub mod BuildWorkLaws
 pub mod WalkLaws

@@ -1,3 +1,4 @@
+pub mod BuildWork
 pub mod Numbers
 pub mod Trees
 pub mod WalkAnswers

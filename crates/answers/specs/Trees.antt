@@ -1,9 +1,7 @@
 -- What the C interface answers of a build and of a header. Definitions only.
-use Prim.Native.Nat.{ℕ, _+_, _-_, _*_}
-use mathlib.Core.Bool.{Bool, cond, _||_}
+use Prim.Native.Nat.{ℕ, _+_, _*_}
 use mathlib.Core.List.{List}
 use mathlib.Core.Path.{_≡_}
-use lib.Dec.{leb, ltb}
 use lib.Ieee.{binary32, ofBits}
 use Rattle.math.specs.declared.vec3.Vec3.{Vec3}
 use Rattle.math.specs.declared.words3.Words3.{Words3}
@@ -66,30 +64,6 @@ pub record Answers (e : Entries) (th : ℕ) (l : Lengths) (r : BuildAnswer) (bef
 -- 01, Build: the words of a work buffer for n entries.
 abbrev pub workLen : ℕ → ℕ
 workLen n = 30 * n + 8
-
--- a part's length where `left` words are left
-abbrev pub partOf : ℕ → ℕ → ℕ
-partOf least left = cond (leb least left) least left
-
--- The lengths that a build is lent where one work buffer of w words is cut into its parts: each has its least length or what is left, and the
--- last all that is left. Those of the outputs are l's.
-abbrev pub cutWork : ℕ → ℕ → Lengths → Lengths
-cutWork n w l =
-    record {
-      nodes = l .nodes;
-      trees = l .trees;
-      order = l .order;
-      entries = partOf (7 * n) w;
-      places = partOf n (w - 7 * n);
-      temp = partOf n (w - 8 * n);
-      stack = partOf n (w - 9 * n);
-      rows = partOf (8 * (2 * n + 1)) (w - 10 * n);
-      centres = w - (26 * n + 8);
-    }
-
--- an output is too short
-abbrev pub outputShort : ℕ → Lengths → Bool
-outputShort n l = ltb (l .nodes) (16 * (2 * n + 1)) || ltb (l .trees) (16 * (2 * n + 1)) || ltb (l .order) n
 
 -- Rule R9 (01, Tree header): the number, and the bytes after it.
 pub record HeaderWritten (h : Bvh) (before after : List ℕ) (r : ℕ) : Type 0 where

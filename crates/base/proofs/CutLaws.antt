@@ -61,3 +61,9 @@ in-a-row other [] lengths = sym (or-false other)
 in-a-row other (least ∷ more) [] = sym (or-true other)
 in-a-row other (least ∷ more) (length ∷ lengths) =
     in-a-row (other || ltb length least) more lengths ∙ or-assoc other (ltb length least) (anyShort more lengths)
+
+-- tests in brackets stand in the row
+pub into-row : (other test : Bool) (parts lengths : List ℕ) → other || shortAfter test parts lengths ≡ shortAfter (other || test) parts lengths
+into-row other test parts lengths =
+    ap (λ (t : Bool). other || t) (in-a-row test parts lengths)
+    ∙ sym (in-a-row (other || test) parts lengths ∙ or-assoc other test (anyShort parts lengths))

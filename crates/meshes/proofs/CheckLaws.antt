@@ -16,17 +16,10 @@ use Rattle.meshes.specs.declared.Lengths.{Lengths}
 use Rattle.meshes.specs.declared.PrepareRefusal.{PrepareRefusal}
 use Rattle.meshes.specs.declared.PrepareRefusal.the-variants.{UnknownKind, TooMany, BufferTooShort, UnknownPolygon, TooManyMaterials, InfiniteMargin}
 use Rattle.meshes.specs.Checks.{isGeometry, isBvh, many, full, endless, checkWithin, checkIn, geometryCheck, bvhCheck}
-use Rattle.meshes.specs.Sizes.{inputsShort, listsShort, hullShort, treeShort, wordsShort, floatsShort, short, workWords}
+use Rattle.meshes.specs.Sizes.{inputsShort, listsShort, hullShort, treeShort, wordsShort, floatsShort, short}
 use Rattle.meshes.specs.steps.Few.{Few}
 
 -- ---- the sizes
-
--- The parts to work in are at most 64 words for each polygon and vertex, and 64 more.
-pub work-bound : (p v : ℕ) → workWords p v ≤ 64 * (p + v + 1)
-work-bound p v = omega arith
-
-pub work-total : (p v : ℕ) → workWords p v ≡ 55 * p + 13 * v + 8
-work-total p v = omega arith
 
 pub few : (c : Counts) → many c ≡ false → Few c
 few c e =

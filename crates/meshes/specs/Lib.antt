@@ -1,4 +1,5 @@
 pub mod Checks
 pub mod Meshes
 pub mod Sizes
+pub mod Work
 pub mod steps

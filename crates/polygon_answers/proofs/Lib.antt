@@ -1,1 +1,2 @@
+pub mod EdgesWorkLaws
 pub mod GeometryLaws

@@ -1,1 +1,2 @@
+pub mod EdgesWork
 pub mod Geometry
