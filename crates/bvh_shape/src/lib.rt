@@ -42,6 +42,7 @@ fn link_and_sort(
 
 // The tree over the polygons, these in the order of its leaves with their links, and the numbers of their materials in the same order in `sorted`.
 // The links that the polygons came with are not made anew before the tree is built: that would leave no trace. No range has more than `limit` nodes.
+// There is a polygon: without one there is no tree (01).
 pub fn shape_bvh(
     bound: Bound,
     counts: Counts,
@@ -64,7 +65,7 @@ pub fn shape_bvh(
 ) -> Build
     requires { ⌜ (BvhRoom (counts .polygons) (counts .vertices) (now polygons) (now numbers) (now vertices) (now «polygons_out»)
         (outputs (now «node_bytes») (now «tree_bytes») (now order))
-        (bvhWork (now entries) (now places) (now temp) (now stack) (now rows) (now points) (now sorted) (now centres))) × (0 < limit) ⌝ }
+        (bvhWork (now entries) (now places) (now temp) (now stack) (now rows) (now points) (now sorted) (now centres))) × (0 < limit) × (0 < counts .polygons) ⌝ }
     ensures { λ r. ⌜ BvhShapedBy limit bound (counts .polygons) (counts .vertices) (now (polygons .entry)) (now (numbers .entry)) (now (vertices .entry))
         (now («polygons_out» .entry)) (now («polygons_out» .exit))
         (outputs (now («node_bytes» .entry)) (now («tree_bytes» .entry)) (now (order .entry)))

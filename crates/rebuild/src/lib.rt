@@ -63,7 +63,7 @@ fn put_records(
 
 // The tree over p polygons with v vertices, and the polygons in the order of its leaves. It is refused only where it has too many nodes, and then
 // nothing is written. No range of it has more than `limit` nodes. The work is lent in a build's six parts, and as many words as the vertices have.
-// Without polygons there is to be no tree (01), and nothing to ask for here.
+// Without polygons there is to be no tree (01), so that one at least is asked for.
 pub fn rebuild_bvh(
     center: Vec3,
     transform: Mat4,

@@ -41,8 +41,10 @@ int main(void) {
 
     bounds_bvh bvh = {.nodes_address = 0x50000080, .nodes_count = (uint32_t)built.nodes,
                       .nodes_capacity = (uint32_t)built.capacity, .bb_min = built.min, .bb_max = built.max,
-                      .scale = built.scale, .trees_address = 0x50000080 + 16 * built.capacity,
-                      .trees_count = (uint32_t)built.trees};
+                      .bb_center = bounds_words_of(built.scale.cen),
+                      .quantum_inverse = bounds_words_of(built.scale.inverse),
+                      .quantum = bounds_words_of(built.scale.quantum),
+                      .trees_address = 0x50000080 + 16 * built.capacity, .trees_count = (uint32_t)built.trees};
     uint32_t refusal = bounds_tree_header(header, sizeof header, bvh);
     if (refusal) return printf("header refused: %u\n", (unsigned)refusal), 1;
 

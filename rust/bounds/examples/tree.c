@@ -19,6 +19,10 @@ static int16_t field(const uint8_t *record, int at) {
     return (int16_t)(record[2 * at] | record[2 * at + 1] << 8);
 }
 
+static uint32_t word(const uint8_t *bytes, int at) {
+    return bytes[at] | bytes[at + 1] << 8 | bytes[at + 2] << 16 | (uint32_t)bytes[at + 3] << 24;
+}
+
 static void record(const char *what, const uint8_t *record, const int16_t want[8]) {
     int same = 1;
     printf("%-36s", what);
@@ -77,12 +81,24 @@ int main(void) {
     number("order of 1", order[1], 1);
 
     bounds_bvh bvh = {.nodes_address = 0x50000080, .nodes_count = 3, .nodes_capacity = 5, .bb_min = built.min,
-                      .bb_max = built.max, .scale = built.scale, .trees_address = 0x500000D0, .trees_count = 1};
+                      .bb_max = built.max, .bb_center = bounds_words_of(built.scale.cen),
+                      .quantum_inverse = bounds_words_of(built.scale.inverse),
+                      .quantum = bounds_words_of(built.scale.quantum), .trees_address = 0x500000D0, .trees_count = 1};
     number("header of 127 bytes: refused", bounds_tree_header(header, 127, bvh), 2);
     number("header", bounds_tree_header(header, 128, bvh), 0);
     number("address, low byte", header[0], 0x80);
     number("w of min, high byte", header[47], 0xFF);
+    number("centre x, its word", word(header, 64), 0);
+    number("inverse x, its word", word(header, 80), 0x46FFFE00);
+    number("quantum x, its word", word(header, 96), 0x38000100);
     number("trees, twice", header[120] + header[122], 2);
+
+    /* A NaN that is given is copied with its bits: signalling ones, and one with every bit. */
+    bvh.bb_center.y = 0x7F800001, bvh.quantum_inverse.z = 0xFF800002, bvh.quantum.x = 0xFFFFFFFF;
+    number("header with NaNs", bounds_tree_header(header, 128, bvh), 0);
+    number("centre y, a signalling NaN", word(header, 68), 0x7F800001);
+    number("inverse z, a signalling NaN", word(header, 88), 0xFF800002);
+    number("quantum x, a NaN", word(header, 96), 0xFFFFFFFF);
     free(work);
     puts(wrong ? "some value is wrong" : "all values are right");
     return wrong;

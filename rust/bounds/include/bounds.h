@@ -106,11 +106,11 @@ typedef struct {
     bounds_units scale;
 } bounds_build_answer;
 
+/* What a tree's header holds. The points are words: a NaN's bits are copied like any others. */
 typedef struct {
     uint64_t nodes_address;
     uint32_t nodes_count, nodes_capacity;
-    bounds_words3 bb_min, bb_max;
-    bounds_units scale;
+    bounds_words3 bb_min, bb_max, bb_center, quantum_inverse, quantum;
     uint64_t trees_address;
     uint32_t trees_count;
 } bounds_bvh;
@@ -170,7 +170,15 @@ static inline bounds_build_answer bounds_build_bvh_in(const bounds_item *items, 
                             (float *)(work + at[5]), at[6] - at[5]);
 }
 
-/* Writes the 128 bytes of a tree's header. Refusals 1 (over 65,535 trees), 2 (under 128 bytes), in this order. */
+/* The words of three floats: their bits as they are, a NaN's too. */
+static inline bounds_words3 bounds_words_of(bounds_vec3 v) {
+    bounds_words3 words;
+    memcpy(&words, &v, sizeof words);
+    return words;
+}
+
+/* Writes the 128 bytes of a tree's header. Of a build these are its min and max, and the words of its scale.cen,
+ * scale.inverse and scale.quantum. Refusals 1 (over 65,535 trees), 2 (under 128 bytes), in this order. */
 uint32_t bounds_tree_header(uint8_t *out, size_t out_len, bounds_bvh bvh);
 
 /* ---- the walk over a tree's records ----

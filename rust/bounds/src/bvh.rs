@@ -263,18 +263,25 @@ pub(crate) fn built(answer: &ffi::BuildAnswer) -> BuiltTree {
 
 /// Writes the [`HEADER`] bytes of a tree's header; what lies behind stays as it was.
 ///
-/// The box is copied, a NaN with its bits; a NaN among the other floats is written as some NaN.
+/// Every float is copied, a NaN with its bits. Those of [`BuiltTree::bvh`] are a build's: its box is copied from the items,
+/// and a NaN among the rest is one that was computed.
 ///
 /// # Errors
 ///
 /// Refusals 1 (over 65,535 trees) and 2 (under [`HEADER`] bytes), looked for in this order. They change no byte.
 ///
 /// ```
-/// # use bounds::{bvh::*, Refusal};
+/// # use bounds::{bvh::*, Refusal, Vec3};
 /// let mut out = [7; 127];
 /// assert_eq!(tree_header(&mut out, &Bvh { trees_count: 65_536, ..Bvh::default() }), Err(Refusal::ListTooLong));
 /// assert_eq!(tree_header(&mut out, &Bvh::default()), Err(Refusal::BufferTooShort));
 /// assert_eq!(out, [7; 127]);
+///
+/// let mut header = [0; HEADER];
+/// let quantum = Vec3::new(f32::from_bits(0x7F80_0001), 0.0, 0.0); // a signalling NaN
+/// tree_header(&mut header, &Bvh { quantum, ..Bvh::default() })?;
+/// assert_eq!(header[96..100], 0x7F80_0001u32.to_le_bytes());
+/// # Ok::<(), Refusal>(())
 /// ```
 pub fn tree_header(out: &mut [u8], bvh: &Bvh) -> Result<(), Refusal> {
     let header = ffi::Bvh {
@@ -283,7 +290,9 @@ pub fn tree_header(out: &mut [u8], bvh: &Bvh) -> Result<(), Refusal> {
         nodes_capacity: bvh.nodes_capacity,
         bb_min: bits(bvh.bb_min),
         bb_max: bits(bvh.bb_max),
-        scale: ffi::Scale { cen: bvh.bb_center, inverse: bvh.quantum_inverse, quantum: bvh.quantum },
+        bb_center: bits(bvh.bb_center),
+        quantum_inverse: bits(bvh.quantum_inverse),
+        quantum: bits(bvh.quantum),
         trees_address: bvh.trees_address,
         trees_count: bvh.trees_count,
     };

@@ -64,7 +64,9 @@ pub struct Bvh {
     pub nodes_capacity: u32,
     pub bb_min: Words3,
     pub bb_max: Words3,
-    pub scale: Scale,
+    pub bb_center: Words3,
+    pub quantum_inverse: Words3,
+    pub quantum: Words3,
     pub trees_address: u64,
     pub trees_count: u32,
 }

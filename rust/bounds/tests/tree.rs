@@ -2,7 +2,7 @@
 
 use bounds::bvh::{build_bvh, records_len, tree_header, work_len};
 use bounds::tree::Addresses;
-use bounds::{BvhItem, Refusal, Tree, Vec3};
+use bounds::{Bvh, BvhItem, Refusal, Tree, Vec3};
 
 /// A row of boxes along x, 1 wide and 2 apart; every fifth is absent.
 fn row(n: usize) -> Vec<BvhItem> {
@@ -31,6 +31,21 @@ fn the_owned_form_is_the_lent_one() {
         tree_header(&mut header, &built.bvh(1, 2)).expect("few trees");
         assert_eq!(tree.header(Addresses { nodes: 1, trees: 2 }), header);
         assert_eq!((tree.nodes().len(), tree.trees().len()), (built.nodes_count as usize, built.trees_count as usize));
+    }
+}
+
+/// Fifteen signalling NaNs, each with bits of its own: a word that is computed with, or that stands elsewhere, shows.
+#[test]
+fn a_header_copies_the_bits_of_every_float() {
+    let word = |point: usize, axis: usize| 0x7F80_0001 + (0x10 * point + axis) as u32;
+    let point = |i| Vec3::new(f32::from_bits(word(i, 0)), f32::from_bits(word(i, 1)), f32::from_bits(word(i, 2)));
+    let [bb_min, bb_max, bb_center, quantum_inverse, quantum] = [0, 1, 2, 3, 4].map(point);
+    let mut out = [0; 128];
+    tree_header(&mut out, &Bvh { bb_min, bb_max, bb_center, quantum_inverse, quantum, ..Bvh::default() })
+        .expect("no tree, 128 bytes");
+    for (i, bytes) in out[32..112].chunks_exact(16).enumerate() {
+        let words = [word(i, 0), word(i, 1), word(i, 2), 0xFFC0_0000];
+        assert_eq!(bytes, words.map(u32::to_le_bytes).concat(), "point {i}");
     }
 }
 

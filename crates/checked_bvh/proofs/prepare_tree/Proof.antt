@@ -49,7 +49,7 @@ shaped c = shaping (ending c .before)
 shape-bvh-requires : tie.Need-shape-bvh-requires
 shape-bvh-requires c κs =
     let s = start c in
-    (shape-room (mesh s) (before s) (trees s) (work s) (s .args .others) (s .pre .passed), omega arith)
+    (shape-room (mesh s) (before s) (trees s) (work s) (s .args .others) (s .pre .passed), omega arith, omega (arith, s .pre .some))
 
 finish-tree-requires : tie.Need-finish-tree-requires
 finish-tree-requires c κs =

@@ -1,11 +1,12 @@
 -- What a rebuild asks of the slices that it is lent. Definitions only.
-use Prim.Native.Nat.{ℕ, _+_, _*_, _≤_}
+use Prim.Native.Nat.{ℕ, _+_, _*_, _≤_, _<_}
 use mathlib.Core.List.{List}
 use lib.ListN.{length}
 use Rattle.bvh.specs.Entry.{Outputs, Lent}
 
--- The polygons and vertices that are read, the records that are written, and where the vertices stand.
+-- The polygons and vertices that are read, the records that are written, and where the vertices stand. Rule K2 (01: "no tree without polygons"): there is a polygon.
 pub record Meshed (p v : ℕ) (polygons vertices out points : List ℕ) : Type 0 where
+  pub some : 0 < p
   pub few : p ≤ 32767
   pub few-vertices : v ≤ 32768
   pub records : 16 * p ≤ length polygons
