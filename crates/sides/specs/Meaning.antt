@@ -1,5 +1,5 @@
 -- Rule E2 in the words of 01, over corners alone: which sides lie on one edge, and what a side is linked to. Definitions only.
--- That these are the links which the contracts speak of, and no others: proofs/Meaning, `link-by-meaning` and `link-by-meaning-only`.
+-- That these are the links which the contracts speak of, and no others: proofs/ByMeaning, `link-by-meaning` and `link-by-meaning-only`.
 use Prim.Native.Nat.{ℕ, _/_, _≤_, _<_}
 use mathlib.Core.Bool.{true}
 use mathlib.Core.List.{List}
