@@ -7,9 +7,9 @@ use mathlib.Core.List.{List, [], map}
 use mathlib.Core.Path.{_≡_, refl, sym, ap, ap₂, subst, _∙_}
 use borrow.Author.Tests.{eq-eqb, ne-eqb}
 use lib.Dec.{eqb, ltb}
-use lib.ListN.{length, take, length-map}
-use lib.Seq.{take-take, length-take-le}
-use Rattle.base.specs.Lists.{over, Below}
+use lib.ListN.{length, take}
+use lib.Seq.{take-take}
+use Rattle.base.specs.Lists.{over}
 use Rattle.bvh.specs.Build.{Entries, treeOf, builtOf, orderWritten}
 use Rattle.bvh.specs.Build as B
 use Rattle.bvh.specs.Entry.{Outputs}
@@ -37,8 +37,7 @@ use Rattle.meshes.specs.Meshes.{Mesh, boxOf, materialsOf}
 use Rattle.octants.specs.declared.lists.OctantCounts.{OctantCounts}
 use Rattle.octants.specs.Octants.{countsOf}
 use Rattle.rebuild.specs.Rebuilding.{leafLimit, treeAnswer, treeAnswerBy}
-use Rattle.rebuild.proofs.MaterialOrder.{values-in-order, second-pass-values}
-use Rattle.rebuild.proofs.OrderLaws.{order-length, places-below}
+use Rattle.rebuild.proofs.MaterialOrder.{values-in-order}
 use Rattle.reorder.specs.Reordering.{inOrder}
 use Rattle.rows.specs.Tree.{size}
 use Rattle.vertices.specs.Vertices.{quantumOfBox}
@@ -47,11 +46,12 @@ use Rattle.prepared.specs.declared.Prepare.the-variants.{Geometry, Bvh, 
 use Rattle.prepared.specs.declared.Values.{Values}
 use Rattle.prepared.specs.Answers.{withTree, answerAfter, answerOf, Lists, Hull, geometryAnswer, bvhAnswer, GeometryAnswered, BvhAnswered}
 use Rattle.prepared.specs.Prepared.{PreparedMesh, preparedOf}
-use Rattle.prepared.specs.Rebuilt.{entriesOf8, orderOf8, polygonsOf8, materialsOf8, treeOf8, frameOf}
+use Rattle.prepared.specs.Rebuilt.{entriesOf8, polygonsOf8, materialsOf8, treeOf8, frameOf}
 use Rattle.prepared.specs.Shrunk.{octantsLeft}
 use Rattle.prepared.specs.steps.Shapes.{GeometryShaped, BvhShaped}
 use Rattle.prepared.proofs.Meshes.{geometryMesh, bvhMesh, emptyMesh, geometry-is, bvh-is, empty-is}
 use Rattle.prepared.proofs.Answering.{bvh-decides}
+use Rattle.prepared.proofs.MaterialLaws.{order, order-long, order-within, second-pass-in-order}
 
 abbrev isBuilt : Build → ℕ
 isBuilt (Build.Built t) = 1
@@ -71,29 +71,16 @@ unfolding treeAnswerBy
 tree-built t e h = only-built (ltb 32767 (size (treeOf e leafLimit))) t (builtOf e leafLimit (treeOf e leafLimit)) Why.TooManyNodes h
 
 module _ (g : Mesh) where
-  abbrev order : List ℕ
-  order = orderOf8 (g .bound) (g .counts .polygons) (g .counts .vertices) (g .polygons) (g .vertices)
-
-  order-long : length order ≡ g .counts .polygons
-  unfolding orderOf8 entriesOf8
-  order-long = order-length (g .counts .polygons) _ _
-
-  order-within : Below (g .counts .polygons) order
-  unfolding orderOf8 entriesOf8
-  order-within = places-below (g .counts .polygons) _ _
-
   -- The materials of the numbers in leaf order are those that the source's second pass has before it.
   sorted-materials : (sorted : List ℕ) → g .counts .polygons ≤ length (g .numbers)
-      → take (g .counts .polygons) sorted ≡ inOrder order (g .numbers)
-      → valuesOf (g .counts .materials) (g .mats) (g .counts .polygons) sorted ≡ materialsOf8 order (materialsOf g)
-  unfolding materialsOf8
+      → take (g .counts .polygons) sorted ≡ inOrder (order g) (g .numbers)
+      → valuesOf (g .counts .materials) (g .mats) (g .counts .polygons) sorted ≡ materialsOf8 (order g) (materialsOf g)
   sorted-materials sorted room e =
       let p = g .counts .polygons in
       let m = g .counts .materials in
-      let many : length (materialsOf g) ≡ p = length-map (take p (g .numbers)) (valueAt m (g .mats)) ∙ length-take-le p (g .numbers) room in
       ap (map (valueAt m (g .mats))) (sym (take-take p p sorted (omega arith)) ∙ ap (take p) e)
-      ∙ values-in-order m (g .mats) p order (g .numbers) order-long order-within room
-      ∙ sym (second-pass-values order (materialsOf g) (rw many order-within))
+      ∙ values-in-order m (g .mats) p (order g) (g .numbers) (order-long g) (order-within g) room
+      ∙ sym (second-pass-in-order g room)
 
 module _ (g : Mesh) (l : Lengths) (eight : g .bound .kind ≡ 8)
     (passed : Passed ≡ bvhCheck (g .bound) (g .counts) l (g .polygons) (materialsOf g)) where

@@ -21,6 +21,7 @@ use Rattle.meshes.specs.Checks.{isGeometry, isBvh, checkOf, refusalNumber}
 use Rattle.meshes.specs.Meshes.{Mesh, materialsOf}
 use Rattle.rebuild.proofs.MaterialOrder.{second-pass-values, list-length-in-order}
 use Rattle.rebuild.proofs.OrderLaws.{order-length, order-permutes, places-below}
+use Rattle.reorder.specs.Reordering.{inOrder}
 use Rattle.prepared.specs.declared.Prepare.{Prepare}
 use Rattle.prepared.specs.declared.Prepare.the-variants.{Refused}
 use Rattle.prepared.specs.Answers.{answerAfter, answerOf, numberOf, geometryAnswer, bvhAnswer}
@@ -31,10 +32,11 @@ module _ (g : Mesh) where
   abbrev p : ℕ
   p = g .counts .polygons
 
-  abbrev order : List ℕ
+  -- the order of the leaves, in which kind 8 writes its polygons
+  abbrev pub order : List ℕ
   order = orderOf8 (g .bound) (g .counts .polygons) (g .counts .vertices) (g .polygons) (g .vertices)
 
-  order-long : length order ≡ p
+  pub order-long : length order ≡ p
   unfolding orderOf8 entriesOf8
   order-long = order-length p _ _
 
@@ -42,7 +44,7 @@ module _ (g : Mesh) where
   unfolding orderOf8 entriesOf8
   order-once = order-permutes p _ _
 
-  order-within : Below p order
+  pub order-within : Below p order
   unfolding orderOf8 entriesOf8
   order-within = places-below p _ _
 
@@ -50,10 +52,14 @@ module _ (g : Mesh) where
     many : length (materialsOf g) ≡ p
     many = length-map (take p (g .numbers)) (valueAt (g .counts .materials) (g .mats)) ∙ length-take-le p (g .numbers) room
 
-    in-leaf-order : length (listOf (materialsOf8 order (materialsOf g))) ≡ length (listOf (materialsOf g))
+    -- What the source's second pass has before it are the given materials in that order.
+    pub second-pass-in-order : materialsOf8 order (materialsOf g) ≡ inOrder order (materialsOf g)
     unfolding materialsOf8
+    second-pass-in-order = second-pass-values order (materialsOf g) (rw many order-within)
+
+    in-leaf-order : length (listOf (materialsOf8 order (materialsOf g))) ≡ length (listOf (materialsOf g))
     in-leaf-order =
-        ap (λ (ms : List ℕ). length (listOf ms)) (second-pass-values order (materialsOf g) (rw many order-within))
+        ap (λ (ms : List ℕ). length (listOf ms)) second-pass-in-order
         ∙ list-length-in-order p order (materialsOf g) order-long order-once many
 
     -- The order in which polygons are written does not change how many materials they have.

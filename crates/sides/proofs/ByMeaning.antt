@@ -155,7 +155,7 @@ module _ (cs : List ℕ) (c : Corners cs) (s : ℕ) (within : s < length cs) whe
 
 -- ---- of records
 
--- The links that are stored in polygon records, three for each polygon, are what 01 says of their triangles' corners.
+-- The links that are made from polygon records, three for each polygon, are what 01 says of their corners. In the bytes of linked records: edges RecordLinks.
 pub record-links-by-meaning : (n : ℕ) (bytes : List ℕ) → n ≤ 32767 → (s : ℕ) → s < 3 * n
     → LinkMeaning (cornersOf n bytes) s (getD (linksOf (cornersOf n bytes)) s 0)
 record-links-by-meaning n bytes few s h =
