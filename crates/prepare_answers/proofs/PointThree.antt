@@ -3,13 +3,13 @@
 use Prim.Native.Nat.{ℕ, _<_}
 use native.Mathlib.Omega.{arith}
 use mathlib.Core.Bool.{Bool, true, false, cond}
-use mathlib.Core.List.{List}
+use mathlib.Core.List.{List, List·Memᴰ}
 use mathlib.Core.Path.{_≡_, refl, sym, ap, subst, _∙_}
 use borrow.Author.Tests.{ne-eqb}
 use lib.Dec.{T, eqb}
 use lib.ListN.{length, getD, take}
 use Rattle.base.proofs.Truth.{cond-both}
-use Rattle.base.specs.Lists.{occurrences}
+use Rattle.base.specs.Lists.{occurrences, over}
 use Rattle.bvh.specs.Entry.{Outputs}
 use Rattle.bvh.specs.declared.core.Build.{Build}
 use Rattle.bvh.specs.declared.core.Build.the-variants as B
@@ -26,15 +26,18 @@ use Rattle.meshes.specs.declared.PrepareRefusal.{PrepareRefusal}
 use Rattle.meshes.specs.declared.PrepareRefusal.the-variants.{UnknownKind, TooMany, BufferTooShort, UnknownPolygon}
 use Rattle.meshes.specs.declared.PrepareRefusal.the-variants.{TooManyMaterials, InfiniteMargin, TooManyNodes}
 use Rattle.meshes.specs.Checks.{refusalNumber}
+use Rattle.points.specs.Points.{positionsOf}
 use Rattle.prepared.specs.Answers.{Lists, BvhWork, bvhLengths, answerAfter, answerOf, bvhAnswer, withTree, numberOf, TreeKept, ListsKept, BvhAnswered}
 use Rattle.prepared.specs.Prepared.{preparedOf}
 use Rattle.prepared.specs.Rebuilt.{entriesOf8}
 use Rattle.prepared.specs.declared.Prepare.{Prepare}
 use Rattle.prepared.specs.declared.Prepare.the-variants.{Geometry, Bvh, Empty, Refused}
 use Rattle.prepared.specs.declared.Values.{Values}
+use Rattle.prepared_delivers.proofs.Places.{each-listed-once, only-polygons-listed}
 use Rattle.prepared_delivers.proofs.Prepared.{prepared-delivers}
 use Rattle.prepared_delivers.specs.Delivers as Mesh
-use Rattle.rebuild.specs.Rebuilding.{treeAnswer}
+use Rattle.rebuild.specs.Rebuilding.{leafLimit, treeAnswer}
+use Rattle.tree.specs.WellFormed.{nodeNo, NodeNumbers}
 use Rattle.walk.specs.Walks.{Outcome, walkOf, unread, ended, tooMany, tooShort, statusNumber, walkFrom}
 use Rattle.walk.specs.Walks as W
 use Rattle.walk.specs.declared.core.Counts.{Counts}
@@ -48,7 +51,7 @@ use Rattle.walk_steps.specs.declared.state.Sizes.{Sizes}
 use Rattle.walk_steps.specs.declared.state.Status.{Status}
 use Rattle.walk_steps.specs.declared.state.Status.the-variants.{Going, Stopped}
 use Rattle.answers.specs.Trees.{treeValues}
-use Rattle.answers.specs.WalkAnswers.{sizesOf, counted, WalkAnswered}
+use Rattle.answers.specs.WalkAnswers.{sizesOf, counted}
 use Rattle.answers.specs.declared.trees.BuildAnswer.{BuildAnswer}
 use Rattle.answers.specs.declared.walks.WalkAnswer.{WalkAnswer}
 use Rattle.prepare_answers.specs.Interface.{answerIn, BvhAnsweredIn}
@@ -154,16 +157,21 @@ module _ (g : Mesh) (b b′ : Lists) (before after : Outputs) (work : BvhWork) (
   values-are : r .tree ≡ treeValues (has .tree)
   values-are = ap (λ (y : PrepareAnswer). y .tree) (a .answer ∙ ap answerIn (has .is))
 
-  -- Of a mesh of kind 8 with polygons that is not refused, and a walk over the tree's records as they were written. What is given of the mesh is bytes.
+  -- the answer with another tree
+  abbrev withOther : BuildAnswer → PrepareAnswer
+  withOther t =
+      record { refusal = r .refusal; frame = r .frame; quantum = r .quantum; materials = r .materials; octants = r .octants; tree = t }
+
+  -- Of a mesh of kind 8 with polygons that is not refused, and a walk over the tree's records as they were written. What is given of the mesh is bytes, and
+  -- `b′ .polygons` are the returned polygon bytes.
   pub point-three : (query : Aabb) (out out′ : List ℕ) (w : WalkAnswer) → WalkedOver (g .counts .polygons) query r after out out′ w
-      → PointThree g query r after out out′ w
+      → PointThree g query r (b′ .polygons) after out out′ w
   unfolding treeValues counted
   point-three query out out′ w walked =
       let x = has .tree in
       let p = g .counts .polygons in
-      let walk = subst (λ (y : BuildAnswer). WalkAnswered
-      (walkOf query (y .scale .cen) (y .scale .inverse) (sizesOf (y .nodes) (y .trees) p) (after .nodes) (after .trees) (length out)) out out′ w)
-      values-are walked in
+      let at = positionsOf (g .bound .transform) (g .bound .center) (g .vertices) (g .counts .vertices) in
+      let walk = subst (λ (y : BuildAnswer). WalkedOver p query (withOther y) after out out′ w) values-are walked in
       let s = some-walk query (x .scale .cen) (x .scale .inverse) (sizesOf (x .nodes) (x .trees) p) (after .nodes) (after .trees) (length out) in
       let d = prepared-delivers g b b′ before after work others (has .values) x each answered query out out′ (s .walk)
       (record { number-is = s .number-is; counts-are = s .counts-are; output-is = walk .output-is }) in
@@ -172,16 +180,25 @@ module _ (g : Mesh) (b b′ : Lists) (before after : Outputs) (work : BvhWork) (
       ap (λ (y : WalkAnswer). y .handed) (walk .answer) ∙ ap (λ (c : Counts). c .handed) (sym (s .counts-are)) in
       let reads : w .reads ≡ W.countsOf (s .walk) .reads =
       ap (λ (y : WalkAnswer). y .reads) (walk .answer) ∙ ap (λ (c : Counts). c .reads) (sym (s .counts-are)) in
-      let same : (k : ℕ) → occurrences k (handedOut out′ w) ≡ occurrences k (Mesh.handedOut out′ (s .walk)) =
-      λ k. ap (λ (n : ℕ). occurrences k (take n out′)) handed in
-      record {
-        tree = x;
-        tree-is = values-are;
-        well-formed = d .well-formed;
-        refused-exactly-where-the-output-is-short = refusal ∙ d .refused-exactly;
-        every-polygon-that-meets = λ ordinary z k h m. same k ∙ d .every-polygon-that-meets ordinary (sym refusal ∙ z) k h m;
-        no-polygon-twice = λ k. omega (arith, same k, d .no-polygon-twice k);
-        only-polygons = λ k h. d .only-polygons k (omega (arith, same k, h));
-        reads-at-most-nodes-plus-trees =
-            omega (arith, reads, d .reads-at-most, ap (λ (y : BuildAnswer). y .nodes) values-are, ap (λ (y : BuildAnswer). y .trees) values-are);
-      }
+      let same : handedOut out′ w ≡ Mesh.handedOut out′ (s .walk) = ap (λ (n : ℕ). take n out′) handed in
+      let often : (k : ℕ) → occurrences k (handedOut out′ w) ≡ occurrences k (Mesh.handedOut out′ (s .walk)) = λ k. ap (occurrences k) same in
+      let f = d .well-formed in
+      subst (λ (y : BuildAnswer). PointThree g query (withOther y) (b′ .polygons) after out out′ w) (sym values-are)
+      (record {
+        each-polygon-in-exactly-one-leaf = λ q h. f .only-present q ∙ each-listed-once p (g .polygons) at q h;
+        no-other-polygon-in-a-leaf = λ q m. only-polygons-listed p (g .polygons) at q (omega (arith, m, f .only-present q));
+        each-polygon-is-present = d .each-polygon-is-present;
+        no-leaf-over-four = λ i h. subst (λ (m : ℕ). NodeNumbers leafLimit m (nodeNo after i)) (d .each-polygon-is-present) (f .at-most i h);
+        each-leaf-in-exactly-one-range = f .in-one-range;
+        no-range-over-127-nodes = f .ranges-are;
+        order-has-each-given-number-once = d .order-has-each-given-number-once;
+        order-leads-to-the-given-polygon = d .order-leads-to-the-given-polygon;
+        refused-exactly-where-the-output-is-short = refusal ∙ d .refused-exactly-where-the-output-is-short;
+        every-polygon-that-meets = λ ordinary z k h m. often k ∙ d .every-polygon-that-meets ordinary (sym refusal ∙ z) k h m;
+        no-polygon-twice = λ k. omega (arith, often k, d .no-polygon-twice k);
+        only-polygons = λ k h. d .only-polygons k (omega (arith, often k, h));
+        none-from-a-leaf-that-misses = λ k m. d .none-from-a-leaf-that-misses k (subst (List·Memᴰ k) same m);
+        as-many-as-it-says = ap length same ∙ d .as-many-as-it-says ∙ sym handed;
+        rest-as-it-was = d .rest-as-it-was ∙ ap (λ (xs : List ℕ). over xs out) (sym same);
+        reads-at-most-nodes-plus-trees = omega (arith, reads, d .reads-at-most-nodes-plus-trees);
+      })

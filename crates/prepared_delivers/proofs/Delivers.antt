@@ -8,17 +8,14 @@ use mathlib.Core.Path.{_≡_, refl, sym, ap, ap₂, subst, _∙_}
 use borrow.Author.Tests.{le-ltb, ltb-true, ltb-false}
 use lib.Dec.{ltb}
 use lib.ListN.{length, getD, take, drop, List·getD-append}
-use lib.Seq.{take-append-seam}
+use lib.Seq.{take-append-seam, take-at}
 use Rattle.base.specs.Lists.{occurrences, Among, over}
-use Rattle.bvh.specs.Build.{Entries, treeOf, answerOf, answerBy, short, orderWritten, nodesWritten, treesWritten}
+use Rattle.bvh.specs.Build.{Entries, answerOf, answerBy, short, orderWritten, nodesWritten, treesWritten}
 use Rattle.bvh.specs.Entry.{Outputs, Answered, entriesIn}
 use Rattle.bvh.specs.declared.core.Build.the-variants.{Built}
 use Rattle.bvh.specs.declared.core.BuiltTree.{BuiltTree}
 use Rattle.bvh.specs.declared.core.Lengths.{Lengths}
 use Rattle.bvh_shape.proofs.Given.{positions, given, leaves, entries-given}
-use Rattle.growth.proofs.GrowLaws.{leaf-order-permutes, leaf-order-length}
-use Rattle.growth.proofs.Lawful.{lawful}
-use Rattle.growth.specs.Grow.{builder}
 use Rattle.materials.specs.Materials.{placeIn}
 use Rattle.math.specs.declared.aabb.Aabb.{Aabb}
 use Rattle.meshes.specs.declared.Bound.{Bound}
@@ -28,8 +25,8 @@ use Rattle.prepared.specs.Rebuilt.{entriesOf8, polygonsOf8}
 use Rattle.prepared.specs.steps.Shapes.{BvhShaped}
 use Rattle.rebuild.proofs.OrderLaws.{order-permutes, order-length}
 use Rattle.rebuild.specs.Rebuilding.{leafLimit, treeAnswer, treeAnswerBy}
-use Rattle.reorder.proofs.LookupLaws.{new-of-old, among-at}
-use Rattle.tree.proofs.AnswerLaws.{Listed, words-listed, built-passed}
+use Rattle.reorder.proofs.LookupLaws.{new-of-old}
+use Rattle.tree.proofs.AnswerLaws.{built-passed}
 use Rattle.tree.proofs.PointThree.{records-well-formed, walk-delivers}
 use Rattle.tree.specs.Pair.{outcomeOf, boxValues, Delivered}
 use Rattle.tree.specs.WellFormed.{itemsAt}
@@ -37,9 +34,10 @@ use Rattle.walk.specs.Walks.{Outcome, walkOf, countsOf, Promise}
 use Rattle.walk.specs.declared.core.Counts.{Counts}
 use Rattle.walk.specs.declared.core.Walk.{Walk}
 use Rattle.walk_steps.specs.Boxes.{meetsBox}
-use Rattle.prepared_delivers.proofs.Boxes.{prepared-box}
-use Rattle.prepared_delivers.proofs.Orders.{occurs-there, not-there, as-often}
-use Rattle.prepared_delivers.specs.Delivers.{WalkedOver, handedOut, boxOfRecord, Delivers}
+use Rattle.prepared_delivers.proofs.Boxes.{place-below, same-box, prepared-box}
+use Rattle.prepared_delivers.proofs.Places.{polygons-listed, as-many-listed, once-in-order, place-listed}
+use Rattle.prepared_delivers.proofs.Orders.{not-there, as-often}
+use Rattle.prepared_delivers.specs.Delivers.{WalkedOver, handedOut, floatsOf, boxOfRecord, Delivers}
 
 -- ---- the tree is a build's
 
@@ -79,35 +77,17 @@ module _ (b : Bound) (p v : ℕ) (polygons vertices : List ℕ) (few : p ≤ 327
   abbrev order : List ℕ
   order = leaves b p v polygons vertices
 
-  listed : Listed e
-  listed = words-listed p (itemsOf p polygons at)
-
-  -- the places of all polygons
-  present-is : length (e .places) ≡ p
-  unfolding orderWritten treeOf
-  present-is =
-      sym (leaf-order-length (builder (e .at)) (lawful (e .at)) leafLimit (omega arith) (e .places)) ∙ order-length p polygons at
-
-  same-places : (q : ℕ) → occurrences q order ≡ occurrences q (e .places)
-  unfolding orderWritten treeOf
-  same-places q = leaf-order-permutes (builder (e .at)) (lawful (e .at)) leafLimit (omega arith) (e .places) q
-
-  place-there : (k : ℕ) → k < p → List·Memᴰ (getD order k 0) (e .places)
-  place-there k h =
-      let q = getD order k 0 in
-      occurs-there q (e .places)
-      (subst (λ (m : ℕ). 0 < m) (same-places q) (among-at order k (omega (arith, order-length p polygons at))))
-
-  module _ (build : Answered e leafLimit (enough p) (Built x) before after) (query : Aabb) (out out′ : List ℕ) (w : Walk)
+  module _ (build : Answered e leafLimit (enough p) (Built x) before after) (out₀ written : List ℕ)
+      (prepared : written ≡ over (polygonsOf8 b p v polygons vertices) out₀) (query : Aabb) (out out′ : List ℕ) (w : Walk)
       (walk : WalkedOver p query x after out out′ w) where
     abbrev o : Outcome
     o = outcomeOf e leafLimit query x after (length out)
 
     d : Delivered e leafLimit query x after (length out) o
-    d = walk-delivers e listed leafLimit (enough p) before after x build query (length out)
+    d = walk-delivers e (polygons-listed p polygons at) leafLimit (enough p) before after x build query (length out)
 
     count-is : x .present ≡ p
-    count-is = ap (λ (y : BuiltTree). y .present) (built-passed e leafLimit (enough p) x (build .answer) .values) ∙ present-is
+    count-is = ap (λ (y : BuiltTree). y .present) (built-passed e leafLimit (enough p) x (build .answer) .values) ∙ as-many-listed p polygons at
 
     walk-is : Promise o out out′ w
     unfolding outcomeOf
@@ -134,21 +114,29 @@ module _ (b : Bound) (p v : ℕ) (polygons vertices : List ℕ) (few : p ≤ 327
         ap (λ (l : List ℕ). getD l i 0) (build .order-is)
         ∙ List·getD-append order (drop (length order) (before .order)) 0 i (omega (arith, order-length p polygons at))
 
+    order-taken : take p (after .order) ≡ order
+    order-taken = ap (take p) (build .order-is) ∙ take-at order (drop (length order) (before .order)) p (order-length p polygons at)
+
     again : (i : ℕ) → i < p → placeIn order (getD (after .order) i 0) ≡ i
     again i h = ap (placeIn order) (placed i h) ∙ new-of-old p order (order-length p polygons at) (order-permutes p polygons at) i h
 
     counted : (k : ℕ) → k < p → occurrences (getD (after .order) k 0) (itemsAt leafLimit after (o .given)) ≡ occurrences k (handedOut out′ w)
     counted k h = as-often p (λ i. getD (after .order) i 0) (placeIn order) again k h (o .given) below ∙ sym (ap (occurrences k) out-is)
 
-    met : (k : ℕ) → k < p → meetsBox (boxOfRecord b v vertices (polygonsOf8 b p v polygons vertices) k) query ≡ true
+    given-box : (k : ℕ) → k < p → boxOfRecord b v vertices written k ≡ boxOfRecord b v vertices polygons (getD (after .order) k 0)
+    given-box k h =
+        ap floatsOf (same-box b p v polygons vertices records each out₀ written prepared k h)
+        ∙ ap (boxOfRecord b v vertices polygons) (sym (placed k h))
+
+    met : (k : ℕ) → k < p → meetsBox (boxOfRecord b v vertices written k) query ≡ true
         → meetsBox (boxValues (e .at (getD (after .order) k 0))) query ≡ true
     met k h m =
         ap (λ (q : ℕ). meetsBox (boxValues (e .at q)) query) (placed k h)
-        ∙ ap (λ (y : BoxWords). meetsBox (boxValues y) query) (sym (prepared-box b p v polygons vertices records each k h))
+        ∙ ap (λ (y : BoxWords). meetsBox (boxValues y) query) (sym (prepared-box b p v polygons vertices records each out₀ written prepared k h))
         ∙ m
 
     there : (k : ℕ) → k < p → List·Memᴰ (getD (after .order) k 0) (e .places)
-    there k h = subst (λ (q : ℕ). List·Memᴰ q (e .places)) (sym (placed k h)) (place-there k h)
+    there k h = subst (λ (q : ℕ). List·Memᴰ q (e .places)) (sym (placed k h)) (place-listed p polygons at k h)
 
     -- a number is handed out as often as its place, if it is a polygon's; any other never
     often : (k : ℕ) → Among k (handedOut out′ w) → k < p
@@ -165,26 +153,35 @@ module _ (b : Bound) (p v : ℕ) (polygons vertices : List ℕ) (few : p ≤ 327
         by true q = omega (arith, counted k (ltb-true k p q), d .none-twice (getD (after .order) k 0))
         by false q = omega (arith, ap (occurrences k) out-is, not-there p k (o .given) below (ltb-false k p q))
 
-    pub of-build : Delivers b p v polygons vertices (polygonsOf8 b p v polygons vertices) query x after out out′ w
+    pub of-build : Delivers b p v polygons vertices written query x after out out′ w
     of-build =
         record {
-          well-formed = records-well-formed e listed leafLimit (enough p) before after x build;
-          refused-exactly = walk-is .number-is ∙ d .refused-exactly ∙ ap (λ (m : ℕ). cond (ltb (length out) m) 2 0) count-is;
+          well-formed = records-well-formed e (polygons-listed p polygons at) leafLimit (enough p) before after x build;
+          each-polygon-is-present = count-is;
+          order-has-each-given-number-once = λ q h. ap (occurrences q) order-taken ∙ once-in-order p polygons at q h;
+          order-leads-to-the-given-polygon = λ k h.
+              (subst (λ (q : ℕ). q < p) (sym (placed k h)) (place-below b p v polygons vertices records each k h), given-box k h);
+          refused-exactly-where-the-output-is-short =
+              walk-is .number-is ∙ d .refused-exactly ∙ ap (λ (m : ℕ). cond (ltb (length out) m) 2 0) count-is;
           every-polygon-that-meets = λ ordinary z k h m.
               sym (counted k h)
               ∙ d .every-item-that-meets ordinary (sym (walk-is .number-is) ∙ z) (getD (after .order) k 0) (there k h) (met k h m);
           no-polygon-twice = once;
           only-polygons = often;
-          reads-at-most = omega (arith, ap (λ (c : Counts). c .reads) (walk-is .counts-are), d .reads-at-most);
+          none-from-a-leaf-that-misses = λ k m. d .from-leaves-that-meet k (subst (List·Memᴰ k) out-is m);
+          as-many-as-it-says = ap length out-is ∙ sym handed-is;
+          rest-as-it-was = walk-is .output-is ∙ ap (λ (xs : List ℕ). over xs out) (sym out-is);
+          reads-at-most-nodes-plus-trees = omega (arith, ap (λ (c : Counts). c .reads) (walk-is .counts-are), d .reads-at-most);
         }
 
-  -- from what is known of the tree that a mesh was given
+  -- from what is known of the tree that a mesh was given, and of the buffer that its records were written to
   pub of-tree : Built x ≡ treeAnswer (entriesOf8 b p v polygons vertices)
       → after .nodes ≡ over (nodesWritten (entriesOf8 b p v polygons vertices) leafLimit) (before .nodes)
       → after .trees ≡ over (treesWritten (entriesOf8 b p v polygons vertices) leafLimit) (before .trees)
       → after .order ≡ over (orderWritten (entriesOf8 b p v polygons vertices) leafLimit) (before .order)
+      → (out₀ written : List ℕ) → written ≡ over (polygonsOf8 b p v polygons vertices) out₀
       → (query : Aabb) (out out′ : List ℕ) (w : Walk) → WalkedOver p query x after out out′ w
-      → Delivers b p v polygons vertices (polygonsOf8 b p v polygons vertices) query x after out out′ w
+      → Delivers b p v polygons vertices written query x after out out′ w
   of-tree answer nodes trees places =
       let same = entries-given b p v polygons vertices records in
       of-build
@@ -202,6 +199,7 @@ pub shape-delivers : (b : Bound) (p v : ℕ) (polygons numbers vertices out₀ o
     → p ≤ 32767 → 16 * p ≤ length polygons → ((i : ℕ) → getD polygons i 0 < 256)
     → BvhShaped b p v polygons numbers vertices out₀ out₁ before after sorted (Built x)
     → (query : Aabb) (out out′ : List ℕ) (w : Walk) → WalkedOver p query x after out out′ w
-    → Delivers b p v polygons vertices (polygonsOf8 b p v polygons vertices) query x after out out′ w
+    → Delivers b p v polygons vertices out₁ query x after out out′ w
 shape-delivers b p v polygons numbers vertices out₀ out₁ before after sorted x few records each s =
-    of-tree b p v polygons vertices few records each x before after (s .answer) (s .nodes-are) (s .trees-are) (s .order-is)
+    of-tree b p v polygons vertices few records each x before after (s .answer) (s .nodes-are) (s .trees-are) (s .order-is) out₀ out₁
+    (s .records-are)

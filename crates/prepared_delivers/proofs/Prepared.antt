@@ -4,7 +4,7 @@ use Prim.Native.Nat.{ℕ, _<_}
 use native.Mathlib.Omega.{arith}
 use mathlib.Core.Bool.{Bool, true, false, cond, not, _||_}
 use mathlib.Core.List.{List}
-use mathlib.Core.Path.{_≡_, refl, sym, ap, subst, _∙_}
+use mathlib.Core.Path.{_≡_, refl, ap, _∙_}
 use lib.Dec.{eqb}
 use lib.ListN.{getD}
 use Rattle.base.proofs.Truth.{both-yes}
@@ -124,20 +124,20 @@ module _ (g : Mesh) (l : Lengths) (x : BuiltTree) (t : Told g l x) where
 -- ---- the statement
 
 -- Of a mesh that `prepare_bvh` answers with a tree, and a walk over that tree's records as they were written: the walk hands out numbers in the prepared
--- list of polygons. What is given of the mesh is bytes.
+-- list of polygons, whose records are those that were returned. What is given of the mesh is bytes.
 pub prepared-delivers : (g : Mesh) (b b′ : Lists) (before after : Outputs) (work : BvhWork) (others : GeometryLengths) (values : Values) (x : BuiltTree)
     → ((i : ℕ) → getD (g .polygons) i 0 < 256)
     → BvhAnswered g (bvhLengths g b before work others) (Bvh values x) b b′ before after
     → (query : Aabb) (out out′ : List ℕ) (w : Walk) → WalkedOver (g .counts .polygons) query x after out out′ w
-    → Delivers (g .bound) (g .counts .polygons) (g .counts .vertices) (g .polygons) (g .vertices) (preparedOf g .polygons) query x after out out′ w
-prepared-delivers g b b′ before after work others values x each a query out out′ w walk =
+    → Delivers (g .bound) (g .counts .polygons) (g .counts .vertices) (g .polygons) (g .vertices) (b′ .polygons) query x after out out′ w
+prepared-delivers g b b′ before after work others values x each a =
     let l = bvhLengths g b before work others in
     let t = told g l values x (a .answer) in
     let s = fine g l x t in
-    let p = g .counts .polygons in
-    let v = g .counts .vertices in
-    subst (λ (records : List ℕ). Delivers (g .bound) p v (g .polygons) (g .vertices) records query x after out out′ w) (sym (polygons-are g l x t))
-    (of-tree (g .bound) p v (g .polygons) (g .vertices) (s .few .polygons-few) (s .enough .for-polygons) each x before after (t .tree)
+    of-tree (g .bound) (g .counts .polygons) (g .counts .vertices) (g .polygons) (g .vertices) (s .few .polygons-few) (s .enough .for-polygons) each x
+    before after (t .tree)
     (a .tree-is .nodes-are ∙ ap (λ (ys : List ℕ). over ys (before .nodes)) (nodes-are g l x t))
     (a .tree-is .trees-are ∙ ap (λ (ys : List ℕ). over ys (before .trees)) (trees-are g l x t))
-    (a .tree-is .order-is ∙ ap (λ (ys : List ℕ). over ys (before .order)) (order-is g l x t)) query out out′ w walk)
+    (a .tree-is .order-is ∙ ap (λ (ys : List ℕ). over ys (before .order)) (order-is g l x t))
+    (b .polygons) (b′ .polygons)
+    (a .lists-are .polygons-are ∙ ap (λ (ys : List ℕ). over ys (b .polygons)) (polygons-are g l x t))
