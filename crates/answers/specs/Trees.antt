@@ -11,7 +11,7 @@ use Rattle.bvh.specs.declared.core.Build.{Build}
 use Rattle.bvh.specs.declared.core.Build.the-variants.{Built, Refused}
 use Rattle.bvh.specs.declared.core.BuiltTree.{BuiltTree}
 use Rattle.bvh.specs.declared.core.Lengths.{Lengths}
-use Rattle.bvh.specs.Build.{Entries, answerOf, kept, refusalNumber, nodesWritten, treesWritten, orderWritten}
+use Rattle.bvh.specs.Build.{Entries, answerOf, kept, numberOf, nodesWritten, treesWritten, orderWritten}
 use Rattle.bvh.specs.Entry.{Outputs}
 use Rattle.answers.specs.declared.trees.BuildAnswer.{BuildAnswer}
 
@@ -52,7 +52,7 @@ treeValues t =
 -- Rule B1 (01, What each operation turns down): the number and the values of each answer.
 abbrev pub buildAnswer : Build → BuildAnswer
 buildAnswer (Built t) = treeValues t
-buildAnswer (Refused r) = refusedBy (refusalNumber r)
+buildAnswer (Refused r) = refusedBy (numberOf (Refused r))
 
 -- Rule B2 (01, Build): the answer r of a build of the entries e, and the three outputs whole.
 pub record Answers (e : Entries) (th : ℕ) (l : Lengths) (r : BuildAnswer) (before after : Outputs) : Type 0 where

@@ -2,7 +2,7 @@
 use Prim.Native.Nat.{ℕ}
 use mathlib.Core.List.{List}
 use mathlib.Core.Path.{_≡_}
-use Rattle.octants.specs.Octants.{answerOf, refusalNumber, kept, listed}
+use Rattle.octants.specs.Octants.{answerOf, numberOf, kept, listed}
 use Rattle.octants.specs.declared.answering.OctantsAnswer.{OctantsAnswer}
 use Rattle.octants.specs.declared.entry.Lengths.{Lengths}
 use Rattle.octants.specs.declared.entry.Octants.{Octants}
@@ -30,7 +30,7 @@ without n = record { refusal = n; c0 = 0; c1 = 0; c2 = 0; c3 = 0; c4 = 0; c5 = 0
 -- Rule O3 (01, octants): the number and the counts of each answer.
 abbrev pub answerIn : Octants → OctantsAnswer
 answerIn (Listed c) = withCounts c
-answerIn (Refused r) = without (refusalNumber r)
+answerIn (Refused r) = without (numberOf (Refused r))
 
 -- Rule O3: the answer r, and every word of the lists.
 pub record AnsweredIn (n : ℕ) (l : Lengths) (ws before after : List ℕ) (r : OctantsAnswer) : Type 0 where

@@ -9,7 +9,7 @@ use Rattle.verts_shrunk.specs.declared.entry.Lengths.{Lengths}
 use Rattle.verts_shrunk.specs.declared.entry.Shrunk.{Shrunk}
 use Rattle.verts_shrunk.specs.declared.entry.Shrunk.the-variants.{ByMargin, ByNormals, NoVertices, Refused}
 use Rattle.shrinking.specs.declared.whole.Geometry.{Geometry}
-use Rattle.verts_shrunk.specs.Answers.{refusalNumber, answerOf, kept}
+use Rattle.verts_shrunk.specs.Answers.{numberOf, answerOf, kept}
 use Rattle.shrinking.specs.Whole.{meshIn, shrunkOf}
 
 abbrev pub without : ℕ → ℕ → ShrinkAnswer
@@ -20,7 +20,7 @@ abbrev pub answerIn : Shrunk → ShrinkAnswer
 answerIn (ByMargin m) = record { refusal = 0; by = 1; margin = m }
 answerIn ByNormals = without 0 2
 answerIn NoVertices = without 0 0
-answerIn (Refused r) = without (refusalNumber r) 0
+answerIn (Refused r) = without (numberOf (Refused r)) 0
 
 -- The answer, and every word of the points, as the entry's (`Answered`).
 pub record AnsweredIn (g : Geometry) (n : ℕ) (polygons : List ℕ) (v : ℕ) (vertices : List ℕ) (l : Lengths) (before after : List ℕ) (r : ShrinkAnswer)
