@@ -1,5 +1,6 @@
 // The tree of a list of places, laid out as rows in preorder. Segment after segment is taken from a stack, since hostile boxes make trees too
 // deep to recurse.
+use base::numbers::Position;
 use entries::totals::Begun;
 use entries::totals::no_longer;
 use entries::totals::not_begun;
@@ -18,17 +19,24 @@ ghost use Rattle.growth.specs.steps.Laid.{Room, InnerPut, Laid, Grown};
 ghost use Rattle.rows.specs.steps.Table.{withRow};
 
 // Row m of a leaf: the box of its places, the position of the first, and how many they are.
-fn put_leaf(rows: &mut [u32], m: usize, entries: &[u32], places: &[u32], lo: usize, plain: bool)
-    requires { ⌜ (8 * m + 8 ≤ length (now rows)) × (Within (length (now entries)) (now places)) × (lo < 65536) × (length (now places) < 65536)
+fn put_leaf(
+    rows: &mut [u32],
+    m: usize,
+    entries: &[u32],
+    places: &[u32],
+    first: Position,
+    plain: bool,
+)
+    requires { ⌜ (8 * m + 8 ≤ length (now rows)) × (Within (length (now entries)) (now places)) × (first .0 < 65536) × (length (now places) < 65536)
         × (Plain plain (now entries)) ⌝ }
     ensures { λ _. ⌜ now (rows .exit) ≡ withRow m (record {
       box = foldBox (boxAt (now (entries .entry))) (now (places .entry));
-      head = lo;
+      head = first .0;
       count = length (now (places .entry));
     }) (now (rows .entry)) ⌝ }
 {
     let around = entries::fold::fold_box(entries, places, plain);
-    put_row(rows, m, around, lo, places.len());
+    put_row(rows, m, around, first.0 as usize, places.len());
 }
 
 // How many places the first child has, and the totals of what they begin with.
@@ -100,7 +108,14 @@ pub fn grow(
         let k = stack[sp] as usize;
         let hi = lo + k;
         if k <= threshold {
-            put_leaf(rows, m, entries, &places[lo..hi], lo, plain);
+            put_leaf(
+                rows,
+                m,
+                entries,
+                &places[lo..hi],
+                Position(lo as u32),
+                plain,
+            );
             begun = no_longer(begun);
             lo = hi;
             sp += 1;

@@ -148,6 +148,11 @@ part-put-leaf-start c = omega arith
 part-put-leaf-end : tie.Need-part-put-leaf-end Inv-loop μ-loop
 part-put-leaf-end c = turn (c .before .before .before .before) .in-places
 
+cast-t33 : tie.Need-cast-t33 Inv-loop μ-loop
+cast-t33 c =
+    let t = turn (leaf-call c) in
+    omega (arith, t .few)
+
 put-leaf-requires : tie.Need-put-leaf-requires Inv-loop μ-loop
 put-leaf-requires c κs =
     let i = leaf-call c in
@@ -299,6 +304,7 @@ grow-spec =
     sub-put-leaf
     part-put-leaf-start
     part-put-leaf-end
+    cast-t33
     put-leaf-requires
     no-longer-requires
     add-sp
