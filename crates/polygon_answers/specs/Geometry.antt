@@ -14,7 +14,7 @@ use Rattle.materials.specs.declared.building.Materials.{Materials}
 use Rattle.materials.specs.declared.building.Materials.the-variants as Mat
 use Rattle.materials.specs.Answers as M
 use Rattle.materials.specs.Materials.{listOf, indicesOf, materialsBytes}
-use Rattle.polygon.specs.Answers.{refusalNumber, writeNumber, writeOf, writeExit}
+use Rattle.polygon.specs.Answers.{readNumber, writeNumber, writeOf, writeExit}
 use Rattle.polygon_boxes.specs.Boxes.{bboxOf}
 use Rattle.polygon_items.specs.Items as I
 use Rattle.polygon.specs.Polygons.{wordOr}
@@ -85,7 +85,7 @@ unread n = record { refusal = n; polygon = roundStruct 0 0 0 0 }
 -- Rule G5 (01, Polygon read): the number and the polygon of each answer.
 abbrev pub readAnswer : Read → ReadAnswer
 readAnswer (Found p) = record { refusal = 0; polygon = structOf p }
-readAnswer (Refused r) = unread (refusalNumber r)
+readAnswer (Refused r) = unread (readNumber (Refused r))
 
 -- Rule G5 (01, Polygon write: 2 under 16 bytes), and before it 6: a kind that no polygon has.
 pub record WroteStruct (c : PolygonC) (before after : List ℕ) (r : ℕ) : Type 0 where
@@ -126,9 +126,9 @@ materialsWith n count = record { refusal = n; count = count }
 -- Rule M3 (01, materials): the number and the count of each answer.
 abbrev pub materialsAnswer : Materials → MaterialsAnswer
 materialsAnswer (Mat.Built count) = materialsWith 0 count
-materialsAnswer Mat.TooMany = materialsWith 1 0
-materialsAnswer Mat.BufferTooShort = materialsWith 2 0
-materialsAnswer Mat.TooManyMaterials = materialsWith 8 0
+materialsAnswer Mat.TooMany = materialsWith (M.numberOf Mat.TooMany) 0
+materialsAnswer Mat.BufferTooShort = materialsWith (M.numberOf Mat.BufferTooShort) 0
+materialsAnswer Mat.TooManyMaterials = materialsWith (M.numberOf Mat.TooManyMaterials) 0
 
 -- Rule M3 (01, materials): the answer r, and every byte of the list and of the indices. ms are the polygons' materials.
 pub record MaterialsAnswered (n m : ℕ) (l : L.Lengths) (ms list₀ list indices₀ indices : List ℕ) (r : MaterialsAnswer) : Type 0 where
