@@ -1,6 +1,7 @@
 // The children's boxes as bytes, 32 each.
 use crate::children::box_of;
 use base::little_endian::put_le;
+use base::numbers::Place;
 use math::words3::Words3;
 ghost use mathlib.Core.Path.{_≡_};
 ghost use Prim.Native.Nat.{_+_, _*_, _≤_};
@@ -30,27 +31,28 @@ fn put_row(out: &mut [u8], at: usize, p: Words3, w: u32)
     put_le(out, at + 12, 4, w as u64);
 }
 
-// The box of child k, from `at` on.
-fn put_child(out: &mut [u8], at: usize, children: &[u32], k: usize)
-    requires { ⌜ (at + 32 ≤ length (now out)) × (24 * k + 24 ≤ length (now children)) ⌝ }
-    ensures { λ _. ⌜ now (out .exit) ≡ sets (now (out .entry)) at (childBytes (now (children .entry)) k) ⌝ }
+// The box of a child, from `at` on.
+fn put_child(out: &mut [u8], at: usize, children: &[u32], child: Place)
+    requires { ⌜ (at + 32 ≤ length (now out)) × (24 * child .0 + 24 ≤ length (now children)) ⌝ }
+    ensures { λ _. ⌜ now (out .exit) ≡ sets (now (out .entry)) at (childBytes (now (children .entry)) (child .0)) ⌝ }
 {
-    if children[24 * k] == 0 {
+    let from = 24 * (child.0 as usize);
+    if children[from] == 0 {
         put_le(out, at, 32, 0);
     } else {
-        let b = box_of(children, k);
+        let b = box_of(children, child);
         put_row(out, at, b.min, 1);
-        put_row(out, at + 16, b.max, children[24 * k + 7]);
+        put_row(out, at + 16, b.max, children[from + 7]);
     }
 }
 
 fn put_children(out: &mut [u8], children: &[u32], n: usize)
-    requires { ⌜ (32 * n ≤ length (now out)) × (24 * n ≤ length (now children)) ⌝ }
+    requires { ⌜ (32 * n ≤ length (now out)) × (24 * n ≤ length (now children)) × (n ≤ 32767) ⌝ }
     ensures { λ _. ⌜ now (out .exit) ≡ over (childrenBytes (now (children .entry)) 0 n) (now (out .entry)) ⌝ }
 {
     let mut k = 0;
     while k < n {
-        put_child(out, 32 * k, children, k);
+        put_child(out, 32 * k, children, Place(k as u32));
         k += 1;
     }
 }

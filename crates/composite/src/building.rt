@@ -1,5 +1,6 @@
 // The tree of a composite, over the computed boxes of its children.
 use crate::children::computed_box;
+use base::numbers::Place;
 use bvh::core::Build;
 use bvh::core::BuildRefusal;
 use bvh::items::BvhItem;
@@ -34,15 +35,15 @@ fn absent() -> BvhItem
 }
 
 // A child as an item of the build.
-fn item_of(children: &[u32], k: usize) -> BvhItem
-    requires { ⌜ 24 * k + 24 ≤ length (now children) ⌝ }
-    ensures { λ r. ⌜ r ≡ childItem (now (children .entry)) k ⌝ }
+fn item_of(children: &[u32], child: Place) -> BvhItem
+    requires { ⌜ 24 * child .0 + 24 ≤ length (now children) ⌝ }
+    ensures { λ r. ⌜ r ≡ childItem (now (children .entry)) (child .0) ⌝ }
 {
-    let mark = children[24 * k];
+    let mark = children[24 * (child.0 as usize)];
     if mark == 0 {
         return absent();
     }
-    let b = computed_box(children, k);
+    let b = computed_box(children, child);
     BvhItem {
         present: mark,
         min: math::words3::bits(b.min),
@@ -52,12 +53,12 @@ fn item_of(children: &[u32], k: usize) -> BvhItem
 
 // The words of the first k children's items.
 fn put_items(children: &[u32], n: usize, k: usize, entries: &mut [u32])
-    requires { ⌜ (24 * n ≤ length (now children)) × (k ≤ n) × (7 * k ≤ length (now entries)) ⌝ }
+    requires { ⌜ (24 * n ≤ length (now children)) × (k ≤ n) × (7 * k ≤ length (now entries)) × (n ≤ 32767) ⌝ }
     ensures { λ _. ⌜ now (entries .exit) ≡ over (wordsOf (take k (childItems (now (children .entry)) 0 n))) (now (entries .entry)) ⌝ }
 {
     let mut i = 0;
     while i < k {
-        bvh::entry::put_item(entries, i, item_of(children, i));
+        bvh::entry::put_item(entries, i, item_of(children, Place(i as u32)));
         i += 1;
     }
 }

@@ -1,4 +1,5 @@
 // A child of a composite is 24 words: its mark, 0 for absent, its box, its margin, and the four rows of its transform.
+use base::numbers::Place;
 use entries::boxes::BoxWords;
 use math::aabb::Aabb;
 use math::mat4::Mat4;
@@ -23,11 +24,11 @@ fn point_at(children: &[u32], at: usize) -> Words3
 }
 
 // A child's box as it was given.
-pub fn box_of(children: &[u32], k: usize) -> BoxWords
-    requires { ⌜ 24 * k + 24 ≤ length (now children) ⌝ }
-    ensures { λ r. ⌜ r ≡ boxOf (now (children .entry)) k ⌝ }
+pub fn box_of(children: &[u32], child: Place) -> BoxWords
+    requires { ⌜ 24 * child .0 + 24 ≤ length (now children) ⌝ }
+    ensures { λ r. ⌜ r ≡ boxOf (now (children .entry)) (child .0) ⌝ }
 {
-    let at = 24 * k + 1;
+    let at = 24 * (child.0 as usize) + 1;
     BoxWords {
         min: point_at(children, at),
         max: point_at(children, at + 3),
@@ -59,16 +60,16 @@ fn matrix_at(children: &[u32], at: usize) -> Mat4
 }
 
 // A child's box through its transform. It rounds at the identity too.
-pub fn computed_box(children: &[u32], k: usize) -> Aabb
-    requires { ⌜ 24 * k + 24 ≤ length (now children) ⌝ }
-    ensures { λ r. ⌜ r ≡ computedBox (now (children .entry)) k ⌝ }
+pub fn computed_box(children: &[u32], child: Place) -> Aabb
+    requires { ⌜ 24 * child .0 + 24 ≤ length (now children) ⌝ }
+    ensures { λ r. ⌜ r ≡ computedBox (now (children .entry)) (child .0) ⌝ }
 {
-    let given = box_of(children, k);
+    let given = box_of(children, child);
     let b = Aabb {
         min: math::words3::values(given.min),
         max: math::words3::values(given.max),
     };
-    math::aabb::transform_box(b, matrix_at(children, 24 * k + 8))
+    math::aabb::transform_box(b, matrix_at(children, 24 * (child.0 as usize) + 8))
 }
 
 // A child's computed box, where it is present.
@@ -94,7 +95,8 @@ fn no_box() -> ChildBox
     }
 }
 
-// The computed box of child k; none where it is absent, or where the words do not reach to it.
+// The computed box of child k; none where it is absent, or where the words do not reach to it. A caller may give any k, also one that no
+// place holds: so the child is taken as the first of those from k on.
 pub fn child_box(children: &[u32], k: usize) -> ChildBox
     ensures { λ r. ⌜ r ≡ childBoxOf (now (children .entry)) k ⌝ }
 {
@@ -104,7 +106,7 @@ pub fn child_box(children: &[u32], k: usize) -> ChildBox
     if children[24 * k] == 0 {
         return no_box();
     }
-    let b = computed_box(children, k);
+    let b = computed_box(&children[24 * k..], Place(0));
     let min = b.min;
     let max = b.max;
     ChildBox {

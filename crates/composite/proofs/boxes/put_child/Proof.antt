@@ -4,11 +4,14 @@ use Rattle.composite.proofs.boxes.put_child.Statement.{statement}
 use Rattle.composite.proofs.boxes.put_child.Tie as tie
 use Rattle.composite.proofs.BoxLaws.{absent-stored, present-stored}
 
+cast-from : tie.Need-cast-from
+cast-from c = search needs
+
+mul-from : tie.Need-mul-from
+mul-from c = search needs
+
 mul-if1 : tie.Need-mul-if1
 mul-if1 c = search needs
-
-mul-if1-2 : tie.Need-mul-if1-2
-mul-if1-2 c = search needs
 
 shared-slice-read-if1 : tie.Need-shared-slice-read-if1
 shared-slice-read-if1 c = search needs
@@ -25,14 +28,11 @@ put-row-requires c κs = search needs
 add-put-row : tie.Need-add-put-row
 add-put-row c = search needs
 
-mul-put-row : tie.Need-mul-put-row
-mul-put-row c = search needs
-
 add-put-row-2 : tie.Need-add-put-row-2
 add-put-row-2 c = search needs
 
-mul-put-row-2 : tie.Need-mul-put-row-2
-mul-put-row-2 c = search needs
+mul-put-row : tie.Need-mul-put-row
+mul-put-row c = search needs
 
 shared-slice-read-put-row : tie.Need-shared-slice-read-put-row
 shared-slice-read-put-row c = search needs
@@ -62,16 +62,16 @@ pub put-child-spec : {M : Type 1} → statement M
 put-child-spec =
     tie.close
     (tie.spec
+    cast-from
+    mul-from
     mul-if1
-    mul-if1-2
     shared-slice-read-if1
     put-le-requires
     box-of-requires
     put-row-requires
     add-put-row
-    mul-put-row
     add-put-row-2
-    mul-put-row-2
+    mul-put-row
     shared-slice-read-put-row
     put-row-requires-2
     same-length

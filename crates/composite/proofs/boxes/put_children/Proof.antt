@@ -18,6 +18,9 @@ loop-holds c = (start _ _, omega arith)
 mul-put-child : tie.Need-mul-put-child Inv-loop μ-loop
 mul-put-child c = omega arith
 
+cast-t10 : tie.Need-cast-t10 Inv-loop μ-loop
+cast-t10 c = omega arith
+
 put-child-requires : tie.Need-put-child-requires Inv-loop μ-loop
 put-child-requires c κs =
     let at-start = c .before .before .before .before .before in
@@ -55,6 +58,7 @@ put-children-spec =
     μ-loop
     loop-holds
     mul-put-child
+    cast-t10
     put-child-requires
     add-k
     loop-less

@@ -8,6 +8,9 @@ use Rattle.math.specs.Stored.{bitsOf}
 use Rattle.composite.specs.Children.{markOf}
 use Rattle.composite.specs.Trees.{childItem}
 
+cast-mark : tie.Need-cast-mark
+cast-mark c = search needs
+
 mul-mark : tie.Need-mul-mark
 mul-mark c = search needs
 
@@ -37,11 +40,11 @@ returns-2 : tie.Need-returns-2
 unfolding childItem
 returns-2 c =
     let at-if1 = c .before .before .before in
-    let at-start = at-if1 .before .before .before in
+    let at-start = at-if1 .before .before .before .before in
     let b = c .before .before .computed-box .ensures in
     rw (ne-eqb _ _ (at-if1 .if1 .left))
     (λ i. record {
-      present = markOf (at-start .args .children .now) (at-start .args .k);
+      present = markOf (at-start .args .children .now) (at-start .args .child .0);
       min = (c .before .bits .ensures ∙ λ j. bitsOf (b j .min)) i;
       max =
           (c .bits2 .ensures ∙ λ j. bitsOf (b j .max)) i;
@@ -51,6 +54,7 @@ pub item-of-spec : {M : Type 1} → statement M
 item-of-spec =
     tie.close
     (tie.spec
+    cast-mark
     mul-mark
     mul-mark-2
     shared-slice-read-mark

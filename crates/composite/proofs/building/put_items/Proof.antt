@@ -16,6 +16,9 @@ abbrev μ-loop : tie.MeasureT-loop
 loop-holds : tie.Need-loop-holds Inv-loop μ-loop
 loop-holds c = (start _ _, omega arith)
 
+cast-t11 : tie.Need-cast-t11 Inv-loop μ-loop
+cast-t11 c = omega arith
+
 item-of-requires : tie.Need-item-of-requires Inv-loop μ-loop
 item-of-requires c κs =
     let at-start = c .before .before .before .before .before in
@@ -63,6 +66,7 @@ put-items-spec =
     Inv-loop
     μ-loop
     loop-holds
+    cast-t11
     item-of-requires
     put-item-requires
     add-i

@@ -22,7 +22,7 @@ taken-requires c κs = search needs
 put-items-requires : tie.Need-put-items-requires
 put-items-requires c κs =
     let k = fits _ _ _ (c .before .taken .ensures) in
-    (c .before .before .if3 .left, k .0, k .1)
+    (c .before .before .if3 .left, k .0, k .1, c .before .before .before .if2 .left)
 
 build-core-requires : tie.Need-build-core-requires
 build-core-requires c κs = search needs

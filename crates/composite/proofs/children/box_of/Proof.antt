@@ -3,6 +3,9 @@ use borrow.Author.Needs.{needs}
 use Rattle.composite.proofs.children.box_of.Statement.{statement}
 use Rattle.composite.proofs.children.box_of.Tie as tie
 
+cast-at : tie.Need-cast-at
+cast-at c = search needs
+
 mul-at : tie.Need-mul-at
 mul-at c = search needs
 
@@ -23,4 +26,4 @@ returns c = λ i. record { min = c .before .point-at .ensures i; max = c .point-
 
 pub box-of-spec : {M : Type 1} → statement M
 box-of-spec =
-    tie.close (tie.spec mul-at add-at point-at-requires add-point-at point-at-requires-2 returns)
+    tie.close (tie.spec cast-at mul-at add-at point-at-requires add-point-at point-at-requires-2 returns)

@@ -16,6 +16,9 @@ values-requires c κs = search needs
 values-requires-2 : tie.Need-values-requires-2
 values-requires-2 c κs = search needs
 
+cast-matrix-at : tie.Need-cast-matrix-at
+cast-matrix-at c = search needs
+
 mul-matrix-at : tie.Need-mul-matrix-at
 mul-matrix-at c = search needs
 
@@ -31,12 +34,12 @@ transform-box-requires c κs = search needs
 returns : tie.Need-returns
 unfolding computedBox
 returns c =
-    let at-values = c .before .before .before in
+    let at-values = c .before .before .before .before in
     let at-box-of = at-values .before in
     let b = at-box-of .box-of .ensures in
     c .transform-box .ensures
     ∙ λ i. transformBox (record
-    { min = (at-values .values .ensures ∙ λ j. valuesOf (b j .min)) i; max = (c .before .before .values2 .ensures ∙ λ j. valuesOf (b j .max)) i })
+    { min = (at-values .values .ensures ∙ λ j. valuesOf (b j .min)) i; max = (c .before .before .before .values2 .ensures ∙ λ j. valuesOf (b j .max)) i })
     (c .before .matrix-at .ensures i)
 
 pub computed-box-spec : {M : Type 1} → statement M
@@ -46,6 +49,7 @@ computed-box-spec =
     box-of-requires
     values-requires
     values-requires-2
+    cast-matrix-at
     mul-matrix-at
     add-matrix-at
     matrix-at-requires
