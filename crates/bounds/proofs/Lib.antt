@@ -1,3 +1,4 @@
 pub mod CompositeLaws
+pub mod CompositeWorkLaws
 pub mod PointThree
 mod Read
