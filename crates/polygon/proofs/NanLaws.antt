@@ -23,6 +23,7 @@ float-back nan word f = nan-word word
 float-back (inf s) word f = ofBits-toBits binary32 (inf s) f
 float-back (fin s m e) word f = ofBits-toBits binary32 (fin s m e) f
 
--- A NaN stays a NaN, and nothing else becomes one.
+-- A NaN stays a NaN, and nothing else becomes one. This is of the word: a triangle's area then gives its low three bits to the kind (rule G3), and with them
+-- 7F800001 is +infinity's.
 pub nan-stays : (x : Float) (word : ℕ) → T (fits binary32 x) → isNan (ofBits binary32 (wordOr x word)) ≡ isNan x
 nan-stays x word f = ap isNan (float-back x word f)
