@@ -1,9 +1,9 @@
 //! The C interface as include/bounds.h has it, and the only unsafe code of this crate.
 //!
 //! `unsafe extern` claims that the declarations below are those of libbounds.a and libbounds_prepare.a, and `safe` that a
-//! call may be made with any argument. The first is checked by the C program examples/steps.c, which is compiled against
-//! the same header; the second holds line by line for the reason beside it, and rests on this: the library is proved
-//! total and in bounds for every argument that its C signature admits.
+//! call may be made with any argument. The first no tool checks: the sizes and alignments of the structs are asserted as
+//! this file compiles, and the tests and `compare` make every call. The second holds line by line for the reason beside
+//! it, and rests on this: the library is proved total and in bounds for every argument that its C signature admits.
 #![allow(unsafe_code)]
 
 use crate::geometry::Polygon;
