@@ -93,6 +93,12 @@ int main(void) {
     number("quantum x, its word", word(header, 96), 0x38000100);
     number("trees, twice", header[120] + header[122], 2);
 
+    /* The axes of the listing are alike, so that these three tell them apart. */
+    bounds_words3 three = bounds_words_of((bounds_vec3){1.0f, -2.0f, 0.5f});
+    number("word of x, 1", three.x, 0x3F800000);
+    number("word of y, -2", three.y, 0xC0000000);
+    number("word of z, 0.5", three.z, 0x3F000000);
+
     /* A NaN that is given is copied with its bits: signalling ones, and one with every bit. */
     bvh.bb_center.y = 0x7F800001, bvh.quantum_inverse.z = 0xFF800002, bvh.quantum.x = 0xFFFFFFFF;
     number("header with NaNs", bounds_tree_header(header, 128, bvh), 0);
