@@ -10,7 +10,7 @@ use records::scale::Scale;
 
 // What a build answers: 01's number, 0 where it is not refused, and the tree's values, 0 where it is.
 #[repr(C)]
-#[derive(Drop)]
+#[derive(Clone, Copy)]
 pub struct BuildAnswer {
     pub refusal: u32,
     pub nodes: usize,

@@ -9,7 +9,7 @@ use walk_steps::state::Sizes;
 
 // What a walk answers: 01's number, 0 where it is not refused, the records read and the positions handed out.
 #[repr(C)]
-#[derive(Drop)]
+#[derive(Clone, Copy)]
 pub struct WalkAnswer {
     pub refusal: u32,
     pub reads: usize,

@@ -1,4 +1,6 @@
 // The C interface: one function an operation, none of which asks anything of its caller.
+#![tactic(auto)]
+
 pub mod boxes;
 pub mod composites;
 pub mod geometry;

@@ -1,4 +1,6 @@
 // Preparing a mesh of either kind, in C: none of these functions asks anything of its caller.
+#![tactic(auto)]
+
 ghost use Rattle.std.specs.Prelude.{◌≡◌};
 ghost use Rattle.bvh.specs.Entry.{outputs};
 ghost use Rattle.meshes.specs.Meshes.{mesh_of};

@@ -1,5 +1,7 @@
 // A box through a matrix, for a call that has the matrix in registers. math's `transform_box` is the composites': with a second caller
 // it would stay out of line, and the matrix would be stored for it. What is here goes into its one caller.
+#![tactic(auto)]
+
 ghost use Rattle.std.specs.Prelude.{◌≡◌};
 ghost use Rattle.math.specs.Transform.{abs_row, centre_image, extent_image, transform_box};
 

@@ -12,7 +12,7 @@ ghost use Rattle.rows.specs.Steps.Decode.{RowsFit};
 use math::words3::Words3;
 use records::scale::Scale;
 
-#[derive(Drop)]
+#[derive(Clone, Copy)]
 pub struct BuiltTree {
     pub nodes: usize,
     pub capacity: usize,
@@ -24,7 +24,7 @@ pub struct BuiltTree {
 }
 
 // Why a build is refused.
-#[derive(Drop)]
+#[derive(Clone, Copy)]
 pub enum BuildRefusal {
     TooManyEntries,
     ThresholdOutside,
@@ -32,14 +32,14 @@ pub enum BuildRefusal {
     TooManyNodes,
 }
 
-#[derive(Drop)]
+#[derive(Clone, Copy)]
 pub enum Build {
     Built(BuiltTree),
     Refused(BuildRefusal),
 }
 
 // The lengths of the lent buffers.
-#[derive(Drop)]
+#[derive(Clone, Copy)]
 pub struct Lengths {
     pub nodes: usize,
     pub trees: usize,
@@ -53,7 +53,7 @@ pub struct Lengths {
 }
 
 // How many entries there are, how many items a leaf may have, and how many nodes a range.
-#[derive(Drop)]
+#[derive(Clone, Copy)]
 pub struct Task {
     pub n: usize,
     pub threshold: usize,
@@ -61,7 +61,7 @@ pub struct Task {
 }
 
 // How many entries are present, and how many nodes their tree has.
-#[derive(Drop)]
+#[derive(Clone, Copy)]
 pub struct Planted {
     pub present: usize,
     pub nodes: usize,

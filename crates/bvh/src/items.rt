@@ -9,7 +9,7 @@ use math::words3::Words3;
 // An entry: a mark, 0 for absent, and a box, in the place of the source's `Option`. It is known by its place in the list.
 // Seven words without padding: every pattern of bits has a meaning.
 #[repr(C)]
-#[derive(Drop)]
+#[derive(Clone, Copy)]
 pub struct BvhItem {
     pub present: u32,
     pub min: Words3,

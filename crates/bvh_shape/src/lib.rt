@@ -1,4 +1,6 @@
 // What kind 8 makes of the polygons of a mesh: their tree, the polygons in the order of its leaves, and the numbers of their materials in it.
+#![tactic(auto)]
+
 ghost use Rattle.core.specs.Prelude.{◌≡◌, ◌<◌};
 ghost use Rattle.bvh.specs.Entry.{outputs};
 ghost use Rattle.bvh.specs.declared.core.Build.TheVariants.{Built};

@@ -1,4 +1,6 @@
 // Preparing a mesh of kind 8 that passed the checks: the tree over its polygons, these in the order of its leaves; then what both kinds end with.
+#![tactic(auto)]
+
 pub mod ending;
 
 ghost use Rattle.bvh.specs.Entry.{outputs};

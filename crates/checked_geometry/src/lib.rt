@@ -1,4 +1,6 @@
 // Preparing a mesh of kind 4 that passed the checks: polygons linked, vertices shrunk, octants listed; then what both kinds end with.
+#![tactic(auto)]
+
 ghost use Rattle.meshes.specs.Meshes.{mesh_of};
 ghost use Rattle.prepared.specs.Answers.{lists, hull, geometry_work, geometry_lengths, GeometryAnswered};
 ghost use Rattle.checked_geometry.specs.Steps.Checked.{Checked};

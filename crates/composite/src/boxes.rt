@@ -10,13 +10,13 @@ use base::numbers::Place;
 use math::words3::Words3;
 
 // Why no boxes are written.
-#[derive(Drop)]
+#[derive(Clone, Copy)]
 pub enum ChildBoxesRefusal {
     TooManyChildren,
     BufferTooShort,
 }
 
-#[derive(Drop)]
+#[derive(Clone, Copy)]
 pub enum ChildBoxes {
     Written,
     Refused(ChildBoxesRefusal),

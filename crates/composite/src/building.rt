@@ -16,7 +16,7 @@ use rows::ranges::RANGE_LIMIT;
 pub const CHILD_LIMIT: usize = 5;
 
 // No tree, or what the build of one answers.
-#[derive(Drop)]
+#[derive(Clone, Copy)]
 pub enum CompositeTree {
     NoTree,
     Tree(Build),

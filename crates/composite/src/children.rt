@@ -72,7 +72,7 @@ pub fn computed_box(children: &[u32], child: Place) -> Aabb
 
 // A child's computed box, where it is present.
 #[repr(C)]
-#[derive(Drop)]
+#[derive(Clone, Copy)]
 pub struct ChildBox {
     pub present: u32,
     pub min: Vec3,

@@ -1,4 +1,6 @@
 // The dump of a mesh of another kind, which is prepared in buffers that are long enough for one of 8,192 bytes: at most 473 polygons or 670 vertices.
+#![tactic(auto)]
+
 ghost use Rattle.dump_sections.specs.Sizes.{Small};
 
 use dump_sections::printing::print_bvh;

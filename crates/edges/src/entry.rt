@@ -7,7 +7,7 @@ use crate::links::links_of;
 use corners::{kinds_known, put_links, unpack_corners};
 
 // The links are stored, or why not.
-#[derive(Drop)]
+#[derive(Clone, Copy)]
 pub enum Edges {
     Linked,
     TooManyPolygons,
@@ -16,7 +16,7 @@ pub enum Edges {
 }
 
 // The lengths of the lent buffers.
-#[derive(Drop)]
+#[derive(Clone, Copy)]
 pub struct Lengths {
     pub polygons: usize,
     pub corners: usize,

@@ -25,7 +25,7 @@ pub fn centre(b: Corners) -> Vec3
 }
 
 // The box around a node's items, the average of their boxes, and what is kept of the totals.
-#[derive(Drop)]
+#[derive(Clone, Copy)]
 pub struct Measured {
     pub around: BoxWords,
     pub average: Vec3,
@@ -65,7 +65,7 @@ pub fn measure(entries: &[u32], places: &[u32], plain: bool, begun: Begun) -> Me
 }
 
 // A centre as it is kept: its three floats, and x with the other sign, so that it is one vector and below tells above on x.
-#[derive(Drop)]
+#[derive(Clone, Copy)]
 pub struct Lanes {
     pub x: f32,
     pub y: f32,

@@ -14,7 +14,7 @@ use math::vec3::Vec3;
 use math::words3::Words3;
 
 #[repr(C)]
-#[derive(Drop)]
+#[derive(Clone, Copy)]
 pub struct BoxWords {
     pub min: Words3,
     pub max: Words3,
@@ -83,7 +83,7 @@ fn values(w: Words3, plain: bool) -> Vec3
 }
 
 // A box by its floats.
-#[derive(Drop)]
+#[derive(Clone, Copy)]
 pub struct Corners {
     pub low: Vec3,
     pub high: Vec3,

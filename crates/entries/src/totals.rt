@@ -14,14 +14,14 @@ use base::numbers::Place;
 use math::vec3::Vec3;
 
 // The x and the y of a point.
-#[derive(Drop)]
+#[derive(Clone, Copy)]
 pub struct Plane {
     pub x: f32,
     pub y: f32,
 }
 
 // Three numbers on z.
-#[derive(Drop)]
+#[derive(Clone, Copy)]
 pub struct Heights {
     pub low: f32,
     pub sum: f32,
@@ -31,7 +31,7 @@ pub struct Heights {
 // The least min and the greatest max, and the sum of min and max. Each z stands apart, so that what is stored as a vector of two, an
 // x and its y, is read as one; and the sum between the two, since side by side they are compiled into one vector of four, which takes
 // longer than two of two.
-#[derive(Drop)]
+#[derive(Clone, Copy)]
 pub struct Totals {
     pub low: Plane,
     pub sum: Plane,
@@ -150,7 +150,7 @@ fn total_on(entries: &[u32], places: &[u32], plain: bool, start: Totals) -> Tota
 
 // The totals of a node's first places, `count` of them; where it is 0, none are kept. Of a list that loses a few places on each
 // level a child begins as its parent does, and what they begin with need not be added again.
-#[derive(Drop)]
+#[derive(Clone, Copy)]
 pub struct Begun {
     pub count: usize,
     pub totals: Totals,
@@ -174,7 +174,7 @@ fn begin(entries: &[u32], places: &[u32], plain: bool, begun: Begun) -> Begun
 }
 
 // The totals of the places, and those of what they begin with.
-#[derive(Drop)]
+#[derive(Clone, Copy)]
 pub struct Gathered {
     pub totals: Totals,
     pub begun: Begun,

@@ -1,4 +1,6 @@
 // What both kinds of geometry end with: the list of materials and the indices, and the vertices in units of the quantum.
+#![tactic(auto)]
+
 pub mod listing;
 pub mod storing;
 

@@ -3,7 +3,7 @@ ghost use Rattle.std.specs.Prelude.{◌≡◌};
 ghost use Rattle.float32.specs.Comparison.{relation_of};
 
 // The four relations, of which exactly one holds between two floats.
-#[derive(Drop)]
+#[derive(Clone, Copy)]
 pub enum Relation {
     Less,
     Equal,

@@ -1,4 +1,6 @@
 // One step of binary32 arithmetic each, equal to IEEE 754-2019 or to Rust's own cast.
+#![tactic(auto)]
+
 pub mod casts;
 pub mod compare;
 pub mod counts;

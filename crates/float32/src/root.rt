@@ -37,7 +37,7 @@ fn guess(significand: u32, odd: u32) -> u64
 }
 
 // The number significand * 2^exponent / 2^275, with a significand of 24 digits.
-#[derive(Drop)]
+#[derive(Clone, Copy)]
 struct Scaled {
     significand: u32,
     exponent: u32,

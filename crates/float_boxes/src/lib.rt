@@ -1,6 +1,8 @@
 // The parts of the box of a polygon by the floats of its vertices, as two runs of four: four lanes at a time are tested, folded and stored,
 // and a caller reads each run as it was stored. Where one of the floats is a NaN, whose bits a float does not tell, the box is not told.
 // The tests stand in the functions that C calls, since a box that a function returns from two places is copied once more.
+#![tactic(auto)]
+
 ghost use Rattle.std.specs.Prelude.{true, false, ◌||◌, ◌≡◌, ◌⊎◌, ◌+◌, ◌*◌, ◌≤◌, ◌<◌, length};
 ghost use Rattle.std.specs.Float.Ieee.{is_nan};
 ghost use Rattle.float_boxes.specs.Floats.{four_floats, vertices_at, nan_in, lesser_of, greater_of, plus_of, moved_of, told_box, not_told};
@@ -11,7 +13,7 @@ use math::vec3::{Vec3, vadd_f, vmax, vmin};
 
 // Behind each corner is a spare float: what the fourth lane has where the other three have the corner. `told` is 1 where the box is told.
 #[repr(C)]
-#[derive(Drop)]
+#[derive(Clone, Copy)]
 pub struct FloatBox {
     pub min: Vec3,
     pub spare_min: f32,
@@ -21,13 +23,13 @@ pub struct FloatBox {
 }
 
 // A vertex and the float behind it.
-#[derive(Drop)]
+#[derive(Clone, Copy)]
 pub struct Floats4 {
     pub vertex: Vec3,
     pub next: f32,
 }
 
-#[derive(Drop)]
+#[derive(Clone, Copy)]
 pub struct Vertices4 {
     pub a: Floats4,
     pub b: Floats4,

@@ -1,4 +1,6 @@
 // Preparing a mesh of kind 4: the checks, and what follows where they pass.
+#![tactic(auto)]
+
 ghost use Rattle.meshes.specs.Meshes.{mesh_of};
 ghost use Rattle.prepared.specs.Answers.{lists, hull, geometry_work, geometry_lengths, GeometryAnswered};
 

@@ -1,4 +1,6 @@
 // Preparing a mesh of kind 8: the checks, and what follows where they pass, with polygons or without.
+#![tactic(auto)]
+
 ghost use Rattle.bvh.specs.Entry.{outputs};
 ghost use Rattle.meshes.specs.Meshes.{mesh_of};
 ghost use Rattle.prepared.specs.Answers.{lists, bvh_work, bvh_lengths, BvhAnswered};

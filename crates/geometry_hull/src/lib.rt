@@ -1,4 +1,6 @@
 // The hull of a mesh of kind 4 whose records are linked: its vertices shrunk, listed by octants and stored.
+#![tactic(auto)]
+
 ghost use Rattle.std.specs.Prelude.{◌≡◌, ◌*◌, take};
 ghost use Rattle.meshes.specs.Meshes.{geometry_of};
 ghost use Rattle.prepared.specs.Answers.{hull};

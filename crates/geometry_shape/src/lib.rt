@@ -1,4 +1,6 @@
 // Kind 4, once the checks are passed: the records linked, the vertices shrunk, listed by octants and stored.
+#![tactic(auto)]
+
 ghost use Rattle.prepared.specs.Answers.{hull, geometry_work};
 ghost use Rattle.prepared.specs.Steps.Shapes.{GeometryRoom, GeometryShaped};
 

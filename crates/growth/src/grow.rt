@@ -37,7 +37,7 @@ fn put_leaf(
 }
 
 // How many places the first child has, and the totals of what they begin with.
-#[derive(Drop)]
+#[derive(Clone, Copy)]
 pub struct Inner {
     pub first: usize,
     pub begun: Begun,

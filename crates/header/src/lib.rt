@@ -1,4 +1,6 @@
 // The header of a tree: where its nodes and ranges are, the box around its items, and the units of its records.
+#![tactic(auto)]
+
 ghost use Rattle.std.specs.Prelude.{◌≡◌, ◌+◌, ◌≤◌, length};
 ghost use Rattle.std.proofs.lemmas.List.Edits.{sets};
 ghost use Rattle.header.specs.Header.{node_list_bytes, point_bytes, points_bytes, tree_list_bytes, Headed};
@@ -8,7 +10,7 @@ use math::words3::Words3;
 
 // Every point is words, which are copied: a NaN in it keeps its bits.
 #[repr(C)]
-#[derive(Drop)]
+#[derive(Clone, Copy)]
 pub struct Bvh {
     pub nodes_address: u64,
     pub nodes_count: u32,
@@ -22,7 +24,7 @@ pub struct Bvh {
     pub trees_count: u32,
 }
 
-#[derive(Drop)]
+#[derive(Clone, Copy)]
 pub enum Header {
     Written,
     TooManyTrees,

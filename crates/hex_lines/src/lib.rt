@@ -1,3 +1,5 @@
 // Bytes in hexadecimal, line after line.
+#![tactic(auto)]
+
 pub mod hex;
 pub mod lines;

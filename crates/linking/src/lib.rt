@@ -1,4 +1,6 @@
 // The polygons of a mesh, written and linked; their corners and links stay for whoever works on with them.
+#![tactic(auto)]
+
 ghost use Rattle.std.specs.Prelude.{◌≡◌, ◌*◌, ◌≤◌, length};
 ghost use Rattle.base.specs.Lists.{over};
 ghost use Rattle.linking.specs.Written.{written_of};

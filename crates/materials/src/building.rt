@@ -7,7 +7,7 @@ ghost use Rattle.materials.specs.Steps.Listing.{Room, Listed};
 use crate::listing::{dedupe, put_list};
 
 // How many materials the list has, or why there is none.
-#[derive(Drop)]
+#[derive(Clone, Copy)]
 pub enum Materials {
     Built(usize),
     TooMany,
@@ -16,7 +16,7 @@ pub enum Materials {
 }
 
 // The lengths of the lent buffers.
-#[derive(Drop)]
+#[derive(Clone, Copy)]
 pub struct Lengths {
     pub numbers: usize,
     pub mats: usize,

@@ -6,7 +6,7 @@ use crate::mat4::Mat4;
 use crate::vec3::Vec3;
 
 #[repr(C)]
-#[derive(Drop)]
+#[derive(Clone, Copy)]
 pub struct Aabb {
     pub min: Vec3,
     pub max: Vec3,

@@ -4,7 +4,7 @@ ghost use Rattle.math.specs.Axes.{coordinate};
 
 use crate::vec3::Vec3;
 
-#[derive(Drop)]
+#[derive(Clone, Copy)]
 pub enum Axis {
     X,
     Y,

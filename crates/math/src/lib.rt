@@ -1,4 +1,6 @@
 // Points, boxes and transforms of floats, with the source's order of operations.
+#![tactic(auto)]
+
 pub mod aabb;
 pub mod axis;
 pub mod mat4;

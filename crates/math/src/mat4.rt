@@ -5,7 +5,7 @@ ghost use Rattle.math.specs.Transform.{abs_row, abs_matrix, point_of, vector_of}
 use crate::vec3::Vec3;
 
 #[repr(C)]
-#[derive(Drop)]
+#[derive(Clone, Copy)]
 pub struct Vec4 {
     pub x: f32,
     pub y: f32,
@@ -14,7 +14,7 @@ pub struct Vec4 {
 }
 
 #[repr(C)]
-#[derive(Drop)]
+#[derive(Clone, Copy)]
 pub struct Mat4 {
     pub row0: Vec4,
     pub row1: Vec4,

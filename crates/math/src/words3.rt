@@ -5,7 +5,7 @@ ghost use Rattle.math.specs.Stored.{values_of, bits_of, vmin_words_of, vmax_word
 use crate::vec3::Vec3;
 
 #[repr(C)]
-#[derive(Drop)]
+#[derive(Clone, Copy)]
 pub struct Words3 {
     pub x: u32,
     pub y: u32,

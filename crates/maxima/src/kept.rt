@@ -108,7 +108,7 @@ fn furthest(n: usize, rows: &[u32], kept: &[u32]) -> usize
 }
 
 // How many are kept, and the place of the one to test first.
-#[derive(Drop)]
+#[derive(Clone, Copy)]
 pub struct Kept {
     pub count: usize,
     pub first: usize,

@@ -1,4 +1,6 @@
 // A mesh as the program `prepare` reads it: a header of 148 bytes, materials, vertices, polygon records, and the numbers of their materials.
+#![tactic(auto)]
+
 ghost use Rattle.std.specs.Prelude.{◌≡◌, ◌+◌, ◌*◌, ◌≤◌, ◌<◌, length};
 ghost use Rattle.base.specs.Lists.{over};
 ghost use Rattle.mesh_input.specs.Input.{words3_at, float_at, row_at, frame_of, transform_of, bound_of, counts_of, words_at, length_of, refusal_of};

@@ -1,4 +1,6 @@
 // A mesh to prepare: its bound, its counts, the buffers that it is prepared in, and why it may be turned down.
+#![tactic(auto)]
+
 pub mod checking;
 
 use math::mat4::Mat4;
@@ -7,7 +9,7 @@ use math::words3::Words3;
 
 // Box, centres and radius of a bound, as words: what is copied of them keeps its bits.
 #[repr(C)]
-#[derive(Drop)]
+#[derive(Clone, Copy)]
 pub struct Frame {
     pub box_min: Words3,
     pub box_max: Words3,
@@ -18,7 +20,7 @@ pub struct Frame {
 
 // What preparing reads of a bound. `center` is the point that its vertices are about.
 #[repr(C)]
-#[derive(Drop)]
+#[derive(Clone, Copy)]
 pub struct Bound {
     pub kind: u32,
     pub frame: Frame,
@@ -28,7 +30,7 @@ pub struct Bound {
 }
 
 #[repr(C)]
-#[derive(Drop)]
+#[derive(Clone, Copy)]
 pub struct Counts {
     pub polygons: usize,
     pub vertices: usize,
@@ -36,7 +38,7 @@ pub struct Counts {
 }
 
 // The lengths of the lent buffers: what is given, what is written, and what is worked in.
-#[derive(Drop)]
+#[derive(Clone, Copy)]
 pub struct Lengths {
     pub polygons: usize,
     pub numbers: usize,
@@ -67,7 +69,7 @@ pub struct Lengths {
 
 // Of them, those that kind 8 alone is lent, and those that kind 4 alone is: the other kind is told their lengths.
 #[repr(C)]
-#[derive(Drop)]
+#[derive(Clone, Copy)]
 pub struct BvhLengths {
     pub node_bytes: usize,
     pub tree_bytes: usize,
@@ -76,7 +78,7 @@ pub struct BvhLengths {
 }
 
 #[repr(C)]
-#[derive(Drop)]
+#[derive(Clone, Copy)]
 pub struct GeometryLengths {
     pub shrunk: usize,
     pub shrunk_floats: usize,
@@ -86,7 +88,7 @@ pub struct GeometryLengths {
 }
 
 // Why a mesh is not prepared.
-#[derive(Drop)]
+#[derive(Clone, Copy)]
 pub enum PrepareRefusal {
     UnknownKind,
     TooMany,
@@ -97,7 +99,7 @@ pub enum PrepareRefusal {
     TooManyNodes,
 }
 
-#[derive(Drop)]
+#[derive(Clone, Copy)]
 pub enum Check {
     Passed,
     Fails(PrepareRefusal),

@@ -1,4 +1,6 @@
 // The bytes of the octants' eight lists: their lengths, where each stands, and the lists themselves.
+#![tactic(auto)]
+
 ghost use Rattle.std.specs.Prelude.{◌≡◌, ◌++◌, ◌+◌, ◌*◌, ◌≤◌, ◌<◌, length, replicate};
 ghost use Rattle.std.proofs.lemmas.List.Edits.{sets};
 ghost use Rattle.base.specs.LittleEndian.{little_endian};
@@ -9,21 +11,21 @@ ghost use Rattle.octant_bytes.specs.Steps.Counts.{Few, listed, eight, four_bytes
 use base::little_endian::put_le;
 
 // Why no octants are written.
-#[derive(Drop)]
+#[derive(Clone, Copy)]
 pub enum OctantBytesRefusal {
     TooManyIndices,
     BufferTooShort,
     AddressTooHigh,
 }
 
-#[derive(Drop)]
+#[derive(Clone, Copy)]
 pub enum OctantBytes {
     Written,
     Refused(OctantBytesRefusal),
 }
 
 // The lengths of the eight lists.
-#[derive(Drop)]
+#[derive(Clone, Copy)]
 pub struct Counts {
     pub c0: usize,
     pub c1: usize,

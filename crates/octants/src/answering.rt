@@ -8,7 +8,7 @@ use crate::lists::OctantCounts;
 
 // 01's number, 0 where it is not refused, and how many each list has, 0 where it is.
 #[repr(C)]
-#[derive(Drop)]
+#[derive(Clone, Copy)]
 pub struct OctantsAnswer {
     pub refusal: u32,
     pub c0: u32,

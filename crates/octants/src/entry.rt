@@ -5,21 +5,21 @@ ghost use Rattle.octants.specs.Octants.{short, Answered};
 use crate::lists::OctantCounts;
 
 // Why there are no lists.
-#[derive(Drop)]
+#[derive(Clone, Copy)]
 pub enum OctantsRefusal {
     TooManyVertices,
     BufferTooShort,
 }
 
 // How many each list has, or why there are none.
-#[derive(Drop)]
+#[derive(Clone, Copy)]
 pub enum Octants {
     Listed(OctantCounts),
     Refused(OctantsRefusal),
 }
 
 // The lengths of the lent buffers.
-#[derive(Drop)]
+#[derive(Clone, Copy)]
 pub struct Lengths {
     pub vertices: usize,
     pub lists: usize,

@@ -1,4 +1,6 @@
 // The octant lists of a geometry: for each of eight directions the vertices that no other one shadows.
+#![tactic(auto)]
+
 pub mod answering;
 pub mod entry;
 pub mod keys;

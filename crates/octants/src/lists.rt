@@ -12,7 +12,7 @@ use crate::laying::lay_rows;
 use maxima::listing::list_maxima;
 
 // How many each octant's list has.
-#[derive(Drop)]
+#[derive(Clone, Copy)]
 pub struct OctantCounts {
     pub c0: u32,
     pub c1: u32,

@@ -6,7 +6,7 @@ use math::aabb::Aabb;
 use math::vec3::Vec3;
 
 // What the boxes of a list are like.
-#[derive(Drop)]
+#[derive(Clone, Copy)]
 pub struct Shape {
     pub seed: u32,
     pub n: usize,

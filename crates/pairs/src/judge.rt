@@ -8,7 +8,7 @@ use base::numbers::{Place, Position};
 use math::aabb::Aabb;
 
 // Boxes that meet the query; of those, how many were not handed out; and how many handed out are not present.
-#[derive(Drop)]
+#[derive(Clone, Copy)]
 pub struct Met {
     pub meeting: u64,
     pub missed: u64,

@@ -1,5 +1,7 @@
 // Lists and queries by a fixed formula: each list is built and walked, and each answer is held against comparing every box.
 // A line for each list and threshold, and how many queries failed.
+#![tactic(auto)]
+
 mod draw;
 mod judge;
 mod lists;

@@ -4,7 +4,7 @@ ghost use Rattle.pairs.specs.Drawing.{failed, together};
 
 use std::num::wrapping_add_u64;
 
-#[derive(Drop)]
+#[derive(Clone, Copy)]
 pub struct Tally {
     // Of the tree.
     pub nodes: u64,

@@ -8,7 +8,7 @@ ghost use Rattle.polygon.specs.Halves.{four_bytes, halves_bytes, halves_at};
 use base::little_endian::{put_le, two_at};
 
 // Each is named by the byte where it begins.
-#[derive(Drop)]
+#[derive(Clone, Copy)]
 pub struct Halves {
     pub at0: u16,
     pub at2: u16,

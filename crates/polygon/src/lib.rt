@@ -1,10 +1,12 @@
 // Polygons: five kinds by value, and their records of 16 bytes.
+#![tactic(auto)]
+
 pub mod halves;
 pub mod reading;
 pub mod writing;
 
 // A polygon; its material is stored beside it. With a float goes the word that is written where both are a NaN, since an f32 keeps no bits of one.
-#[derive(Drop)]
+#[derive(Clone, Copy)]
 pub enum Polygon {
     Triangle {
         area: f32,
@@ -42,19 +44,19 @@ pub enum Polygon {
 }
 
 // Why a record is not read.
-#[derive(Drop)]
+#[derive(Clone, Copy)]
 pub enum ReadRefusal {
     ShortRecord,
     UnknownKind,
 }
 
-#[derive(Drop)]
+#[derive(Clone, Copy)]
 pub enum Read {
     Found(Polygon),
     Refused(ReadRefusal),
 }
 
-#[derive(Drop)]
+#[derive(Clone, Copy)]
 pub enum Write {
     Written,
     BufferTooShort,

@@ -1,4 +1,6 @@
 // What the C interface answers of polygons: a polygon as a struct, and numbers and structs for the cases of enums.
+#![tactic(auto)]
+
 ghost use Rattle.std.specs.Prelude.{◌≡◌};
 ghost use Rattle.edges.specs.Edges.{number_of as edgesNumber};
 ghost use Rattle.polygon.specs.Answers.{refusal_number as readRefusal, read_of, write_number};
@@ -19,7 +21,7 @@ use polygon_items::Items;
 // A polygon by its kind, 0 to 4. `word` is the area or the radius, of any bits; a box's is 0. The halves, of which the unused are 0:
 // a triangle's three vertices and three links, a sphere's index, a capsule's and a cylinder's two, a box's four.
 #[repr(C)]
-#[derive(Drop)]
+#[derive(Clone, Copy)]
 pub struct PolygonC {
     pub kind: u32,
     pub word: u32,
@@ -177,7 +179,7 @@ fn polygon_in(c: PolygonC) -> Polygon
 
 // What reading answers: 01's number, 0 where it is not refused, and the polygon, 0 throughout where it is.
 #[repr(C)]
-#[derive(Drop)]
+#[derive(Clone, Copy)]
 pub struct ReadAnswer {
     pub refusal: u32,
     pub polygon: PolygonC,
@@ -251,7 +253,7 @@ pub fn write_struct(out: &mut [u8], polygon: PolygonC) -> u32
 
 // What a polygon's box answers: 01's number, 0 where it is not refused, and the box in words, 0 where it is.
 #[repr(C)]
-#[derive(Drop)]
+#[derive(Clone, Copy)]
 pub struct BoxAnswer {
     pub refusal: u32,
     pub min: Words3,
@@ -328,7 +330,7 @@ pub fn edges_work_len(polygons: u32) -> u64
 
 // What building a list of materials answers: 01's number, 0 where it is not refused, and how many it has, 0 where it is.
 #[repr(C)]
-#[derive(Drop)]
+#[derive(Clone, Copy)]
 pub struct MaterialsAnswer {
     pub refusal: u32,
     pub count: usize,

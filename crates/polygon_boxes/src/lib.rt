@@ -1,4 +1,6 @@
 // The box of a polygon over its vertices, which are three words each. A vertex that is not there is zero.
+#![tactic(auto)]
+
 ghost use Rattle.std.specs.Prelude.{◌≡◌, ◌+◌, ◌*◌, ◌≤◌, length};
 ghost use Rattle.polygon_boxes.specs.Boxes.{vertex_words, three_box, four_box, grown_box, pair_box, bbox_of};
 ghost use Rattle.polygon_boxes.specs.Numbers.{Numbers};
@@ -15,7 +17,7 @@ pub mod triangles;
 
 // Words, so that a NaN that is copied keeps its bits.
 #[repr(C)]
-#[derive(Drop)]
+#[derive(Clone, Copy)]
 pub struct PolygonBox {
     pub min: Words3,
     pub max: Words3,

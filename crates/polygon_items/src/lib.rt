@@ -1,4 +1,6 @@
 // The boxes of a list of polygon records, as the entries that a build takes: seven words each, the mark and the box.
+#![tactic(auto)]
+
 ghost use Rattle.std.specs.Prelude.{◌≡◌, ◌+◌, ◌*◌, ◌≤◌, length};
 ghost use Rattle.std.proofs.lemmas.List.Edits.{sets};
 ghost use Rattle.base.specs.Lists.{over};
@@ -16,7 +18,7 @@ use polygon_boxes::triangles::within;
 use polygon_boxes::{PolygonBox, bbox, near_words};
 
 // The entries are written, or why not.
-#[derive(Drop)]
+#[derive(Clone, Copy)]
 pub enum Items {
     Boxed,
     TooManyPolygons,

@@ -1,4 +1,6 @@
 // What preparing answers in C: numbers for the cases of the enum, and zeros for what a kind has not.
+#![tactic(auto)]
+
 ghost use Rattle.core.specs.Prelude.{◌≡◌};
 ghost use Rattle.meshes.specs.Checks.{refusal_number};
 ghost use Rattle.meshes.specs.Sizes.{work_words};
@@ -17,7 +19,7 @@ use prepared::{Prepare, Values};
 // 01's number, 0 where it is not refused, and all else 0 where it is. `materials` are counted before the list is filled; the octants are those of
 // kind 4, and there is a tree where it has nodes.
 #[repr(C)]
-#[derive(Drop)]
+#[derive(Clone, Copy)]
 pub struct PrepareAnswer {
     pub refusal: u32,
     pub frame: Frame,

@@ -1,4 +1,6 @@
 // Runs what `prepare` runs on each file that an argument names, after a line with the name.
+#![tactic(auto)]
+
 use libc::STDOUT_FILENO;
 
 fn run_case(number: usize) {

@@ -1,4 +1,6 @@
 // Runs what `prepare` runs on each of many inputs that stand one after another.
+#![tactic(auto)]
+
 ghost use Rattle.std.specs.Prelude.{◌<◌};
 
 use libc::{STDIN_FILENO, STDOUT_FILENO};

@@ -1,4 +1,6 @@
 // The turns of the program `prepare`, over descriptors: an input is read, and the dump of its mesh is written.
+#![tactic(auto)]
+
 ghost use Rattle.std.specs.Prelude.{◌≡◌, ◌+◌, ◌*◌, ◌≤◌, length};
 ghost use Rattle.io.specs.Counts.{IsPrefixLen as CountsIn};
 ghost use Rattle.mesh_input.specs.Input.{length_of};

@@ -1,4 +1,6 @@
 // What preparing a mesh answers, and its frame.
+#![tactic(auto)]
+
 pub mod frames;
 
 use bvh::core::BuiltTree;
@@ -7,7 +9,7 @@ use meshes::{Frame, PrepareRefusal};
 use octants::lists::OctantCounts;
 
 // What a prepared geometry then has besides its lists. `materials` are counted before the list is filled.
-#[derive(Drop)]
+#[derive(Clone, Copy)]
 pub struct Values {
     pub frame: Frame,
     pub quantum: Vec3,
@@ -15,7 +17,7 @@ pub struct Values {
 }
 
 // Kind 4, with how many each octant has; kind 8 with its tree; kind 8 without polygons, and so without a tree; or why not.
-#[derive(Drop)]
+#[derive(Clone, Copy)]
 pub enum Prepare {
     Geometry(Values, OctantCounts),
     Bvh(Values, BuiltTree),

@@ -12,7 +12,7 @@ use math::vec3::Vec3;
 use points::vertex_at;
 
 // Whether the vertices pass, and where they do not a vertex that fails.
-#[derive(Drop)]
+#[derive(Clone, Copy)]
 pub struct Checked {
     pub passed: bool,
     pub failed: usize,

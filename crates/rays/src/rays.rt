@@ -8,7 +8,7 @@ ghost use Rattle.rays.specs.Rays.{meeting_of, within, ahead, hits};
 
 use math::vec3::Vec3;
 
-#[derive(Drop)]
+#[derive(Clone, Copy)]
 pub struct Ray {
     pub pos: Vec3,
     pub dir: Vec3,
@@ -16,7 +16,7 @@ pub struct Ray {
 }
 
 // A triangle: its first corner, and the sides from there to the second and the third.
-#[derive(Drop)]
+#[derive(Clone, Copy)]
 pub struct Facet {
     pub corner: Vec3,
     pub side1: Vec3,
@@ -24,7 +24,7 @@ pub struct Facet {
 }
 
 // Where a ray meets a triangle's plane.
-#[derive(Drop)]
+#[derive(Clone, Copy)]
 pub struct Meeting {
     pub det: f32,
     pub u: f32,

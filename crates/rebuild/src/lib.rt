@@ -1,4 +1,6 @@
 // The tree over the polygons of a mesh, and the polygons in the order of its leaves.
+#![tactic(auto)]
+
 ghost use Rattle.core.specs.Prelude.{◌≡◌, ◌*◌, ◌<◌, ◌≤◌, length, take};
 ghost use Rattle.base.specs.Lists.{over};
 ghost use Rattle.bvh.specs.Build.{kept};

@@ -1,4 +1,6 @@
 // The records of a tree, as the source keeps them: a box in units of the quantum, then two numbers, 16 bytes in all.
+#![tactic(auto)]
+
 pub mod quantise;
 pub mod scale;
 pub mod shorts;
@@ -9,12 +11,12 @@ ghost use Rattle.records.specs.Records.{vertex_bytes, vertex_at, boxed_bytes, no
 
 // A quantised point. Its numbers never stand for places or positions.
 #[repr(C)]
-#[derive(Drop)]
+#[derive(Clone, Copy)]
 pub struct BoundVertex(pub i16, pub i16, pub i16);
 
 // A leaf's first position and its items; or an inner node's number of nodes, and 0.
 #[repr(C)]
-#[derive(Drop)]
+#[derive(Clone, Copy)]
 pub struct BvhNode {
     pub min: BoundVertex,
     pub max: BoundVertex,
@@ -24,7 +26,7 @@ pub struct BvhNode {
 
 // A range of nodes: its first, and one past its last.
 #[repr(C)]
-#[derive(Drop)]
+#[derive(Clone, Copy)]
 pub struct BvhTree {
     pub min: BoundVertex,
     pub max: BoundVertex,

@@ -42,7 +42,7 @@ pub fn quantise_query(v: Vec3, cen: Vec3, inverse: Vec3) -> BoundVertex
 }
 
 // A box in units of the quantum.
-#[derive(Drop)]
+#[derive(Clone, Copy)]
 pub struct BoundBox {
     pub min: BoundVertex,
     pub max: BoundVertex,

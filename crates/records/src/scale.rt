@@ -6,7 +6,7 @@ use math::vec3::Vec3;
 use math::words3::Words3;
 
 #[repr(C)]
-#[derive(Drop)]
+#[derive(Clone, Copy)]
 pub struct Scale {
     pub cen: Vec3,
     pub inverse: Vec3,
@@ -14,7 +14,7 @@ pub struct Scale {
 }
 
 // The same of one axis.
-#[derive(Drop)]
+#[derive(Clone, Copy)]
 pub struct AxisScale {
     pub cen: f32,
     pub inverse: f32,

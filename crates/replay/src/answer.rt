@@ -16,7 +16,7 @@ use math::mat4::{Mat4, Vec4};
 use math::vec3::Vec3;
 use math::words3::Words3;
 
-#[derive(Drop)]
+#[derive(Clone, Copy)]
 pub enum Answer {
     One(u32),
     Three(u32, u32, u32),

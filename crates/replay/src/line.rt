@@ -19,7 +19,7 @@ fn digit(c: u8) -> u32
     }
 }
 
-#[derive(Drop)]
+#[derive(Clone, Copy)]
 pub enum Spelled {
     Number(u32),
     Nothing,
@@ -63,7 +63,7 @@ fn fields(text: &[u8], words: &mut [u32], count: usize) -> bool
     true
 }
 
-#[derive(Drop)]
+#[derive(Clone, Copy)]
 pub enum Parsed {
     Case(u32),
     Bad,

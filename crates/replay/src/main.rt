@@ -1,5 +1,7 @@
 // Reads recorded cases, a line each, and says of each operation how many there were and in how many our answer is another, and how many lines were
 // no case. Rust's own operators and the reference say what is recorded; some lines are wrong or no case, so that the counts are not all zeros.
+#![tactic(auto)]
+
 mod answer;
 mod line;
 mod operation;
@@ -11,7 +13,7 @@ ghost use Rattle.std.specs.Prelude.{◌≡◌, ◌<◌, ◌≤◌, length};
 
 use libc::{STDIN_FILENO, STDOUT_FILENO};
 
-#[derive(Drop)]
+#[derive(Clone, Copy)]
 struct Progress {
     at: usize,
     more: bool,

@@ -3,7 +3,7 @@ ghost use Rattle.std.specs.Prelude.{◌≡◌, ◌<◌, ◌≤◌};
 ghost use Rattle.replay.specs.Operations.{number_of, inputs_of, count_of, Counts};
 
 // One word.
-#[derive(Drop)]
+#[derive(Clone, Copy)]
 pub enum WordStep {
     ValueBits,
     ToI32,
@@ -16,7 +16,7 @@ pub enum WordStep {
 }
 
 // Two words.
-#[derive(Drop)]
+#[derive(Clone, Copy)]
 pub enum PairStep {
     Relate,
     CmpF32,
@@ -30,7 +30,7 @@ pub enum PairStep {
 }
 
 // One point.
-#[derive(Drop)]
+#[derive(Clone, Copy)]
 pub enum PointStep {
     Length,
     Norm,
@@ -39,7 +39,7 @@ pub enum PointStep {
 }
 
 // Two points.
-#[derive(Drop)]
+#[derive(Clone, Copy)]
 pub enum PointsStep {
     Dot,
     Cross,
@@ -53,20 +53,20 @@ pub enum PointsStep {
 }
 
 // A point and a word.
-#[derive(Drop)]
+#[derive(Clone, Copy)]
 pub enum FactorStep {
     Scale,
     VaddF,
 }
 
 // A matrix and a point.
-#[derive(Drop)]
+#[derive(Clone, Copy)]
 pub enum TransformStep {
     Point,
     Vector,
 }
 
-#[derive(Drop)]
+#[derive(Clone, Copy)]
 pub enum Operation {
     Word(WordStep),
     Pair(PairStep),

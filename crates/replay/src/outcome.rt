@@ -8,7 +8,7 @@ use crate::answer::Answer;
 use crate::line::Parsed;
 use crate::operation::Operation;
 
-#[derive(Drop)]
+#[derive(Clone, Copy)]
 pub enum Outcome {
     Match(u32),
     Mismatch(u32),

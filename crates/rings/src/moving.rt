@@ -6,14 +6,14 @@ ghost use Rattle.rings.specs.Steps.Stored.{normal_at, normals_from, reach_of};
 use math::vec3::Vec3;
 
 // A vertex, and how far it goes along a normal: the margin with its sign turned.
-#[derive(Drop)]
+#[derive(Clone, Copy)]
 pub struct Push {
     pub from: Vec3,
     pub by: f32,
 }
 
 // A point, and the square of the way to it: carried along, so that no triple waits for the way of the one before.
-#[derive(Drop)]
+#[derive(Clone, Copy)]
 pub struct Reach {
     pub point: Vec3,
     pub way: f32,

@@ -5,7 +5,7 @@ ghost use Rattle.rings.specs.Rings.{side_to, other_link, arrived, onward, first_
 ghost use Rattle.rings.specs.Steps.Stored.{Linked, Begins};
 
 // The polygon that the walk came from, and the one where it is; 65535 where it has ended.
-#[derive(Drop)]
+#[derive(Clone, Copy)]
 pub struct Walker {
     pub prev: u32,
     pub at: u32,

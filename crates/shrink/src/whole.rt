@@ -8,7 +8,7 @@ use math::aabb::Aabb;
 use math::vec3::Vec3;
 
 // What shrinking reads of a bound: its box, the centre that the vertices are about, and the margin.
-#[derive(Drop)]
+#[derive(Clone, Copy)]
 pub struct Bound {
     pub extent: Aabb,
     pub center: Vec3,

@@ -1,4 +1,6 @@
 // What shrinking answers in C: numbers for the cases of the enum.
+#![tactic(auto)]
+
 ghost use Rattle.std.specs.Prelude.{◌≡◌};
 ghost use Rattle.verts_shrunk.specs.Answers.{refusal_number, work_words};
 ghost use Rattle.shrink_answers.specs.Interface.{without, answer_in};
@@ -7,7 +9,7 @@ use verts_shrunk::entry::{ShrinkRefusal, Shrunk};
 
 // 01's number, 0 where it is not refused; by what the vertices are shrunk, 1 a margin, 2 their normals, 0 nothing; and the margin, else 0.
 #[repr(C)]
-#[derive(Drop)]
+#[derive(Clone, Copy)]
 pub struct ShrinkAnswer {
     pub refusal: u32,
     pub by: u32,

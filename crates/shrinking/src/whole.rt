@@ -13,7 +13,7 @@ use shrink::whole::Bound;
 
 // What shrinking reads of a geometry: its box, the centre that its vertices are about, its margin, and its transform.
 #[repr(C)]
-#[derive(Drop)]
+#[derive(Clone, Copy)]
 pub struct Geometry {
     pub extent: Aabb,
     pub center: Vec3,

@@ -39,7 +39,7 @@ fn settle(places: &mut [u32], temp: &mut [u32], entries: &[u32], first: usize) -
 
 // The box around the places, folded before they are moved, since with a NaN the order decides; how many the first group has; and
 // the totals of what it begins with, where the places begin with it too.
-#[derive(Drop)]
+#[derive(Clone, Copy)]
 pub struct Cut {
     pub around: BoxWords,
     pub first: usize,

@@ -14,7 +14,7 @@ use math::axis::Axis;
 use math::vec3::Vec3;
 
 // How many centres are below the average, on each axis, and how many are above it on x.
-#[derive(Drop)]
+#[derive(Clone, Copy)]
 pub struct Counts {
     pub x: u32,
     pub y: u32,
@@ -287,7 +287,7 @@ fn seen_above(
 }
 
 // How many the first group has, and how many of the first places stand where they stood.
-#[derive(Drop)]
+#[derive(Clone, Copy)]
 pub struct Groups {
     pub first: usize,
     pub same: usize,

@@ -13,7 +13,7 @@ use walk::core::Walk;
 use walk_steps::state::Sizes;
 
 // A build that is refused leaves nothing to walk. Any other is walked: what was built, and how the walk over its records ended.
-#[derive(Drop)]
+#[derive(Clone, Copy)]
 pub enum Found {
     Unbuilt(BuildRefusal),
     Walked(BuiltTree, Walk),

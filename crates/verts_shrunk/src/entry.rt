@@ -9,7 +9,7 @@ use shrink::margin::Margin;
 use shrinking::whole::{Geometry, infinite_start};
 
 // Why nothing is shrunk.
-#[derive(Drop)]
+#[derive(Clone, Copy)]
 pub enum ShrinkRefusal {
     TooManyPolygons,
     TooManyVertices,
@@ -19,7 +19,7 @@ pub enum ShrinkRefusal {
 }
 
 // By what the vertices are shrunk, or why not.
-#[derive(Drop)]
+#[derive(Clone, Copy)]
 pub enum Shrunk {
     ByMargin(f32),
     ByNormals,
@@ -28,7 +28,7 @@ pub enum Shrunk {
 }
 
 // The lengths of the lent buffers.
-#[derive(Drop)]
+#[derive(Clone, Copy)]
 pub struct Lengths {
     pub polygons: usize,
     pub vertices: usize,

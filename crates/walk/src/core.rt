@@ -17,13 +17,13 @@ use walk_steps::refusals::WalkRefusal;
 use walk_steps::state::{Sizes, Status, WalkState};
 
 // Records read, and positions handed out.
-#[derive(Drop)]
+#[derive(Clone, Copy)]
 pub struct Counts {
     pub reads: usize,
     pub handed: usize,
 }
 
-#[derive(Drop)]
+#[derive(Clone, Copy)]
 pub enum Walk {
     Walked(Counts),
     Refused(WalkRefusal, Counts),

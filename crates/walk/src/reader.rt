@@ -9,7 +9,7 @@ use math::vec3::Vec3;
 use records::BvhNode;
 use walk_steps::state::Sizes;
 
-#[derive(Drop)]
+#[derive(Clone, Copy)]
 pub struct NodeReader<'a> {
     pub node_bytes: &'a [u8],
 }

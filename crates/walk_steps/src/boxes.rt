@@ -9,7 +9,7 @@ use math::vec3::Vec3;
 use records::BoundVertex;
 
 // A query's box in units of the quantum.
-#[derive(Drop)]
+#[derive(Clone, Copy)]
 pub struct Query {
     pub min: BoundVertex,
     pub max: BoundVertex,
@@ -27,7 +27,7 @@ pub fn quantise_box(b: Aabb, cen: Vec3, inverse: Vec3) -> Query
 // A query as it is compared with a record's eight numbers, its lower corner turned, so that every number of a record is compared in one way.
 // No number of a record is above the last two. The corners stand in the order in which a box has them: a box that was passed is then read as
 // it was stored, and no load waits for two stores.
-#[derive(Drop)]
+#[derive(Clone, Copy)]
 pub struct Lanes {
     pub low: BoundVertex,
     pub high: BoundVertex,

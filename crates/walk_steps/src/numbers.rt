@@ -8,7 +8,7 @@ ghost use Rattle.records.specs.Records.{node_at, tree_at};
 
 use records::{BvhNode, BvhTree};
 
-#[derive(Drop)]
+#[derive(Clone, Copy)]
 pub struct Numbers {
     pub first: i16,
     pub second: i16,

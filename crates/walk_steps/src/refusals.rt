@@ -5,7 +5,7 @@ ghost use Rattle.walk_steps.specs.Refusals.{whole, bad_range, bad_node};
 use records::{BvhNode, BvhTree};
 
 // What a walk turns down: the first two before it reads, the others as it reads a record.
-#[derive(Drop)]
+#[derive(Clone, Copy)]
 pub enum WalkRefusal {
     TooMany,
     BufferTooShort,

@@ -12,7 +12,7 @@ use base::numbers::Position;
 use records::BvhNode;
 
 // How many nodes, trees and items there are.
-#[derive(Drop)]
+#[derive(Clone, Copy)]
 pub struct Sizes {
     pub nodes: usize,
     pub trees: usize,
@@ -20,14 +20,14 @@ pub struct Sizes {
 }
 
 // Whether the walk goes on, or what it was refused for.
-#[derive(Drop)]
+#[derive(Clone, Copy)]
 pub enum Status {
     Going,
     Stopped(WalkRefusal),
 }
 
 // The next tree to read, the next node and one past the last of the range, and the counts so far.
-#[derive(Drop)]
+#[derive(Clone, Copy)]
 pub struct WalkState {
     pub tree: usize,
     pub at: usize,
@@ -38,7 +38,7 @@ pub struct WalkState {
 }
 
 // One record further: the state, and the run of `count` positions from `first` on that is handed out.
-#[derive(Drop)]
+#[derive(Clone, Copy)]
 pub struct Step {
     pub state: WalkState,
     pub first: Position,

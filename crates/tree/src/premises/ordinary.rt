@@ -13,7 +13,7 @@ use entries::boxes::BoxWords;
 // What is found: a refusal by Build's number, 0 where the entries were read; the number of the first fault, 0 where there is none; and the
 // place of the entry that has it, 0 where it is no entry's.
 #[repr(C)]
-#[derive(Drop)]
+#[derive(Clone, Copy)]
 pub struct Premises {
     pub refusal: u32,
     pub fault: u32,
