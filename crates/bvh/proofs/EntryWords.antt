@@ -5,7 +5,7 @@ use native.Mathlib.Omega.{arith}
 use mathlib.Core.Path.{refl, sym, ap, ◌∙◌, subst}
 use mathlib.Core.Logic.{inl, inr, ⊎_elim}
 use mathlib.Core.Bool.{or_true}
-use mathlib.Core.List.{append_nil}
+use mathlib.Core.List.{append-nil}
 use lib.Ieee.{Float}
 use lib.Seq.{take_at, get_or-append-add}
 use borrow.Author.Tests.{lt-ltb, leb-true, leb-false}
@@ -37,7 +37,7 @@ box_is (i ∷ is) (suc p) =
     rw far (next_box i (words_of is) (7 * p + 1) ∙ box_is is p)
 
 marks_are : (items : List BvhItem) → marked 0 (length items) (words_of items) ≡ present 0 items
-marks_are items = ap (marked 0 (length items)) (sym (append_nil (words_of items))) ∙ marked_present items []
+marks_are items = ap (marked 0 (length items)) (sym (append-nil (words_of items))) ∙ marked_present items []
 
 pub entries_in_lem : (items : List BvhItem) (rest : List ℕ) → entries_in (length items) (take (7 * length items) (words_of items ++ rest)) ≡ entries_of items
 unfolding entries_in entries_of

@@ -1,7 +1,7 @@
 -- Every tree that is built keeps what point 3 of the request asks whatever the boxes: its leaves' items are the leaf order, and that is the
 -- present places in another order.
 use Rattle.core.specs.Prelude.{◌≡◌, ℕ, ◌<◌, []}
-use mathlib.Core.List.{append_nil}
+use mathlib.Core.List.{append-nil}
 use mathlib.Core.Path.{sym, ap, ◌∙◌}
 use Rattle.base.proofs.NumberLaws.{rising_once}
 use Rattle.base.specs.Lists.{occurrences, Rising}
@@ -23,7 +23,7 @@ well_grown limit e th limited some rising =
     let law = lawful e.at in
     let t = grow b th e.places in
     let most = grow_at_most b law th some e.places in
-    let items : items_of th (leaf_order t) (rows 0 t) ≡ leaf_order t = rows_items th (leaf_order t) 0 t [] most (sym (append_nil (leaf_order t))) in
+    let items : items_of th (leaf_order t) (rows 0 t) ≡ leaf_order t = rows_items th (leaf_order t) 0 t [] most (sym (append-nil (leaf_order t))) in
     let same : (p : ℕ) → occurrences p (items_of th (leaf_order t) (rows 0 t)) ≡ occurrences p e.places =
     λ p. ap (occurrences p) items ∙ leaf_order_permutes b law th some e.places p in
     record {

@@ -4,7 +4,7 @@ use native.Mathlib.Nat.{add-zero}
 use native.Mathlib.Numerals.{add-one}
 use native.Mathlib.Omega.{arith}
 use mathlib.Core.Bool.{or_true}
-use mathlib.Core.List.{append_assoc, append_nil}
+use mathlib.Core.List.{append_assoc, append-nil}
 use mathlib.Core.Path.{refl, sym, ap, ◌∙◌}
 use lib.ListN.{length-append}
 use lib.Seq.{sets, length-sets}
@@ -63,7 +63,7 @@ module _ (ws : List ℕ) where
       omega (arith, length-append (child_bytes ws at) (children_bytes ws (at + 1) n), length_child ws at, length_children (at + 1) n)
 
   children_more : (at n : ℕ) → children_bytes ws at (n + 1) ≡ children_bytes ws at n ++ child_bytes ws (at + n)
-  children_more at zero = append_nil (child_bytes ws at) ∙ ap (child_bytes ws) (sym (add-zero at))
+  children_more at zero = append-nil (child_bytes ws at) ∙ ap (child_bytes ws) (sym (add-zero at))
   children_more at (suc n) =
       let e : at + 1 + n ≡ at + suc n = omega arith in
       ap (children_bytes ws at) (add-one (suc n))

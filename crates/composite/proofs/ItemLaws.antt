@@ -10,7 +10,7 @@ use mathlib.Core.Logic.{⊎_elim}
 use mathlib.Core.Path.{refl, sym, ap, ◌∙◌, subst}
 use lib.Ieee.{binary32}
 use lib.Ieee.Bits.{of_bits-to_bits}
-use lib.Ieee.Fits.{add-fits, sub_fits}
+use lib.Ieee.Fits.{add-fits, sub-fits}
 use lib.Seq.{sets, length-sets}
 use Rattle.bvh.proofs.ItemWords.{apart, apart_next}
 use Rattle.base.specs.Lists.{Among}
@@ -122,9 +122,9 @@ computed_back ws k =
     λ i. record {
       min =
           record {
-            x = of_bits-to_bits binary32 (computed_box ws k).min.x (sub_fits binary32 _ _) i;
-            y = of_bits-to_bits binary32 (computed_box ws k).min.y (sub_fits binary32 _ _) i;
-            z = of_bits-to_bits binary32 (computed_box ws k).min.z (sub_fits binary32 _ _) i;
+            x = of_bits-to_bits binary32 (computed_box ws k).min.x (sub-fits binary32 _ _) i;
+            y = of_bits-to_bits binary32 (computed_box ws k).min.y (sub-fits binary32 _ _) i;
+            z = of_bits-to_bits binary32 (computed_box ws k).min.z (sub-fits binary32 _ _) i;
           };
       max =
           record {

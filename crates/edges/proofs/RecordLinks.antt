@@ -2,7 +2,7 @@
 use Prim.Native.Nat.{ℕ, zero, suc, ◌+◌, ◌*◌, ◌/◌, ◌≤◌, ◌<◌}
 use native.Mathlib.Omega.{arith}
 use mathlib.Core.Bool.{true}
-use mathlib.Core.List.{List, [], ◌++◌, append_assoc, append_nil}
+use mathlib.Core.List.{List, [], ◌++◌, append_assoc, append-nil}
 use mathlib.Core.Path.{◌≡◌, refl, sym, ap, ap₂, subst, ◌∙◌}
 use lib.ListN.{length, get_or, take, drop, length-drop, get_or-append}
 use lib.Seq.{length-take-le}
@@ -39,7 +39,7 @@ module _ (a b c : ℕ) where
   third_back : c < 65536 → le_at 2 six 4 ≡ c
   third_back h =
       le_after 2 (little_endian 2 a ++ little_endian 2 b) (little_endian 2 c) 4 0 (joined (number_bytes 2 a) (number_bytes 2 b)).size
-      ∙ ap (λ (l : List ℕ). le_at 2 l 0) (sym (append_nil (little_endian 2 c)))
+      ∙ ap (λ (l : List ℕ). le_at 2 l 0) (sym (append-nil (little_endian 2 c)))
       ∙ le_back 2 c [] h
 
 link_bytes_at : (links : List ℕ) (p k : ℕ) → k < 3 → get_or links (3 * p + k) 0 < 65536 → le_at 2 (link_bytes links p) (2 * k) ≡ get_or links (3 * p + k) 0

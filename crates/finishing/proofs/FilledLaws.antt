@@ -3,7 +3,7 @@ use Prim.Native.Nat.{ℕ, ◌+◌, ◌-◌, ◌≤◌, ◌<◌}
 use native.Mathlib.Numerals.{add-one}
 use native.Mathlib.Omega.{arith}
 use mathlib.Core.Path.{◌≡◌, refl, sym, ap, ◌∙◌}
-use mathlib.Core.List.{List, [], ◌∷◌, ◌++◌, append_nil, append_assoc}
+use mathlib.Core.List.{List, [], ◌∷◌, ◌++◌, append-nil, append_assoc}
 use lib.ListN.{length, take, set, replicate, length-set, replicate-append-replicate}
 use lib.Seq.{take-suc-set, length-take-le}
 use Rattle.finishing.specs.Filled.{filled}
@@ -22,7 +22,7 @@ start before count =
       long = refl;
       from = omega arith;
       upto = omega arith;
-      held = sym (ap (λ (k : ℕ). take count before ++ replicate k 0) none ∙ append_nil (take count before));
+      held = sym (ap (λ (k : ℕ). take count before ++ replicate k 0) none ∙ append-nil (take count before));
     }
 
 pub one_more : (before : List ℕ) (count : ℕ) (list : List ℕ) (at : ℕ) → Filling before count list at → at < 4 → at < length list

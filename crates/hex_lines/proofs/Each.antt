@@ -3,7 +3,7 @@ use Prim.Native.Nat.{ℕ, zero, suc, ◌+◌, ◌*◌, ◌≤◌, ◌<◌}
 use native.Mathlib.Omega.{arith}
 use native.Mathlib.Nat.{mul-le-mul_right}
 use native.Mathlib.Numerals.{add-one}
-use mathlib.Core.List.{List, [], ◌∷◌, ◌++◌, append_assoc, append_nil}
+use mathlib.Core.List.{List, [], ◌∷◌, ◌++◌, append_assoc, append-nil}
 use mathlib.Core.Path.{◌≡◌, refl, sym, ap, ◌∙◌}
 use lib.ListN.{length, get_or, take, length-append}
 use lib.Seq.{sets, length-sets, length-take-le, take-suc, take_all}
@@ -17,7 +17,7 @@ module _ (f : ℕ → List ℕ) (k : ℕ) (size : (x : ℕ) → length (f x) ≡
   length_each (x ∷ xs) = omega (arith, length-append (f x) (each_of f xs), size x, length_each xs)
 
   each_more : (xs : List ℕ) (x : ℕ) → each_of f (xs ++ (x ∷ [])) ≡ each_of f xs ++ f x
-  each_more [] x = append_nil (f x)
+  each_more [] x = append-nil (f x)
   each_more (y ∷ xs) x = ap (λ (l : List ℕ). f y ++ l) (each_more xs x) ∙ sym (append_assoc (f y) (each_of f xs) (f x))
 
 -- The first i are put.

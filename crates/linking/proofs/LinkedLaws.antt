@@ -3,7 +3,7 @@ use Prim.Native.Nat.{ℕ, ◌+◌, ◌*◌, ◌%◌, ◌≤◌, ◌<◌}
 use native.Mathlib.Nat.{add-zero}
 use native.Mathlib.Omega.{arith}
 use mathlib.Core.Bool.{Bool, cond}
-use mathlib.Core.List.{List, [], ◌++◌, append_nil}
+use mathlib.Core.List.{List, [], ◌++◌, append-nil}
 use mathlib.Core.Path.{◌≡◌, refl, sym, ap, ap₂, ◌∙◌}
 use lib.Dec.{eqb}
 use lib.ListN.{length, get_or, take, drop, length-append, length-drop, drop_of_length-le, get_or-append}
@@ -59,7 +59,7 @@ module _ (n : ℕ) (records rest : List ℕ) (long : length records ≡ 16 * n) 
       let none : drop (length ls) records ≡ [] = drop_of_length-le records {i = length ls} (omega arith) in
       ap (λ (l : List ℕ). l ++ drop (length l) (records ++ rest)) (records_same links)
       ∙ ap (λ (l : List ℕ). ls ++ l) (drop_at records rest (length ls) (omega arith))
-      ∙ ap (λ (l : List ℕ). l ++ rest) (sym (ap (λ (l : List ℕ). ls ++ l) none ∙ append_nil ls))
+      ∙ ap (λ (l : List ℕ). l ++ rest) (sym (ap (λ (l : List ℕ). ls ++ l) none ∙ append-nil ls))
 
   pub linked_same : linked n (records ++ rest) ≡ linked n records ++ rest
   unfolding linked

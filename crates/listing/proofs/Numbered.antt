@@ -3,7 +3,7 @@ use Rattle.core.specs.Prelude.{◌≡◌, ℕ, ◌+◌, ◌*◌, List, [], ◌�
 use native.Mathlib.Nat.{add-zero}
 use native.Mathlib.Numerals.{add-one}
 use native.Mathlib.Omega.{arith}
-use mathlib.Core.List.{append_assoc, append_nil}
+use mathlib.Core.List.{append_assoc, append-nil}
 use mathlib.Core.Path.{sym, ap, ◌∙◌, subst}
 use lib.ListN.{length-append}
 use Rattle.listing.specs.Lines.{lines}
@@ -43,7 +43,7 @@ module _ {A : Type 0} (readAt : List ℕ → ℕ → A) (line : ℕ → A → Li
 
   pub lines_numbered : (k : ℕ) (xs : List A) → Reads readAt bytes k xs
       → lines (λ i. line i (readAt bytes (16 * i))) (k + length xs) ≡ lines (λ i. line i (readAt bytes (16 * i))) k ++ numbered line k xs
-  lines_numbered k [] r = ap (lines read) (add-zero k) ∙ sym (append_nil (lines read k))
+  lines_numbered k [] r = ap (lines read) (add-zero k) ∙ sym (append-nil (lines read k))
   lines_numbered k (x ∷ xs) r =
       let far : k + length (x ∷ xs) ≡ k + 1 + length xs = omega arith in
       let one : lines read (k + 1) ≡ lines read k ++ line k x = ap (lines read) (add-one k) ∙ ap (λ (y : A). lines read k ++ line k y) r.0 in

@@ -2,7 +2,7 @@
 -- followed by what the rest gives, is the whole), and the vertices one after the other (`Gathering`).
 use mathlib.Core.Path.{◌≡◌, refl, sym, ap, ◌∙◌}
 use mathlib.Core.Bool.{Bool, true, false, not, ◌||◌}
-use mathlib.Core.List.{List, [], ◌∷◌, ◌++◌, append_nil}
+use mathlib.Core.List.{List, [], ◌∷◌, ◌++◌, append-nil}
 use Prim.Native.Nat.{ℕ, zero, suc, ◌+◌, ◌*◌, ◌≤◌, ◌<◌}
 use native.Mathlib.Omega.{arith}
 use native.Mathlib.Decide.{dec_lt}
@@ -96,7 +96,7 @@ module _ (p : ℕ → Bool) (before now : List ℕ) (left k : ℕ) (t : Thinning
 
 pub thinned : (p : ℕ → Bool) (before now : List ℕ) (left k : ℕ) → Thinning p before now left k → length before ≤ k → Begins (sift p before) now left
 thinned p before now left k t h =
-    let e : take left now ≡ sift p before = sym (append_nil (take left now)) ∙ rw (drop_of_length-le before {i = k} h) at t.made in
+    let e : take left now ≡ sift p before = sym (append-nil (take left now)) ∙ rw (drop_of_length-le before {i = k} h) at t.made in
     record { count = sym (length-take-le left now (omega (arith, t.behind, t.upto, t.len))) ∙ ap length e; list = e }
 
 -- ---- a vertex more

@@ -2,7 +2,7 @@
 use mathlib.Core.Path.{◌≡◌, refl, sym, ap, ◌∙◌, subst}
 use mathlib.Core.Logic.{◌⊎◌, inl, inr}
 use mathlib.Core.Bool.{Bool, true, false, not, cond, ◌||◌}
-use mathlib.Core.List.{List, [], ◌∷◌, ◌++◌, append_nil}
+use mathlib.Core.List.{List, [], ◌∷◌, ◌++◌, append-nil}
 use Prim.Native.Nat.{ℕ, zero, suc, ◌+◌, ◌≤◌, ◌<◌}
 use native.Mathlib.Omega.{arith}
 use native.Mathlib.Decide.{dec_lt}
@@ -103,7 +103,7 @@ module _ (p : ℕ → Bool) (n : ℕ) (before now : List ℕ) (count i : ℕ) (l
         upto = omega arith;
         few = omega (arith, l.few);
         count_is = omega (arith, l.count_is, counted_next false e);
-        list = l.list ∙ ap (λ (x : List ℕ). x ++ drop count before) (sym (sifted_next false e ∙ append_nil (sift p (numbers i))));
+        list = l.list ∙ ap (λ (x : List ℕ). x ++ drop count before) (sym (sifted_next false e ∙ append-nil (sift p (numbers i))));
       }
 
   pub write : p i ≡ true → Listing p n before (set now count i) (count + 1) (i + 1)

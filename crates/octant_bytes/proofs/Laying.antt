@@ -3,7 +3,7 @@ use Prim.Native.Nat.{ℕ, ◌+◌, ◌*◌, ◌≤◌, ◌<◌}
 use native.Mathlib.Omega.{arith}
 use native.Mathlib.Numerals.{add-one}
 use mathlib.Core.Path.{◌≡◌, refl, sym, ap, ◌∙◌}
-use mathlib.Core.List.{List, [], ◌∷◌, ◌++◌, append_assoc, append_nil}
+use mathlib.Core.List.{List, [], ◌∷◌, ◌++◌, append_assoc, append-nil}
 use lib.ListN.{length, get_or, take, replicate, length-append}
 use lib.Seq.{sets, length-sets, length-take-le, take-suc, take-length}
 use Rattle.base.specs.Lists.{over}
@@ -53,7 +53,7 @@ length_list [] = refl
 length_list (i ∷ is) = omega (arith, length-append (little_endian 4 i) (list_bytes is), (number_bytes 4 i).size, length_list is)
 
 list_more : (is : List ℕ) (i : ℕ) → list_bytes (is ++ (i ∷ [])) ≡ list_bytes is ++ little_endian 4 i
-list_more [] i = append_nil (little_endian 4 i)
+list_more [] i = append-nil (little_endian 4 i)
 list_more (k ∷ is) i =
     ap (λ (l : List ℕ). little_endian 4 k ++ l) (list_more is i) ∙ sym (append_assoc (little_endian 4 k) (list_bytes is) (little_endian 4 i))
 
@@ -91,7 +91,7 @@ length_lists [] = refl
 length_lists (l ∷ ls) = omega (arith, length-append (list_bytes l) (lists_bytes ls), length_list l, length_lists ls)
 
 lists_more : (ls : List (List ℕ)) (l : List ℕ) → lists_bytes (ls ++ (l ∷ [])) ≡ lists_bytes ls ++ list_bytes l
-lists_more [] l = append_nil (list_bytes l)
+lists_more [] l = append-nil (list_bytes l)
 lists_more (k ∷ ls) l = ap (λ (r : List ℕ). list_bytes k ++ r) (lists_more ls l) ∙ sym (append_assoc (list_bytes k) (lists_bytes ls) (list_bytes l))
 
 all_more : (ls : List (List ℕ)) (l : List ℕ) → all_of (lengths_of (ls ++ (l ∷ []))) ≡ all_of (lengths_of ls) + length l

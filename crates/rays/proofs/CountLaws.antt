@@ -5,7 +5,7 @@ use native.Mathlib.Numerals.{add-one}
 use mathlib.Core.Path.{◌≡◌, refl, sym, ap, ap₂, ◌∙◌}
 use mathlib.Core.Bool.{Bool, true, false, not, ◌&&◌, ◌||◌, true≢false}
 use lib.Dec.{eqb}
-use borrow.Author.Tests.{ne_eqb, not_true}
+use borrow.Author.Tests.{ne_eqb, not-true}
 use borrow.Author.Count.{below_more}
 use Rattle.rays.specs.Steps.Counting.{count_to, none_to, Failed}
 use Rattle.base.specs.Lists.{one_if}
@@ -39,7 +39,7 @@ pub none_more : (n : ℕ) (p : ℕ → Bool) → none_to (n + 1) p ≡ none_to n
 none_more n p = rw add-one
 
 and_not : (a b : Bool) → a && not b ≡ true → (a ≡ true) × (b ≡ false)
-and_not true b e = (refl, not_true b e)
+and_not true b e = (refl, not-true b e)
 and_not false b e = absurd (true≢false (sym e))
 
 pub none_at : (n : ℕ) (p : ℕ → Bool) → none_to n p ≡ true → (k : ℕ) → k < n → p k ≡ false

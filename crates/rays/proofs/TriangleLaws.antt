@@ -4,7 +4,7 @@ use native.Mathlib.Omega.{arith}
 use native.Mathlib.Numerals.{add-one}
 use mathlib.Core.Path.{◌≡◌, refl, sym, ap, subst, ◌∙◌}
 use mathlib.Core.Bool.{Bool, true, false, not, cond}
-use mathlib.Core.List.{List, [], ◌∷◌, ◌++◌, append_nil}
+use mathlib.Core.List.{List, [], ◌∷◌, ◌++◌, append-nil}
 use lib.ListN.{length, get_or, set, length-set, length-append, get_or-append}
 use lib.Seq.{get_or-set_same, get_or-set_other}
 use borrow.Author.Count.{below_more}
@@ -37,7 +37,7 @@ module _ (cs : List ℕ) (p : ℕ) where
   no_triangle e =
       one_more
       ∙ ap (λ (b : Bool). triangles_of cs p ++ cond (not b) (p ∷ []) []) (eq-eqb (get_or cs (3 * p) 0) none e)
-      ∙ append_nil (triangles_of cs p)
+      ∙ append-nil (triangles_of cs p)
 
   pub a_triangle : (get_or cs (3 * p) 0 ≡ none → ⊥) → triangles_of cs (p + 1) ≡ triangles_of cs p ++ (p ∷ [])
   a_triangle e = one_more ∙ ap (λ (b : Bool). triangles_of cs p ++ cond (not b) (p ∷ []) []) (ne_eqb (get_or cs (3 * p) 0) none e)

@@ -3,7 +3,7 @@
 use Rattle.core.specs.Prelude.{◌≡◌, ℕ, zero, suc, ◌+◌, ◌*◌, ◌%◌, ◌<◌, ◌≤◌, Bool, true, false, cond, ◌&&◌, eqb, leb, List, [], ◌++◌, length, get_or, take, drop}
 use native.Mathlib.Nat.{add-zero}
 use native.Mathlib.Omega.{arith}
-use mathlib.Core.List.{append_nil}
+use mathlib.Core.List.{append-nil}
 use mathlib.Core.Path.{refl, sym, ap, ap₂, subst, ◌∙◌}
 use borrow.Author.Tests.{eqb-true, le-leb}
 use lib.ListN.{drop_of_length-le, get_or-append}
@@ -182,7 +182,7 @@ kinds_written n p = upto n (omega arith)
     known : (k : ℕ) → k < n → kind_at (in_turn n (written p)) (16 * k) ≤ 4
     known k h =
         subst (λ (x : ℕ). x % 8 ≤ 4) (sym (first_byte n (written p) (λ j b. (polygon_bytes_lem (p j)).size) k h))
-        (subst (λ (l : List ℕ). kind_at l 0 ≤ 4) (append_nil (written p k)) (kind_written (p k) []))
+        (subst (λ (l : List ℕ). kind_at l 0 ≤ 4) (append-nil (written p k)) (kind_written (p k) []))
 
     upto : (m : ℕ) → m ≤ n → kinds_known m (in_turn n (written p)) ≡ true
     upto zero h = refl

@@ -1,5 +1,5 @@
 -- A text of words, each after a space: field i is the nine bytes from 9 * i on. Assumes nothing.
-use Rattle.std.proofs.Common.{◌≡◌, ℕ, zero, suc, ◌+◌, ◌-◌, ◌*◌, ◌<◌, ◌≤◌, List, [], ◌∷◌, ◌++◌, length, get_or, take, drop, set, sym, refl, ap, ◌∙◌, ap₂, append_assoc, append_nil, add-one, arith, length-append, length-drop, length-take-le, get_or-drop, drop-cons, drop-drop, take-suc-set, take_at, take-add, drop_at}
+use Rattle.std.proofs.Common.{◌≡◌, ℕ, zero, suc, ◌+◌, ◌-◌, ◌*◌, ◌<◌, ◌≤◌, List, [], ◌∷◌, ◌++◌, length, get_or, take, drop, set, sym, refl, ap, ◌∙◌, ap₂, append_assoc, append-nil, add-one, arith, length-append, length-drop, length-take-le, get_or-drop, drop-cons, drop-drop, take-suc-set, take_at, take-add, drop_at}
 use lib.Seq.{drop-nil, take-length}
 use Rattle.io.specs.Digits.{last_digits}
 use Rattle.replay.specs.Lines.{field, fields_of, Spells}
@@ -26,7 +26,7 @@ is_field (c ∷ s) w e h d = ap₂ ◌∷◌ e d
 
 -- one word more at the end
 fields_snoc : (ws : List ℕ) (w : ℕ) → fields_of (ws ++ (w ∷ [])) ≡ fields_of ws ++ field w
-fields_snoc [] w = append_nil (field w)
+fields_snoc [] w = append-nil (field w)
 fields_snoc (v ∷ ws) w = ap (λ (s : List ℕ). field v ++ s) (fields_snoc ws w) ∙ sym (append_assoc (field v) (fields_of ws) (field w))
 
 pub length_fields : (ws : List ℕ) → length (fields_of ws) ≡ 9 * length ws

@@ -5,7 +5,7 @@ use native.Mathlib.Omega.{arith}
 use native.Mathlib.Numerals.{add-one}
 use mathlib.Core.Path.{◌≡◌, refl, sym, ap, ◌∙◌}
 use mathlib.Core.Logic.{◌⊎◌, inl, inr, ⊎_elim}
-use mathlib.Core.List.{List, [], ◌∷◌, ◌++◌, append_assoc, append_nil}
+use mathlib.Core.List.{List, [], ◌∷◌, ◌++◌, append_assoc, append-nil}
 use lib.Dec.{eqb}
 use lib.ListN.{length, get_or, take, set, length-set}
 use lib.Seq.{length-take-le, take-suc-set}
@@ -73,7 +73,7 @@ module _ (corners links : List ℕ) (v poly : ℕ) where
   module _ (n : ℕ) (xs before out : List ℕ) (w : Walker) (count : ℕ) (room : 63 ≤ length before) (g : Ringing n xs before out w count) where
     written : ring_from corners links v poly (63 - count) w ≡ [] → Begins xs out count
     written e =
-        let all : take count out ≡ xs = sym (append_nil (take count out)) ∙ ap (λ (r : List ℕ). take count out ++ r) (sym e) ∙ g.whole in
+        let all : take count out ≡ xs = sym (append-nil (take count out)) ∙ ap (λ (r : List ℕ). take count out ++ r) (sym e) ∙ g.whole in
         record { numbers = all; count = sym (length-take-le count out (omega (arith, g.same_length, g.upto))) ∙ ap length all }
 
     pub ended : w.at ≡ none → Begins xs out count

@@ -3,7 +3,7 @@ use Prim.Native.Nat.{ℕ, zero, suc, ◌+◌, ◌*◌}
 use native.Mathlib.Omega.{arith}
 use native.Mathlib.Numerals.{add-one}
 use mathlib.Core.Path.{◌≡◌, refl, sym, ap, ◌∙◌}
-use mathlib.Core.List.{List, [], ◌∷◌, ◌++◌, append_assoc, append_nil}
+use mathlib.Core.List.{List, [], ◌∷◌, ◌++◌, append_assoc, append-nil}
 use lib.ListN.{length, length-append}
 use Rattle.records.specs.declared.scale.Scale.{Scale}
 use Rattle.records.specs.Records.{node_bytes}
@@ -32,5 +32,5 @@ pub pad_more : (k : ℕ) → pad_bytes (k + 1) ≡ pad_bytes k ++ node_bytes pad
 pad_more k = rw add-one (go k)
   where
     go : (k : ℕ) → pad_bytes (suc k) ≡ pad_bytes k ++ node_bytes pad_node
-    go zero = append_nil (node_bytes pad_node)
+    go zero = append-nil (node_bytes pad_node)
     go (suc k) = ap (λ (bs : List ℕ). node_bytes pad_node ++ bs) (go k) ∙ sym (append_assoc (node_bytes pad_node) (pad_bytes k) (node_bytes pad_node))

@@ -3,7 +3,7 @@ use Prim.Native.Nat.{ℕ, ◌+◌, ◌≤◌, ◌<◌}
 use native.Mathlib.Omega.{arith}
 use native.Mathlib.Nat.{add-zero}
 use mathlib.Core.Bool.{Bool, true, false, cond}
-use mathlib.Core.List.{List, [], ◌∷◌, ◌++◌, map, append_assoc, append_nil}
+use mathlib.Core.List.{List, [], ◌∷◌, ◌++◌, map, append_assoc, append-nil}
 use mathlib.Core.List.Memᴰ
 use mathlib.Core.List.{Memᴰ}
 use mathlib.Core.Logic.{⊎_elim}
@@ -50,7 +50,7 @@ items_append th order (x ∷ xs) ys =
 -- the leaves' items, by the rows of a tree whose first item stands at lo, are its leaf order
 pub rows_items : (th : ℕ) (order : List ℕ) (lo : ℕ) (t : Node) (rest : List ℕ) → AtMost th t → drop lo order ≡ leaf_order t ++ rest
     → items_of th order (rows lo t) ≡ leaf_order t
-rows_items th order lo (leaf b ps) rest most e = append_nil _ ∙ leaf_items th order lo b ps rest most e
+rows_items th order lo (leaf b ps) rest most e = append-nil _ ∙ leaf_items th order lo b ps rest most e
 rows_items th order lo (inner b l r) rest most e =
     let first : drop lo order ≡ leaf_order l ++ (leaf_order r ++ rest) = e ∙ append_assoc (leaf_order l) (leaf_order r) rest in
     let n : ℕ = length (leaf_order l) in

@@ -5,7 +5,7 @@ use native.Mathlib.Omega.{arith}
 use native.Mathlib.Nat.{add-zero, zero-add, suc-add}
 use mathlib.Core.Bool.{Bool, true, false, cond, and_false}
 use mathlib.Core.List.Memᴰ
-use mathlib.Core.List.{List, [], ◌∷◌, ◌++◌, map, append_assoc, append_nil, map-append}
+use mathlib.Core.List.{List, [], ◌∷◌, ◌++◌, map, append_assoc, append-nil, map-append}
 use mathlib.Core.List.{Memᴰ}
 use mathlib.Core.Logic.{⊎_elim}
 use mathlib.Core.Path.{◌≡◌, refl, sym, ap, ap₂, ◌∙◌, subst}
@@ -344,7 +344,7 @@ subtree_rows_by at lo (leaf b ps) s k e m =
     rw (z, q) (record { position = lo; rest = []; rows_are = refl })
 subtree_rows_by at lo (inner b l r) s zero e m =
     ⊎_elim
-    (λ q. rw q (record { position = lo; rest = []; rows_are = sym (append_nil (rows lo (inner b l r))) }))
+    (λ q. rw q (record { position = lo; rest = []; rows_are = sym (append-nil (rows lo (inner b l r))) }))
     (λ m'. absurd (omega (arith, below_root at b l r s m')))
     (Memᴰ.cases_cons m)
 subtree_rows_by at lo (inner b l r) s (suc k) e m =

@@ -5,7 +5,7 @@ use native.Mathlib.Nat.{zero-add}
 use native.Mathlib.Numerals.{add-one}
 use mathlib.Core.Path.{◌≡◌, refl, sym, ap, ◌∙◌}
 use mathlib.Core.Bool.{Bool, true, false, not, cond}
-use mathlib.Core.List.{List, [], ◌∷◌, ◌++◌, append_nil}
+use mathlib.Core.List.{List, [], ◌∷◌, ◌++◌, append-nil}
 use lib.Dec.{eqb, ltb}
 use lib.ListN.{length, get_or, set, take}
 use lib.Seq.{take-suc-set, get_or-set_same, get_or-set_other}
@@ -77,7 +77,7 @@ module _ (cs sides : List ℕ) (k s : ℕ) (e : take k sides ≡ sift (there cs)
   pub side_absent : get_or cs s 0 ≡ none → take k sides ≡ sift (there cs) (up_from 0 (s + 1))
   side_absent a =
       let f : there cs s ≡ false = ap not (eq-eqb (get_or cs s 0) none a) in
-      sym (one_more ∙ ap (λ (l : List ℕ). take k sides ++ l) (sift_past (there cs) s [] f) ∙ append_nil (take k sides))
+      sym (one_more ∙ ap (λ (l : List ℕ). take k sides ++ l) (sift_past (there cs) s [] f) ∙ append-nil (take k sides))
 
   pub side_there : (get_or cs s 0 ≡ none → ⊥) → k < length sides → take (k + 1) (set sides k s) ≡ sift (there cs) (up_from 0 (s + 1))
   side_there a h =

@@ -5,7 +5,7 @@ use native.Mathlib.Numerals.{add-one}
 use native.Mathlib.Nat.{add-zero, le_refl}
 use mathlib.Core.Path.{◌≡◌, refl, sym, ap, ◌∙◌, fun_ext}
 use mathlib.Core.Bool.{Bool, true, false, not}
-use mathlib.Core.List.{List, [], ◌∷◌, ◌++◌, append_assoc, append_nil}
+use mathlib.Core.List.{List, [], ◌∷◌, ◌++◌, append_assoc, append-nil}
 use lib.ListN.{length, get_or, set, take, drop, length-set, drop_of_length-le}
 use lib.Seq.{take-suc-set, take-set-le, drop-set-lt, length-take-le}
 use lib.Ieee.{Float, lt}
@@ -124,10 +124,10 @@ module _ (test : ℕ → Bool) (a₀ t₀ : List ℕ) where
   parted a t k i q h =
       let n : i ≡ length a₀ = omega arith in
       let none : drop i a₀ ≡ [] = drop_of_length-le a₀ h in
-      let front : take k a ≡ sift test a₀ = sym (append_nil (take k a)) ∙ ap (λ (l : List ℕ). take k a ++ sift test l) (sym none) ∙ q.front in
+      let front : take k a ≡ sift test a₀ = sym (append-nil (take k a)) ∙ ap (λ (l : List ℕ). take k a ++ sift test l) (sym none) ∙ q.front in
       let back : take (length a₀ - k) t ≡ sift (λ p. not (test p)) a₀ =
       ap (λ (m : ℕ). take (m - k) t) (sym n)
-      ∙ sym (append_nil (take (i - k) t))
+      ∙ sym (append-nil (take (i - k) t))
       ∙ ap (λ (l : List ℕ). take (i - k) t ++ sift (λ p. not (test p)) l) (sym none)
       ∙ q.back in
       record { passed = front; others = back; count = sym (length-take-le k a (omega arith)) ∙ ap length front }

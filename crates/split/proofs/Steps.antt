@@ -3,7 +3,7 @@ use Prim.Native.Nat.{ℕ, zero, suc, ◌+◌, ◌-◌, ◌/◌, ◌≤◌, ◌<�
 use native.Mathlib.Omega.{arith}
 use mathlib.Core.Path.{◌≡◌, refl, sym, ap, subst, ◌∙◌}
 use mathlib.Core.Bool.{Bool, true, false, not, cond, ◌||◌}
-use mathlib.Core.List.{List, [], ◌∷◌, ◌++◌, append_nil}
+use mathlib.Core.List.{List, [], ◌∷◌, ◌++◌, append-nil}
 use lib.Dec.{eqb}
 use lib.ListN.{length, take, drop, length-append}
 use lib.Seq.{length-take-le, take-append-le, take_at}
@@ -71,7 +71,7 @@ module _ (at : ℕ → BoxWords) where
   unfolding two_leads
   all_in_one [] g₂ w n r e h l s =
       let b = lt-ltb 0 (length g₂) (omega arith) in
-      (l.list ∙ rw (b, append_nil), l.count ∙ rw b (omega arith))
+      (l.list ∙ rw (b, append-nil), l.count ∙ rw b (omega arith))
   all_in_one (x ∷ g₁) [] w n r e h l s =
       let b = le-ltb (length (x ∷ g₁)) 0 (omega arith) in
       (l.list ∙ rw b, l.count ∙ rw b (omega arith))
@@ -125,7 +125,7 @@ module _ (at : ℕ → BoxWords) where
     nowhere_united test h w =
         let n = nowhere test ps w in
         let b = lt-ltb 0 (length ps) h in
-        rw (n.0, n.1) (record { list = rw (b, append_nil); count = rw b })
+        rw (n.0, n.1) (record { list = rw (b, append-nil); count = rw b })
 
     leads_divided : (w : List ℕ) (r : ℕ) → 2 ≤ length ps → LeaderFirst at (group_one at ps) (group_two at ps) w r → Divided at ps w r
     unfolding first_group_of second_of

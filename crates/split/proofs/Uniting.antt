@@ -3,7 +3,7 @@ use Prim.Native.Nat.{ℕ, ◌+◌, ◌-◌, ◌≤◌}
 use native.Mathlib.Omega.{arith}
 use native.Mathlib.Nat.{zero-add}
 use mathlib.Core.Path.{◌≡◌, sym, ap, ◌∙◌}
-use mathlib.Core.List.{List, [], ◌++◌, append_nil}
+use mathlib.Core.List.{List, [], ◌++◌, append-nil}
 use lib.ListN.{length, take, drop, length-drop, drop_of_length-le}
 use lib.Seq.{paste, take-paste, take_all}
 
@@ -14,13 +14,13 @@ module _ (ps t : List ℕ) (k : ℕ) (inside : k ≤ length ps) (room : length p
       let m : ℕ = length ps - k in
       let none : drop (0 + length ps) ps ≡ [] = drop_of_length-le ps {i = 0 + length ps} (omega arith) in
       let sum : length ps ≡ m + k = omega arith in
-      f ∙ rw (none, append_nil) (ap (take (length ps)) e ∙ ap (λ (j : ℕ). take j (paste t m ps k)) sum ∙ take-paste t m ps k (omega arith) inside)
+      f ∙ rw (none, append-nil) (ap (take (length ps)) e ∙ ap (λ (j : ℕ). take j (paste t m ps k)) sum ∙ take-paste t m ps k (omega arith) inside)
 
   -- group two behind group one
   pub one_first : (w : List ℕ) → w ≡ paste ps k t (length ps - k) → w ≡ take k ps ++ take (length ps - k) t
   one_first w e =
       let none : drop (k + (length ps - k)) ps ≡ [] = drop_of_length-le ps {i = k + (length ps - k)} (omega arith) in
-      e ∙ rw (none, append_nil)
+      e ∙ rw (none, append-nil)
 
 -- what stands from h on, kept at the front of another list
 pub kept_aside : (s t t₁ : List ℕ) (h n : ℕ) → n ≡ length s → h ≤ n → n ≤ length t → t₁ ≡ paste t 0 (take (n - h) (drop h s)) (n - h)

@@ -4,7 +4,7 @@ use Rattle.core.specs.Prelude.{◌≡◌, ℕ, ◌+◌, ◌-◌, ◌*◌, ◌<�
 use native.Mathlib.Omega.{arith}
 use native.Mathlib.Nat.{add-zero, zero-add}
 use mathlib.Core.List.Memᴰ
-use mathlib.Core.List.{map-append, append_assoc, append_nil, Memᴰ}
+use mathlib.Core.List.{map-append, append_assoc, append-nil, Memᴰ}
 use mathlib.Core.Path.{refl, sym, ap, ◌∙◌, subst}
 use borrow.Author.Tests.{lt-ltb, le-ltb, eq-eqb, ne_eqb, eqb-true, eqb-false}
 use lib.ListN.{length-append, length-map, take-append-drop}
@@ -494,7 +494,7 @@ module _ (w : Written) (sound : (r : Row) → Memᴰ r w.nodes → Sound w r) wh
         parts_induction limit limit_some WalksParts
         (λ k t h lo j s st there waits.
         arrives_with s (j + 1) (j + 1) _ _ (seen lo t) (seen lo t ++ []) (walk_range t k lo j s st there waits)
-        refl (omega arith) (sym (append_nil (seen lo t))))
+        refl (omega arith) (sym (append-nil (seen lo t))))
         (λ k b l₁ l₂ h one two. walk_both k b l₁ l₂ one two)
 
   -- ---- the whole walk
@@ -523,14 +523,14 @@ module _ (w : Written) (sound : (r : Row) → Memᴰ r w.nodes → Sound w r) wh
       record {
         rest = [];
         fit = of.fit;
-        rows_are = of.nodes_are ∙ sym (append_nil (rows 0 t));
+        rows_are = of.nodes_are ∙ sym (append-nil (rows 0 t));
         ends = omega (arith, of.nodes_number);
         items = omega (arith, of.items_enough);
       } in
       let there : RangesStand 0 (ranges limit 0 t) =
       record {
         rest = [];
-        ranges_are = of.trees_are ∙ sym (append_nil (ranges limit 0 t));
+        ranges_are = of.trees_are ∙ sym (append-nil (ranges limit 0 t));
         ends = omega (arith, of.trees_number);
         few_nodes = omega (arith, of.nodes_number, of.few_nodes);
       } in
@@ -542,7 +542,7 @@ module _ (w : Written) (sound : (r : Row) → Memᴰ r w.nodes → Sound w r) wh
       rw (a.going_on, le-ltb s.at s.last a.idle, last-tree) in
       let end : walk_from l started ≡ behind (seen_in 0 ps) (quiet s) = a.way.goes ∙ ap (behind (seen_in 0 ps)) (walk_none l s done) in
       record {
-        given_are = ap (λ (u : Turn). u.given) end ∙ append_nil (seen_in 0 ps);
+        given_are = ap (λ (u : Turn). u.given) end ∙ append-nil (seen_in 0 ps);
         reads_are = ap (λ (u : Turn). u.state.reads) end ∙ a.reads_are ∙ zero-add (part_reads hit ps);
         handed_are = ap (λ (u : Turn). u.state.handed) end ∙ a.handed_are ∙ zero-add (length (seen_in 0 ps));
         going_on = ap (λ (u : Turn). u.state.status) end ∙ a.going_on;

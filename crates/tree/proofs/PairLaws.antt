@@ -3,7 +3,7 @@
 -- The walk is the visit (MachineLaws), and the visit has these properties (VisitLaws, HitLaws, MeetLaws).
 use Rattle.core.specs.Prelude.{◌≡◌, ℕ, ◌+◌, ◌-◌, ◌*◌, ◌<◌, ◌≤◌, Bool, true, false, cond, eqb, ltb, List, [], ◌∷◌, ◌++◌, map, length, get_or, drop}
 use native.Mathlib.Omega.{arith}
-use mathlib.Core.List.{append_assoc, append_nil}
+use mathlib.Core.List.{append_assoc, append-nil}
 use mathlib.Core.List.Memᴰ
 use mathlib.Core.List.{Memᴰ}
 use mathlib.Core.Logic.{⊎_elim}
@@ -252,7 +252,7 @@ module _ (e : Entries) (th : ℕ) (stands : Stands e th) where
     given = visit_parts (hit_in query scale) th order 0 (parts range_limit 0 t)
 
     whole_order : drop 0 order ≡ order ++ []
-    whole_order = sym (append_nil order)
+    whole_order = sym (append-nil order)
 
     given_once : (p : ℕ) → occurrences p (map (item_at th order) given) ≤ occurrences p e.places
     given_once p =

@@ -3,7 +3,7 @@
 use Rattle.core.specs.Prelude.{◌≡◌, ℕ, zero, suc, ◌+◌, ◌<◌, ◌≤◌, Bool, true, false, cond, T, List, [], ◌∷◌, ◌++◌, map, length, drop}
 use native.Mathlib.Omega.{arith}
 use mathlib.Core.List.Memᴰ
-use mathlib.Core.List.{map-append, append_assoc, append_nil}
+use mathlib.Core.List.{map-append, append_assoc, append-nil}
 use mathlib.Core.List.{Memᴰ}
 use mathlib.Core.Logic.{⊎_elim}
 use mathlib.Core.Path.{refl, sym, ap, ◌∙◌, subst}
@@ -209,7 +209,7 @@ module _ (hit : BoxWords → Bool) (th : ℕ) (order : List ℕ) where
       visits_induction : (at : ℕ) (t : Node) (lo : ℕ) → P lo t (visit_parts hit th order lo (parts limit at t))
       visits_induction =
           parts_induction limit limit_some (λ at t ps. (lo : ℕ) → P lo t (visit_parts hit th order lo ps))
-          (λ at t h lo. subst (P lo t) (sym (append_nil (visit hit th order lo t))) (whole lo t))
+          (λ at t h lo. subst (P lo t) (sym (append-nil (visit hit th order lo t))) (whole lo t))
           (λ at b l r h first second lo.
           subst (P lo (inner b l r)) (sym (visit_both at lo l r)) (parted lo b l r _ _ (first lo) (second (lo + length (leaf_order l)))))
 

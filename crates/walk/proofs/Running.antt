@@ -1,7 +1,7 @@
 -- The loops of a walk: the walk from one state leads through another, as a reading and the rest, over trees passed, or by two ways put together.
 use Rattle.core.specs.Prelude.{◌≡◌, ℕ, ◌+◌, ◌-◌, ◌*◌, ◌<◌, ◌≤◌, true, false, List, [], ◌++◌, length}
 use mathlib.Core.Path.{refl, sym, ap, subst, ◌∙◌}
-use mathlib.Core.List.{append_assoc, append_nil}
+use mathlib.Core.List.{append_assoc, append-nil}
 use native.Mathlib.Omega.{arith}
 use borrow.Author.Tests.{le-ltb}
 use lib.ListN.{length-append}
@@ -66,7 +66,7 @@ finished l s before out g e =
     let w : walk_from l started ≡ record { state = s; given = g.given ++ [] } = g.whole_is ∙ ap (joined so_far) (walk_none l s e) in
     record {
       state_is = ap (λ (t : Turn). t.state) (sym w);
-      output_is = g.stored ∙ ap (sets before 0) (sym (ap (λ (t : Turn). t.given) w ∙ append_nil g.given));
+      output_is = g.stored ∙ ap (sets before 0) (sym (ap (λ (t : Turn). t.given) w ∙ append-nil g.given));
     }
 
 -- the whole walk, from a start that was made, and of the query that the lanes stand for

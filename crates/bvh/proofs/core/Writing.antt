@@ -2,7 +2,7 @@
 use Rattle.core.specs.Prelude.{◌≡◌, ℕ, ◌+◌, ◌-◌, ◌*◌, ◌<◌, ◌≤◌, List, [], ◌++◌, length, take, drop}
 use native.Mathlib.Nat.{sub_self}
 use native.Mathlib.Omega.{arith}
-use mathlib.Core.List.{append_nil}
+use mathlib.Core.List.{append-nil}
 use mathlib.Core.Path.{refl, sym, ap, ◌∙◌, subst}
 use borrow.Author.Tests.{eq-eqb, ne_eqb}
 use lib.Seq.{sets, length-take-le}
@@ -63,7 +63,7 @@ module _ (s : Scale) (t : Task) (m : ℕ) (order table nodes nodes₁ : List ℕ
       let none : pad_bytes (m - m) ≡ [] = ap pad_bytes (sub_self m) in
       record {
         capacity_is = rw (ne_eqb t.threshold 1 ne);
-        bytes_are = put ∙ ap (λ (l : List ℕ). over l nodes) (sym (append_nil bytes) ∙ ap (λ (l : List ℕ). bytes ++ l) (sym none));
+        bytes_are = put ∙ ap (λ (l : List ℕ). over l nodes) (sym (append-nil bytes) ∙ ap (λ (l : List ℕ). bytes ++ l) (sym none));
       }
 
 -- ---- the order list

@@ -3,7 +3,7 @@ use Rattle.core.specs.Prelude.{◌≡◌, ℕ, ◌+◌, ◌-◌, ◌*◌, ◌<�
 use native.Mathlib.Omega.{arith}
 use native.Mathlib.Nat.{sub-zero}
 use mathlib.Core.Path.{refl, sym, ap, ◌∙◌}
-use mathlib.Core.List.{append_nil}
+use mathlib.Core.List.{append-nil}
 use lib.ListN.{length-set}
 use Rattle.base.specs.Lists.{one_if}
 use Rattle.bvh.specs.Items.{is_marked, marked}
@@ -44,6 +44,6 @@ module _ (n : ℕ) (ws before : List ℕ) where
   done places k p g h =
       let none : n - p ≡ 0 = omega arith in
       record {
-        places_are = sym (append_nil (take k places)) ∙ ap (λ (m : ℕ). take k places ++ marked p m ws) (sym none) ∙ g.rest;
+        places_are = sym (append-nil (take k places)) ∙ ap (λ (m : ℕ). take k places ++ marked p m ws) (sym none) ∙ g.rest;
         most = omega (arith, g.most, g.upto);
       }

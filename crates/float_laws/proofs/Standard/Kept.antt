@@ -9,7 +9,7 @@ use native.Mathlib.Omega.{arith}
 use lib.Pow.{pow-add, pow_pos}
 use lib.Ieee.{Format, prec, low, hid, size, nearest, units, round}
 use lib.Ieee.Digits.{size_reaches}
-use lib.Ieee.Fits.{kept_lt, round_is}
+use lib.Ieee.Fits.{kept-lt, round_is}
 use Rattle.float32.proofs.root.Written.{Leads, prec_pos}
 use Rattle.float_laws.proofs.root.Neighbours.{Choice, choice, Outside}
 use Rattle.float_laws.proofs.root.Grid.{gap}
@@ -68,7 +68,7 @@ kept f a c C =
     let whole = div-add-mod' n u in
     let rest = mod-lt n (mul-pos C (pow_pos k)) in
     let same : n / c / 2 ^ k ≡ q = div-div-eq-div-mul n c (2 ^ k) in
-    let digits : q < 2 ^ p = subst (λ (z : ℕ). z < 2 ^ p) same (kept_lt p (n / c)) in
+    let digits : q < 2 ^ p = subst (λ (z : ℕ). z < 2 ^ p) same (kept-lt p (n / c)) in
     record {
       q = q;
       k = k;

@@ -2,7 +2,7 @@
 use Prim.Native.Nat.{ℕ, suc, ◌+◌, ◌-◌, ◌*◌, ◌≤◌, ◌<◌}
 use native.Mathlib.Omega.{arith}
 use native.Mathlib.Numerals.{add-one}
-use mathlib.Core.List.{List, [], ◌∷◌, ◌++◌, append_nil}
+use mathlib.Core.List.{List, [], ◌∷◌, ◌++◌, append-nil}
 use mathlib.Core.Path.{◌≡◌, refl, ap, ap₂, ◌∙◌}
 use lib.ListN.{length, get_or, set, take, drop, length-drop, length-set, drop_of_length-le}
 use lib.Seq.{get_or-set_same, drop-set-lt, length-take-le, drop_at, drop-cons, take-add, take_all, drop-drop}
@@ -121,9 +121,9 @@ module _ (b : Builder) (law : Lawful b) (th : ℕ) (entries : List ℕ) (s₀ : 
         let all : take lo s.places ≡ s.places = take_all lo s.places (omega (arith, g.same.places_same)) in
         let p : Pending b th (grow b th s₀.places) (length s₀.places) [] (drop lo s.places) s.places g.laid lo m =
         rw (empty, all) at g.pending in
-        let e : g.laid ≡ bare_rows 0 (grow b th s₀.places) = rw append_nil at p.rows_are in
+        let e : g.laid ≡ bare_rows 0 (grow b th s₀.places) = rw append-nil at p.rows_are in
         record {
-          order_is = rw append_nil at p.order_is;
+          order_is = rw append-nil at p.order_is;
           rows_are = g.written ∙ ap table_of e;
           most = omega (arith, p.room);
         }

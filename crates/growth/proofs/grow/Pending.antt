@@ -2,7 +2,7 @@
 -- laid, followed by what the waiting segments give, is the whole tree.
 use Prim.Native.Nat.{ℕ, suc, ◌+◌, ◌-◌, ◌*◌, ◌≤◌, ◌<◌}
 use native.Mathlib.Omega.{arith}
-use mathlib.Core.List.{List, [], ◌∷◌, ◌++◌, append_assoc, append_nil}
+use mathlib.Core.List.{List, [], ◌∷◌, ◌++◌, append_assoc, append-nil}
 use mathlib.Core.Path.{◌≡◌, sym, ap, ◌∙◌}
 use lib.ListN.{length, take, drop, length-append, length-drop}
 use lib.Seq.{length-take-le, take_at, drop_at, take-length}
@@ -48,8 +48,8 @@ module _ (b : Builder) (law : Lawful b) (th : ℕ) (pos : 0 < th) where
   begin ps h =
       let e : take (length ps) ps ≡ ps = take-length ps in
       record {
-        order_is = rw (e, append_nil);
-        rows_are = rw (e, append_nil);
+        order_is = rw (e, append-nil);
+        rows_are = rw (e, append-nil);
         span = omega arith;
         some = (h, tt);
         whole = omega arith;

@@ -3,7 +3,7 @@ use Prim.Native.Nat.{ℕ, ◌+◌, ◌*◌, ◌≤◌, ◌<◌}
 use native.Mathlib.Omega.{arith}
 use native.Mathlib.Numerals.{add-one}
 use mathlib.Core.Path.{◌≡◌, refl, sym, ap, ◌∙◌}
-use mathlib.Core.List.{List, [], ◌∷◌, ◌++◌, append_assoc, append_nil}
+use mathlib.Core.List.{List, [], ◌∷◌, ◌++◌, append_assoc, append-nil}
 use lib.ListN.{length, get_or, take, length-append}
 use lib.Seq.{sets, length-sets, length-take-le, take-suc}
 use Rattle.base.specs.LittleEndian.{little_endian}
@@ -20,7 +20,7 @@ length_bytes [] = refl
 length_bytes (m ∷ ms) = omega (arith, length-append (little_endian 8 m) (materials_bytes ms), eight m, length_bytes ms)
 
 bytes_more : (ms : List ℕ) (m : ℕ) → materials_bytes (ms ++ (m ∷ [])) ≡ materials_bytes ms ++ little_endian 8 m
-bytes_more [] m = append_nil (little_endian 8 m)
+bytes_more [] m = append-nil (little_endian 8 m)
 bytes_more (k ∷ ms) m =
     ap (λ (l : List ℕ). little_endian 8 k ++ l) (bytes_more ms m) ∙ sym (append_assoc (little_endian 8 k) (materials_bytes ms) (little_endian 8 m))
 

@@ -2,7 +2,7 @@
 use borrow.Author.Rules.{rules}
 use Rattle.polygon_items.proofs.polygon_items.Statement.{statement}
 use Rattle.polygon_items.proofs.polygon_items.Tie as tie
-use borrow.Author.Tests.{not_true, not-false}
+use borrow.Author.Tests.{not-true, not-false}
 use mathlib.Core.Path.{sym, ◌∙◌}
 use Rattle.polygon_items.proofs.ItemLaws.{room, too_many, too_small, unknown, served}
 
@@ -24,7 +24,7 @@ returns-3 : tie.Need-returns-3
 returns-3 c =
     let c4 = c.before.before.before.before in
     unknown _ _ _ _ c4.if1.false (sym c.before.before.before.too_short.ensures ∙ c.before.before.if2.false)
-    (sym c.before.kinds-known.ensures ∙ not_true _ c.if3.true)
+    (sym c.before.kinds-known.ensures ∙ not-true _ c.if3.true)
 
 put-items-requires : tie.Need-put-items-requires
 put-items-requires c κs =

@@ -4,7 +4,7 @@ use native.Mathlib.Nat.{sub_self}
 use native.Mathlib.Omega.{arith}
 use native.Mathlib.Numerals.{add-one}
 use mathlib.Core.Path.{◌≡◌, refl, sym, ap, ◌∙◌, subst}
-use mathlib.Core.List.{List, [], ◌∷◌, ◌++◌, append_nil}
+use mathlib.Core.List.{List, [], ◌∷◌, ◌++◌, append-nil}
 use lib.ListN.{length, get_or, take, set, length-set}
 use lib.Seq.{sets, length-sets, length-take-le, take-suc}
 use Rattle.base.proofs.StoreLaws.{store_next, over_next, over_one}
@@ -61,7 +61,7 @@ module _ (s : Scale) (th : ℕ) (order : List ℕ) where
       → nodes_bytes s th order (take i rs) ++ node_bytes (node_of s th order (get_or rs i d)) ≡ nodes_bytes s th order (take (i + 1) rs)
   rows_next rs i d h =
       let r = get_or rs i d in
-      ap (λ (bs : List ℕ). nodes_bytes s th order (take i rs) ++ bs) (sym (append_nil (node_bytes (node_of s th order r))))
+      ap (λ (bs : List ℕ). nodes_bytes s th order (take i rs) ++ bs) (sym (append-nil (node_bytes (node_of s th order r))))
       ∙ sym (nodes_append s th order (take i rs) (r ∷ []))
       ∙ ap (nodes_bytes s th order) (sym (ap (λ (k : ℕ). take k rs) (add-one i) ∙ take-suc rs i d h))
 

@@ -4,7 +4,7 @@ use native.Mathlib.Omega.{arith}
 use native.Mathlib.Nat.{add-zero}
 use native.Mathlib.Numerals.{add-one}
 use mathlib.Core.Bool.{Bool, true, false, cond}
-use mathlib.Core.List.{List, [], ◌∷◌, ◌++◌, append_assoc, append_nil, Memᴰ, map, map-append}
+use mathlib.Core.List.{List, [], ◌∷◌, ◌++◌, append_assoc, append-nil, Memᴰ, map, map-append}
 use mathlib.Core.Path.{◌≡◌, refl, sym, ap, ◌∙◌}
 use lib.Dec.{leb, eqb}
 use lib.ListN.{length, get_or, take, drop, length-append, length-drop, length-take, take-append-drop, drop_of_length-le}
@@ -104,7 +104,7 @@ scan_whole : (limit : ℕ) → 0 < limit → (t : Node) → Filled t → scan li
 scan_whole limit some (leaf b ps) h = rw (lone_size b (length ps) _ refl, le-leb 1 limit some)
 scan_whole limit some (inner b l r) h =
     let t : Node = inner b l r in
-    ap (scan limit 0 0) (sym (append_nil (rows 0 t))) ∙ scan_tree limit some 0 0 t [] h ∙ append_nil (ranges limit 0 t)
+    ap (scan limit 0 0) (sym (append-nil (rows 0 t))) ∙ scan_tree limit some 0 0 t [] h ∙ append-nil (ranges limit 0 t)
 
 -- ---- what is written
 
@@ -115,7 +115,7 @@ one_written : (s : Scale) (xs : List Range) (x : Range) (before trees : List ℕ
 one_written s xs x before trees k e room p =
     let w : List ℕ = trees_bytes s xs in
     let b : List ℕ = tree_bytes (tree_record s x) in
-    let v : trees_bytes s (xs ++ (x ∷ [])) ≡ w ++ b = trees_append s xs (x ∷ []) ∙ ap (λ (l : List ℕ). w ++ l) (append_nil b) in
+    let v : trees_bytes s (xs ++ (x ∷ [])) ≡ w ++ b = trees_append s xs (x ∷ []) ∙ ap (λ (l : List ℕ). w ++ l) (append-nil b) in
     ap (λ (l : List ℕ). sets l (16 * k) b) p
     ∙ over_next w b before (16 * k) (length_trees s xs ∙ ap (λ (n : ℕ). 16 * n) e) (rw (tree_bytes_lem (tree_record s x)).size room)
     ∙ ap (λ (l : List ℕ). over l before) (sym v)

@@ -2,7 +2,7 @@
 use Prim.Native.Nat.{ℕ, zero, suc, ◌+◌, ◌*◌, ◌≤◌, ◌<◌}
 use native.Mathlib.Omega.{arith}
 use native.Mathlib.Nat.{add-zero}
-use mathlib.Core.List.{List, [], ◌∷◌, ◌++◌, append_assoc, append_nil}
+use mathlib.Core.List.{List, [], ◌∷◌, ◌++◌, append_assoc, append-nil}
 use mathlib.Core.Path.{◌≡◌, sym, ap, ap₂, ◌∙◌}
 use lib.ListN.{length, get_or, set, take, drop, length-append, length-drop, drop_of_length-le, take-append-drop}
 use lib.Seq.{take-suc, drop-cons, length-take-le, take_all, take_at}
@@ -25,7 +25,7 @@ pub start : (m : ℕ) (table : List ℕ) → 8 * m ≤ length table → Filling 
 start m table room =
     let rs : List Row = rows_in m table in
     let many : length rs ≡ m = length_rows_in m table in
-    let all : sized_from m rs ≡ rs = rw (take_all m rs (omega arith), drop_of_length-le rs {i = m} (omega arith)) (append_nil rs) in
+    let all : sized_from m rs ≡ rs = rw (take_all m rs (omega arith), drop_of_length-le rs {i = m} (omega arith)) (append-nil rs) in
     record {
       within = omega arith;
       held = sym (take-append-drop (8 * m) table) ∙ ap (λ (l : List ℕ). l ++ drop (8 * m) table) (sym (ap table_of all ∙ table_of_rows m table room));

@@ -3,7 +3,7 @@ use Prim.Native.Nat.{ℕ, zero, suc, ◌+◌, ◌≤◌, ◌<◌}
 use native.Mathlib.Omega.{arith}
 use native.Mathlib.Nat.{le_of_suc-le-suc, zero-add, suc-add}
 use mathlib.Core.Bool.{Bool, true, false, cond}
-use mathlib.Core.List.{List, [], ◌∷◌, ◌++◌, append_assoc, append_nil}
+use mathlib.Core.List.{List, [], ◌∷◌, ◌++◌, append_assoc, append-nil}
 use mathlib.Core.Path.{◌≡◌, refl, sym, ap, ◌∙◌}
 use lib.Dec.{eqb}
 use lib.ListN.{length, get_or}
@@ -73,4 +73,4 @@ sized_rows lo (inner b l r) rs f =
 
 -- the sizes put into a tree's bare rows are those of its rows
 pub sized_tree : (t : Node) → Full t → sized (bare_rows 0 t) ≡ rows 0 t
-sized_tree t f = ap sized (sym (append_nil (bare_rows 0 t))) ∙ sized_rows 0 t [] f ∙ append_nil (rows 0 t)
+sized_tree t f = ap sized (sym (append-nil (bare_rows 0 t))) ∙ sized_rows 0 t [] f ∙ append-nil (rows 0 t)

@@ -3,7 +3,7 @@ use Prim.Native.Nat.{ℕ, suc, ◌+◌, ◌-◌, ◌/◌, ◌≤◌, ◌<◌}
 use native.Mathlib.Omega.{arith}
 use mathlib.Core.Path.{◌≡◌, refl, sym, ap, subst, ◌∙◌}
 use mathlib.Core.Bool.{Bool, true, false, cond}
-use mathlib.Core.List.{List, [], ◌∷◌, ◌++◌, append_nil}
+use mathlib.Core.List.{List, [], ◌∷◌, ◌++◌, append-nil}
 use lib.Dec.{eqb}
 use lib.ListN.{length, get_or, set, drop, length-set}
 use lib.Seq.{get_or-set_same, get_or-set_other}
@@ -110,7 +110,7 @@ module _ (key : ℕ → ℕ) (base : ℕ) (done before firsts links : List ℕ) 
 
   all_else : (k : ℕ) → (key s ≡ k → ⊥) → with_key key k all ≡ with_key key k done
   all_else k e = all_of k ∙ ap (λ (l : List ℕ). with_key key k done ++ l) (sift_past (λ t. eqb (key t) k) s [] (ne_eqb (key s) k e))
-      ∙ append_nil (with_key key k done)
+      ∙ append-nil (with_key key k done)
 
   not_s : (t : ℕ) → Among t done → t ≡ s → ⊥
   not_s t h q = omega (arith, new, ap (λ (u : ℕ). occurrences u done) q)

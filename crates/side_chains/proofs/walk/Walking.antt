@@ -3,7 +3,7 @@ use Prim.Native.Nat.{ℕ, zero, suc, ◌+◌, ◌-◌, ◌≤◌, ◌<◌}
 use native.Mathlib.Omega.{arith}
 use mathlib.Core.Path.{◌≡◌, refl, sym, ap, subst, ◌∙◌}
 use mathlib.Core.Bool.{Bool, true, false, cond}
-use mathlib.Core.List.{List, [], ◌∷◌, ◌++◌, append_assoc, append_nil}
+use mathlib.Core.List.{List, [], ◌∷◌, ◌++◌, append_assoc, append-nil}
 use lib.Dec.{eqb}
 use lib.ListN.{length, get_or, set, drop, length-set}
 use borrow.Author.Tests.{eq-eqb, ne_eqb}
@@ -172,7 +172,7 @@ pub ended : (nexts : List ℕ) (head base : ℕ) (firsts₀ before firsts links 
     → Walking nexts head base firsts₀ before firsts links e → e ≤ 0 → Walked nexts head base firsts before links
 ended nexts head base firsts₀ before firsts links e w h =
     let q : w.done ++ w.left ≡ w.done =
-    ap (λ (l : List ℕ). w.done ++ l) (none_left nexts w.left e w.chain h) ∙ append_nil w.done in
+    ap (λ (l : List ℕ). w.done ++ l) (none_left nexts w.left e w.chain h) ∙ append-nil w.done in
     let all : Chain nexts head w.done = subst (λ (l : List ℕ). Chain nexts head l) q w.whole in
     let numbers = every_map (Fit nexts firsts₀ before) (λ t. t + 1 < 131072) (λ t f. f.number) w.done
     (subst (λ (l : List ℕ). Every (Fit nexts firsts₀ before) l) q w.fit) in

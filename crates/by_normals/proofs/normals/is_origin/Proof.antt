@@ -5,18 +5,18 @@ use mathlib.Core.Bool.{Bool, ◌&&◌}
 use mathlib.Core.Path.{sym, ap, ap₂}
 use lib.Ieee.{eq}
 use Rattle.rays.specs.Rays.{naught}
-use borrow.Author.Tests.{not_true, not-false}
+use borrow.Author.Tests.{not-true, not-false}
 
 returns : tie.Need-returns
 returns c =
     let p = c.before.before.args.p in
-    ap (λ (b : Bool). b && (eq p.y naught && eq p.z naught)) (sym (not_true (eq p.x naught) c.if1.true))
+    ap (λ (b : Bool). b && (eq p.y naught && eq p.z naught)) (sym (not-true (eq p.x naught) c.if1.true))
 
 returns-2 : tie.Need-returns-2
 returns-2 c =
     let p = c.before.before.before.before.args.p in
     ap₂ (λ (a b : Bool). a && (b && eq p.z naught)) (sym (not-false (eq p.x naught) c.before.before.if1.false))
-    (sym (not_true (eq p.y naught) c.if2.true))
+    (sym (not-true (eq p.y naught) c.if2.true))
 
 returns-3 : tie.Need-returns-3
 returns-3 c =

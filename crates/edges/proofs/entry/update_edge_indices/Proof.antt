@@ -2,7 +2,7 @@
 use borrow.Author.Rules.{rules}
 use Rattle.edges.proofs.entry.update_edge_indices.Statement.{statement}
 use Rattle.edges.proofs.entry.update_edge_indices.Tie as tie
-use borrow.Author.Tests.{not_true, not-false}
+use borrow.Author.Tests.{not-true, not-false}
 use mathlib.Core.Path.{sym, ◌∙◌}
 use Rattle.edges.proofs.entry.Answering.{room, too_many, too_small, unknown, served}
 
@@ -27,7 +27,7 @@ returns-3 c =
     let at-too-short = at-if2.before in
     let at-if1 = at-too-short.before in
     let short = sym at-too-short.too_short.ensures ∙ at-if2.if2.false in
-    unknown _ _ _ at-if1.if1.false short (sym c.before.kinds-known.ensures ∙ not_true _ c.if3.true)
+    unknown _ _ _ at-if1.if1.false short (sym c.before.kinds-known.ensures ∙ not-true _ c.if3.true)
 
 link-polygons-requires : tie.Need-link-polygons-requires
 link-polygons-requires c κs =

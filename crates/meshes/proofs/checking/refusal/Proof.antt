@@ -1,7 +1,7 @@
 -- `refusal`: the tests are the definition's, in its order (CheckLaws).
 use native.Mathlib.Omega.{arith}
 use mathlib.Core.Path.{sym, ap, ◌∙◌}
-use borrow.Author.Tests.{not_true, not-false}
+use borrow.Author.Tests.{not-true, not-false}
 use Rattle.meshes.proofs.CheckLaws as laws
 use borrow.Author.Rules.{rules}
 use Rattle.meshes.proofs.checking.refusal.Statement.{statement}
@@ -11,7 +11,7 @@ kind-known-requires : tie.Need-kind-known-requires
 kind-known-requires c κs = search rules
 
 returns : tie.Need-returns
-returns c = laws.unknown_kind _ _ _ _ _ (sym c.before.kind-known.ensures ∙ not_true _ c.if1.true)
+returns c = laws.unknown_kind _ _ _ _ _ (sym c.before.kind-known.ensures ∙ not-true _ c.if1.true)
 
 too-many-requires : tie.Need-too-many-requires
 too-many-requires c κs = search rules

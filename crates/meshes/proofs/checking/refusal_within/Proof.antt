@@ -1,6 +1,6 @@
 -- `refusal_within`: the tests are the definition's, in its order (CheckLaws).
 use mathlib.Core.Path.{sym, ap, ◌∙◌}
-use borrow.Author.Tests.{not_true, not-false, lt-ltb, le-ltb}
+use borrow.Author.Tests.{not-true, not-false, lt-ltb, le-ltb}
 use lib.Dec.{ltb}
 use Rattle.meshes.proofs.CheckLaws.{unknown_polygon, too_full, no_end, all_well}
 use borrow.Author.Rules.{rules}
@@ -11,7 +11,7 @@ kinds-known-requires : tie.Need-kinds-known-requires
 kinds-known-requires c κs = search rules
 
 returns : tie.Need-returns
-returns c = unknown_polygon _ _ _ _ (sym c.before.kinds-known.ensures ∙ not_true _ c.if1.true)
+returns c = unknown_polygon _ _ _ _ (sym c.before.kinds-known.ensures ∙ not-true _ c.if1.true)
 
 count-materials-requires : tie.Need-count-materials-requires
 count-materials-requires c κs = search rules

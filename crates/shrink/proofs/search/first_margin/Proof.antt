@@ -6,7 +6,7 @@ use Prim.Native.Nat.{ℕ, ◌-◌}
 use mathlib.Core.List.{List}
 use lib.ListN.{length}
 use lib.Ieee.{Float}
-use borrow.Author.Tests.{not_true, not-false}
+use borrow.Author.Tests.{not-true, not-false}
 use Rattle.rings.specs.Meshes.{Mesh, mesh_of}
 use Rattle.trial.specs.Trials.{passes_at}
 use Rattle.trial.proofs.TrialLaws.{tryable_again}
@@ -50,7 +50,7 @@ returns c =
     let a = c.before.before.before.before.before.before.before.before.before.before.before.before.before.before.args in
     let l = c.before.before.loop in
     let test = passes_at (mesh_of a.corners.now a.links.now a.n a.vertices.now a.v) in
-    none_found l.points (too_small test l.margin l.left (not_true _ c.if1.true) ∙ l.invariant.rest)
+    none_found l.points (too_small test l.margin l.left (not-true _ c.if1.true) ∙ l.invariant.rest)
 
 try-margin-requires : tie.Need-try-margin-requires invariant-loop decreases-loop
 try-margin-requires c κs =

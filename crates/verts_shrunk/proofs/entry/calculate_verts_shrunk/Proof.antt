@@ -5,7 +5,7 @@ use Rattle.verts_shrunk.proofs.entry.calculate_verts_shrunk.Tie as tie
 use mathlib.Core.Path.{sym, ◌∙◌}
 use Prim.Native.Nat.{◌*◌}
 use lib.Seq.{length-take-le, length_front}
-use borrow.Author.Tests.{not_true, not-false}
+use borrow.Author.Tests.{not-true, not-false}
 use Rattle.verts_shrunk.specs.declared.entry.Lengths.{Lengths}
 use Rattle.verts_shrunk.proofs.entry.Answering.{room, lengths_of, lent, many_polygons, many_vertices, too_small, unknown, none_there, infinite, served}
 
@@ -57,7 +57,7 @@ returns-4 c =
     let s = t.before.before.before.before.before.before.before.before.before.before.before.before.before.before in
     let a = s.args in
     unknown a.geometry a.n a.polygons.now a.v a.vertices.now (sizes s) a.points.now t.before.before.if1.false t.before.if2.false
-    (sym t.too_short.ensures ∙ c.before.before.if3.false) (sym c.before.kinds-known.ensures ∙ not_true _ c.if4.true)
+    (sym t.too_short.ensures ∙ c.before.before.if3.false) (sym c.before.kinds-known.ensures ∙ not-true _ c.if4.true)
 
 returns-5 : tie.Need-returns-5
 returns-5 c =
