@@ -1,0 +1,6 @@
+-- `abs_row` meets its contract: component by component what `float32::signs::abs` ensures.
+use borrow.Author.Rules.{rules}
+use Rattle.box_rows.proofs.abs_row.Goals as goal
+
+pub returns : goal.returns
+returns c = cc

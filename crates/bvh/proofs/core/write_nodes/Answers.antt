@@ -1,0 +1,13 @@
+-- `core::write_nodes` meets its contract: the records, and at threshold 1 the padding stored behind them.
+use borrow.Author.Rules.{rules}
+use Rattle.bvh.proofs.core.Writing.{nodes_padded, nodes_bare}
+use Rattle.bvh.proofs.core.write_nodes.Goals as goal
+
+pub returns-then-task-eq1 : goal.returns-then-task-eq1
+returns-then-task-eq1 c =
+    let one = c.if-task-eq1.true in
+    let pre = c.requires in
+    nodes_padded _ _ _ _ _ _ _ c.put_nodes.ensures _ one pre.2 pre.3 c.pad_nodes.ensures
+
+pub returns : goal.returns
+returns c = nodes_bare _ _ _ _ _ _ _ c.put_nodes.ensures c.if-task-eq1.false

@@ -1,0 +1,13 @@
+-- `items::gather` meets its contract. The loop's invariant, `Gathering`: the places so far, followed by those still to be marked, are all.
+use Rattle.core.specs.Prelude.{ℕ, ◌+◌, ◌-◌, ◌*◌, get_or, set}
+use mathlib.Core.Path.{subst, sym}
+use Rattle.bvh.specs.Items.{is_marked}
+use Rattle.bvh.proofs.items.Gathering.{Gathering, begin, next, done, one_or_none}
+use native.Mathlib.Omega.{arith}
+use Rattle.bvh.proofs.items.gather.Given as goal
+
+abbrev pub invariant-loop-p : goal.invariant-loop-p
+invariant-loop-p l = Gathering l.n l.entries l.initial.places l.places l.k l.p
+
+abbrev pub decreases-loop-p : goal.decreases-loop-p
+decreases-loop-p l = l.n - l.p

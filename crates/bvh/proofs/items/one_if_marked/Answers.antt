@@ -1,0 +1,9 @@
+-- `items::one_if_marked` meets its contract: the mark is 0, or it is not.
+use borrow.Author.Tests.{eq-eqb, ne_eqb}
+use Rattle.bvh.proofs.items.one_if_marked.Goals as goal
+
+pub returns-then-mark-eq0 : goal.returns-then-mark-eq0
+returns-then-mark-eq0 c = simp (eq-eqb _ _ c.if-mark-eq0.true)
+
+pub returns-else-mark-eq0 : goal.returns-else-mark-eq0
+returns-else-mark-eq0 c = simp (ne_eqb _ _ c.if-mark-eq0.false)

@@ -1,0 +1,30 @@
+-- `link_and_sort` meets its contract: where there is a tree the links and the numbers, else nothing.
+use borrow.Author.Rules.{rules}
+use Rattle.bvh_shape.proofs.Shaping.{links_made}
+use mathlib.Core.Path.{sym, ap, ◌∙◌}
+use Rattle.core.specs.Prelude.{take}
+use Rattle.bvh.specs.Build.{kept}
+use Rattle.bvh.specs.declared.core.Build.{Build}
+use Rattle.reorder.specs.Reordering.{in_order}
+use Rattle.bvh_shape.specs.Sorting.{linked_if}
+use Rattle.bvh_shape.proofs.link_and_sort.Goals as goal
+
+pub reorder_bytes-requires : goal.reorder_bytes-requires
+reorder_bytes-requires c =
+    let t = told c in
+    let s = c.requires t.enum_told.given.0.0 t.enum_told.given.1 in
+    (s.work.few, s.long, s.for_sorted, s.places_below)
+
+pub returns-in-Built : goal.returns-in-Built
+returns-in-Built c =
+    let is = sym c.enum_told-1.given.1 in
+    let s = c.requires c.enum_told-1.given.0.0 c.enum_told-1.given.1 in
+    let a = c.args in
+    record {
+      linked_are =
+          links_made _ _ _ _ _ _ _ s.work s.known _ _ c.update_edge_indices.ensures
+          ∙ ap (λ (x : Build). linked_if x a.p a.polygons-out.now) is;
+      numbers_are =
+          c.reorder_bytes.ensures
+          ∙ ap (λ (x : Build). kept x (in_order (take a.p a.order.now) a.numbers.now) a.sorted.now) is;
+    }

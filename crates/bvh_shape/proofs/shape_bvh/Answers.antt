@@ -1,0 +1,16 @@
+-- `shape_bvh` meets its contract: the rebuild, and then the links and the numbers in its order (Shaping).
+use borrow.Author.Rules.{rules}
+use Rattle.bvh_shape.proofs.Shaping.{sortable, shaped}
+use mathlib.Core.Path.{◌∙◌}
+use Rattle.bvh_shape.proofs.shape_bvh.Goals as goal
+
+pub link_and_sort-requires : goal.link_and_sort-requires
+link_and_sort-requires c =
+    let k = c.rebuild_bvh-built.kept in
+    sortable _ _ _ _ _ _ _ _ c.requires.0 _ c.args.bound _ _ _ c.rebuild_bvh-built.ensures _ _ _ _ _
+    k.1.1.1.1.1.1.0 k.1.1.1.1.1.1.1.1.1.1.0 k.1.1.1.1.1.1.1.1.1.1.1.0
+    k.1.1.1.1.1.1.1.1.1.1.1.1.0 k.1.1.1.1.1.1.1.1.1.1.1.1.1.0 k.1.1.1.1.1.1.1.1.1.1.1.1.1.1.0
+
+pub returns : goal.returns
+returns c =
+    shaped _ _ _ _ _ _ _ _ c.requires.0 _ c.args.bound _ _ _ c.rebuild_bvh-built.ensures _ _ c.link_and_sort.ensures

@@ -1,0 +1,13 @@
+-- `put_items`, by the invariant `Making`.
+use Rattle.core.specs.Prelude.{◌≡◌, ◌-◌, ◌≤◌}
+use mathlib.Core.Path.{sym, ◌∙◌}
+use Rattle.composite.specs.Trees.{child_items}
+use Rattle.composite.proofs.ItemLaws.{length_items, item_at, Making, start, one_more}
+use native.Mathlib.Omega.{arith}
+use Rattle.composite.proofs.building.put_items.Given as goal
+
+abbrev pub invariant-loop-i : goal.invariant-loop-i
+invariant-loop-i l = (Making (child_items l.children 0 l.n) l.initial.entries l.entries l.i) × (l.i ≤ l.k)
+
+abbrev pub decreases-loop-i : goal.decreases-loop-i
+decreases-loop-i l = l.k - l.i

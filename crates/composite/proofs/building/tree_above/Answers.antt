@@ -1,0 +1,25 @@
+-- `tree_above` meets its contract: no tree, a refusal, or the build over the items' words (TreeLaws).
+use borrow.Author.Rules.{rules}
+use Rattle.composite.proofs.TreeLaws.{fits, none, too_many, too_short, by_build, over_items}
+use Rattle.composite.proofs.building.tree_above.Goals as goal
+
+pub returns-then-n-limit : goal.returns-then-n-limit
+returns-then-n-limit c = none _ _ _ _ _ _ c.if-n-limit.true
+
+pub returns-then-n-gt32767 : goal.returns-then-n-gt32767
+returns-then-n-gt32767 c = too_many _ _ _ _ _ _ c.if-n-limit.false c.if-n-gt32767.true
+
+pub returns-then-children-n : goal.returns-then-children-n
+returns-then-children-n c = too_short _ _ _ _ _ _ c.if-n-limit.false c.if-n-gt32767.false c.if-children-n.true
+
+pub put_items-requires : goal.put_items-requires
+put_items-requires c =
+    let k = fits _ _ _ c.taken.ensures in
+    (c.if-children-n.false, k.0, k.1, c.if-n-gt32767.false)
+
+pub returns : goal.returns
+returns c =
+    let a = c.args in
+    by_build _ _ _ _ _ _ _ _ c.if-n-limit.false c.if-n-gt32767.false c.if-children-n.false
+    (over_items _ _ _ a.entries.now _ a.places.now a.temp.now a.stack.now a.rows.now a.centres.now _ _ _ _
+    c.put_items.ensures c.taken.ensures c.build_core.ensures)

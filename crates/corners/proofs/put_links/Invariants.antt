@@ -1,0 +1,16 @@
+-- `corners::put_links` meets its contract. The invariant: the links of i polygons are stored, and all else is as it was.
+use lib.ListN.{length}
+use mathlib.Core.Path.{◌≡◌, refl, ap, ◌∙◌}
+use Prim.Native.Nat.{ℕ, ◌-◌, ◌≤◌}
+use Rattle.base.specs.Lists.{over}
+use Rattle.corners.specs.Corners.{linked_records, links_put}
+use Rattle.corners.proofs.CornerLaws.{links_next}
+use native.Mathlib.Omega.{arith}
+use borrow.Author.Rules.{rules}
+use Rattle.corners.proofs.put_links.Given as goal
+
+abbrev pub invariant-loop-i : goal.invariant-loop-i
+invariant-loop-i l = (l.i ≤ l.n) × (length l.polygons ≡ length l.initial.polygons) × (l.polygons ≡ over (linked_records l.i l.links l.initial.polygons) l.initial.polygons)
+
+abbrev pub decreases-loop-i : goal.decreases-loop-i
+decreases-loop-i l = l.n - l.i

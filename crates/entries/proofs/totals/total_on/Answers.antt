@@ -1,0 +1,38 @@
+-- `totals::total_on` meets its contract. The loop's invariant: the rest taken into the totals so far gives those of all.
+use native.Mathlib.Omega.{arith}
+use borrow.Author.Rules.{rules}
+use Prim.Native.Nat.{◌+◌, ◌-◌}
+use mathlib.Core.Path.{ap, ◌∙◌}
+use lib.ListN.{length, drop}
+use Rattle.entries.specs.declared.totals.Totals.{Totals}
+use Rattle.entries.specs.Boxes.{box_at}
+use Rattle.entries.specs.Steps.Totals.{total_step, totals_from}
+use Rattle.entries.proofs.Places.{Pass, begin, taken, finished, next_within}
+use Rattle.entries.proofs.totals.total_on.Goals as goal
+
+pub loop-i-init : goal.loop-i-init
+loop-i-init c =
+    begin (totals_from (box_at c.args.entries.now)) _ c.args.places.now c.args.start c.requires.0
+
+pub corners_at-requires : goal.corners_at-requires
+corners_at-requires c =
+    let l = c.loop-i in
+    (next_within _ _ c.args.places.now _ l.t l.i l.invariant (omega arith), c.requires.1)
+
+pub loop-i-preserved : goal.loop-i-preserved
+loop-i-preserved c =
+    let l = c.loop-i in
+    let g = c.args in
+    let at = box_at g.entries.now in
+    let ps = g.places.now in
+    let step = c.total_step-t.ensures ∙ ap (total_step l.t) c.corners_at.ensures in
+    taken (totals_from at) _ ps g.start l.t _ l.i l.invariant (omega arith)
+    (ap (λ (s : Totals). totals_from at s (drop (l.i + 1) ps)) step)
+
+pub returns : goal.returns
+returns c =
+    let l = c.loop-i in
+    let g = c.args in
+    let at = box_at g.entries.now in
+    let ps = g.places.now in
+    finished (totals_from at) _ ps g.start l.t l.i l.invariant c.loop-i-test.false

@@ -1,0 +1,12 @@
+-- `extremes::vmax_word` meets its contract: the test is on the words' floats, the answer a copy.
+use Rattle.float32.specs.Extremes.{vmax_word}
+use borrow.Author.Rules.{rules}
+use Rattle.float32.proofs.extremes.vmax_word.Goals as goal
+
+pub returns-then-value : goal.returns-then-value
+unfolding vmax_word
+returns-then-value c = rw (← c.value.ensures, ← c.value-2.ensures, c.if-value.true)
+
+pub returns-else-value : goal.returns-else-value
+unfolding vmax_word
+returns-else-value c = rw (← c.value.ensures, ← c.value-2.ensures, c.if-value.false)

@@ -1,0 +1,27 @@
+-- `hex::put_places`: the first i are put.
+use Prim.Native.Nat.{ℕ, ◌-◌}
+use lib.ListN.{length}
+use Rattle.hex_lines.proofs.Each.{Putting, none_put, next_put, all_put}
+use Rattle.base.specs.LittleEndian.{little_endian}
+use Rattle.base.proofs.LittleEndian.{number_bytes}
+use native.Mathlib.Omega.{arith}
+use Rattle.hex_lines.proofs.hex.put_places.Goals as goal
+
+pub loop-i-init : goal.loop-i-init
+loop-i-init c = none_put (little_endian 2) _ _
+
+pub put_place-requires : goal.put_place-requires
+put_place-requires c = omega (arith, c.loop-i.invariant.same, c.requires)
+
+pub loop-i-preserved : goal.loop-i-preserved
+loop-i-preserved c =
+    let a = c.args in
+    let l = c.loop-i in
+    next_put (little_endian 2) 2 (λ x. (number_bytes 2 x).size) a.places.now a.out.now l.out _ l.i l.invariant (omega arith) c.requires
+    c.put_place.ensures
+
+pub returns : goal.returns
+returns c =
+    let a = c.args in
+    let l = c.loop-i in
+    all_put (little_endian 2) a.places.now a.out.now l.out l.i l.invariant (omega arith)

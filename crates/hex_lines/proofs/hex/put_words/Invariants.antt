@@ -1,0 +1,14 @@
+-- `hex::put_words`: the first i are put.
+use Prim.Native.Nat.{ℕ, ◌-◌}
+use lib.ListN.{length}
+use Rattle.hex_lines.proofs.Each.{Putting, none_put, next_put, all_put}
+use Rattle.base.specs.LittleEndian.{little_endian}
+use Rattle.base.proofs.LittleEndian.{number_bytes}
+use native.Mathlib.Omega.{arith}
+use Rattle.hex_lines.proofs.hex.put_words.Given as goal
+
+abbrev pub invariant-loop-i : goal.invariant-loop-i
+invariant-loop-i l = Putting (little_endian 4) l.words l.initial.out l.out l.i
+
+abbrev pub decreases-loop-i : goal.decreases-loop-i
+decreases-loop-i l = length l.words - l.i

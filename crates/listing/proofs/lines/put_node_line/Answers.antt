@@ -1,0 +1,13 @@
+-- `lines::put_node_line` meets its contract: the line of a record of this kind.
+use borrow.Author.Rules.{rules}
+use Rattle.listing.specs.Lines.{node_word, node_line}
+use Rattle.listing.proofs.Lining.{record_put}
+use Rattle.listing.proofs.lines.put_node_line.Goals as goal
+
+pub returns : goal.returns
+unfolding node_line
+returns c =
+    let a = c.args in
+    let one = c.struct_told-1.given.1.1.0.1 in
+    let two = c.struct_told-2-1.given.1.1.1.0.1 in
+    record_put node_word a.number a.n.min a.n.max a.n.item_id a.n.item_count one two c.put_record.ensures

@@ -1,0 +1,15 @@
+-- `lines::put_node_lines` meets its contract: the lines of the first i records are put.
+use Rattle.core.specs.Prelude.{ℕ, ◌-◌, ◌*◌, List}
+use mathlib.Core.Path.{ap}
+use Rattle.records.specs.Records.{node_at}
+use Rattle.listing.specs.Lines.{node_line, node_lines}
+use Rattle.listing.proofs.Lining.{Lined, no_line, line_next, line_room, all_lines}
+use Rattle.listing.proofs.Putting.{put_as}
+use native.Mathlib.Omega.{arith}
+use Rattle.listing.proofs.lines.put_node_lines.Given as goal
+
+abbrev pub invariant-loop-i : goal.invariant-loop-i
+invariant-loop-i l = Lined (λ k. node_line k (node_at l.node_bytes (16 * k))) l.initial.out l.out l.at l.end l.i l.count
+
+abbrev pub decreases-loop-i : goal.decreases-loop-i
+decreases-loop-i l = l.count - l.i

@@ -1,0 +1,13 @@
+-- `lines::put_tree_line` meets its contract: the line of a record of this kind.
+use borrow.Author.Rules.{rules}
+use Rattle.listing.specs.Lines.{tree_word, tree_line}
+use Rattle.listing.proofs.Lining.{record_put}
+use Rattle.listing.proofs.lines.put_tree_line.Goals as goal
+
+pub returns : goal.returns
+unfolding tree_line
+returns c =
+    let a = c.args in
+    let one = c.struct_told-1.given.1.1.0.1 in
+    let two = c.struct_told-2-1.given.1.1.1.0.1 in
+    record_put tree_word a.number a.t.min a.t.max a.t.node_index1 a.t.node_index2 one two c.put_record.ensures

@@ -1,0 +1,11 @@
+-- `reading::read_children` meets its contract: the first i records are read.
+use Rattle.core.specs.Prelude.{◌-◌}
+use Rattle.listing.proofs.Children.{Children, no_child, child_next, all_children}
+use native.Mathlib.Omega.{arith}
+use Rattle.listing.proofs.reading.read_children.Given as goal
+
+abbrev pub invariant-loop-i : goal.invariant-loop-i
+invariant-loop-i l = Children l.bytes l.initial.entries l.entries l.i l.n
+
+abbrev pub decreases-loop-i : goal.decreases-loop-i
+decreases-loop-i l = l.n - l.i

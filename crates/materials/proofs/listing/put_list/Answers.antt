@@ -1,0 +1,24 @@
+-- `put_list`, by the invariant `Putting`.
+use native.Mathlib.Omega.{arith}
+use Prim.Native.Nat.{◌-◌, ◌≤◌}
+use mathlib.Core.Path.{◌≡◌}
+use Rattle.materials.proofs.listing.Putting.{Putting, start, one_more}
+use Rattle.materials.proofs.listing.put_list.Goals as goal
+
+pub loop-i-init : goal.loop-i-init
+loop-i-init c = (start _ _, omega arith)
+
+pub put_le-requires : goal.put_le-requires
+put_le-requires c =
+    omega (arith, c.loop-i.invariant.0.len, c.requires.1)
+
+pub loop-i-preserved : goal.loop-i-preserved
+loop-i-preserved c =
+    let p = c.requires in
+    (one_more _ _ _ _ _ c.loop-i.invariant.0 (omega (arith, p.0)) (omega (arith, p.1)) c.put_le.ensures, omega arith)
+
+pub returns : goal.returns
+returns c =
+    let l = c.loop-i in
+    let e : l.i ≡ c.args.count = omega arith in
+    rw e at l.invariant.0.put

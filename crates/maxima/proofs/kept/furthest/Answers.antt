@@ -1,0 +1,14 @@
+-- `furthest` reads rows that are there; what it answers is free.
+use Prim.Native.Nat.{◌-◌, ◌<◌, ◌≤◌}
+use lib.ListN.{length}
+use Rattle.base.proofs.EveryLaws.{every_at}
+use native.Mathlib.Omega.{arith}
+use borrow.Author.Rules.{rules}
+use Rattle.maxima.proofs.kept.furthest.Goals as goal
+
+pub overflow_cast-kept : goal.overflow_cast-kept
+overflow_cast-kept c = omega (arith, c.shared_slice_known-in-loop-k-1.given c.loop-k.k)
+
+pub nearest-near-requires : goal.nearest-near-requires
+nearest-near-requires c =
+    (c.requires.0, every_at (λ p. p < c.args.n) c.args.kept.now c.loop-k.k c.requires.1 c.loop-k-test.true)

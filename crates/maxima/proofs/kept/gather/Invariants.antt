@@ -1,0 +1,13 @@
+-- `gather` meets its contract. The invariant is `Gathering`: what is kept of the vertices passed stands at the start.
+use Prim.Native.Nat.{◌-◌}
+use mathlib.Core.Path.{refl}
+use Rattle.maxima.proofs.Keeping.{Gathering, admissible, one_more, gathered}
+use native.Mathlib.Omega.{arith}
+use borrow.Author.Rules.{rules}
+use Rattle.maxima.proofs.kept.gather.Given as goal
+
+abbrev pub invariant-loop-i : goal.invariant-loop-i
+invariant-loop-i l = Gathering l.n l.rows l.initial.kept l.kept l.s.count l.i
+
+abbrev pub decreases-loop-i : goal.decreases-loop-i
+decreases-loop-i l = l.n - l.i

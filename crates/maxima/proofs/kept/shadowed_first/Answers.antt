@@ -1,0 +1,7 @@
+-- `shadowed_first` says what `some_shadows` does.
+use borrow.Author.Rules.{rules}
+use mathlib.Core.Path.{sym}
+use Rattle.maxima.proofs.kept.shadowed_first.Goals as goal
+
+pub returns-then-first_shadows : goal.returns-then-first_shadows
+returns-then-first_shadows c = sym (c.first_shadows.ensures c.if-first_shadows.true)

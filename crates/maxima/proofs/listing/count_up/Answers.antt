@@ -1,0 +1,17 @@
+-- `count_up` meets its contract. The invariant is `Counting`: what is passed is the numbers from 0 on.
+use Prim.Native.Nat.{◌-◌}
+use mathlib.Core.Path.{refl}
+use lib.ListN.{length}
+use Rattle.maxima.proofs.ListingLaws.{Counting, count_more_lem, counted_up}
+use native.Mathlib.Omega.{arith}
+use borrow.Author.Rules.{rules}
+use Rattle.maxima.proofs.listing.count_up.Goals as goal
+
+pub loop-i-init : goal.loop-i-init
+loop-i-init c = record { size = refl; upto = omega arith; so_far = refl }
+
+pub loop-i-preserved : goal.loop-i-preserved
+loop-i-preserved c = count_more_lem _ _ _ c.loop-i.invariant (omega (arith, c.loop-i.invariant.size, c.loop-i-test.true))
+
+pub returns : goal.returns
+returns c = counted_up _ _ _ c.loop-i.invariant (omega (arith, c.loop-i.invariant.size, c.loop-i-test.false))

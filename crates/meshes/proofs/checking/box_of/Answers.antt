@@ -1,0 +1,6 @@
+-- `box_of`: both corners, word by word.
+use borrow.Author.Rules.{rules}
+use Rattle.meshes.proofs.checking.box_of.Goals as goal
+
+pub returns : goal.returns
+returns c = cc

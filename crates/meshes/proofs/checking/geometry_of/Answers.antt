@@ -1,0 +1,6 @@
+-- `geometry_of`: the box as floats, and the rest as it is.
+use borrow.Author.Rules.{rules}
+use Rattle.meshes.proofs.checking.geometry_of.Goals as goal
+
+pub returns : goal.returns
+returns c = cc

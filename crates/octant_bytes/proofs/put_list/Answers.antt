@@ -1,0 +1,20 @@
+-- `put_list`, by the invariant `Putting`.
+use Prim.Native.Nat.{◌-◌, ◌≤◌}
+use lib.ListN.{length}
+use Rattle.octant_bytes.proofs.Laying.{Putting, start, one_more, all_put}
+use native.Mathlib.Omega.{arith}
+use Rattle.octant_bytes.proofs.put_list.Goals as goal
+
+pub loop-i-init : goal.loop-i-init
+loop-i-init c = (start _ _ _, omega arith)
+
+pub put_word-requires : goal.put_word-requires
+put_word-requires c =
+    omega (arith, c.loop-i.invariant.0.len, c.requires)
+
+pub loop-i-preserved : goal.loop-i-preserved
+loop-i-preserved c =
+    (one_more _ _ _ _ _ _ c.loop-i.invariant.0 c.loop-i-test.true c.put_word.ensures, omega arith)
+
+pub returns : goal.returns
+returns c = all_put _ _ _ _ _ c.loop-i.invariant.0 (omega arith)

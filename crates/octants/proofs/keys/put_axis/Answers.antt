@@ -1,0 +1,17 @@
+-- `put_axis` meets its contract. The invariant is `Filling`.
+use Prim.Native.Nat.{◌+◌, ◌*◌, ◌-◌}
+use lib.ListN.{get_or}
+use Rattle.float32.specs.SortOrder.{key_of}
+use Rattle.octants.proofs.PartLaws.{Filling, unfilled, fill_more, filled}
+use borrow.Author.Rules.{rules}
+use Rattle.octants.proofs.keys.put_axis.Goals as goal
+
+pub loop-p-init : goal.loop-p-init
+loop-p-init c = unfilled _ _ _ _
+
+pub loop-p-preserved : goal.loop-p-preserved
+loop-p-preserved c =
+    fill_more _ _ _ _ _ _ _ c.loop-p.invariant c.loop-p-test.true c.requires.2 c.order_key.ensures
+
+pub returns : goal.returns
+returns c = filled _ _ _ _ _ _ c.loop-p.invariant c.loop-p-test.false

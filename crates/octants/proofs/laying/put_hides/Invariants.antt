@@ -1,0 +1,15 @@
+-- `put_hides` meets its contract. The invariant is `Filling`: x and y of a row are as they were.
+use Prim.Native.Nat.{◌*◌, ◌-◌}
+use mathlib.Core.Path.{ap, ◌∙◌}
+use Rattle.shadows.specs.Ranks.{hide_of}
+use Rattle.octants.specs.Steps.Parts.{near_at}
+use Rattle.octants.proofs.PartLaws.{Filling, unfilled, fill_more, filled, near_kept}
+use native.Mathlib.Omega.{arith}
+use borrow.Author.Rules.{rules}
+use Rattle.octants.proofs.laying.put_hides.Given as goal
+
+abbrev pub invariant-loop-p : goal.invariant-loop-p
+invariant-loop-p l = Filling (λ q. hide_of (near_at l.falls l.n l.keys l.initial.rows q)) l.n (3 * l.n) l.initial.rows l.rows l.p
+
+abbrev pub decreases-loop-p : goal.decreases-loop-p
+decreases-loop-p l = l.n - l.p

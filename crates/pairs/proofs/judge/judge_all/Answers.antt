@@ -1,0 +1,14 @@
+-- `judge::judge_all` meets its contract: the first i places are compared.
+use Rattle.std.proofs.Common.{◌-◌, ◌≤◌, arith, rules}
+use Rattle.pairs.specs.Judging.{Compared}
+use Rattle.pairs.proofs.CountLaws.{compared_none, compared_at}
+use Rattle.pairs.proofs.judge.judge_all.Goals as goal
+
+pub loop-i-init : goal.loop-i-init
+loop-i-init c = (omega arith, compared_none _ _ _)
+
+pub loop-i-preserved : goal.loop-i-preserved
+loop-i-preserved c = (omega arith, c.judged-m.ensures)
+
+pub returns : goal.returns
+returns c = compared_at _ _ _ _ (omega arith) c.loop-i.invariant.1

@@ -1,0 +1,14 @@
+-- `reading::box_of` meets its contract: field by field what `short_of` ensures.
+use borrow.Author.Rules.{rules}
+use Rattle.base.proofs.ShortLaws.{same_short}
+use Rattle.polygon.specs.Polygons.{box_of}
+use Rattle.polygon.proofs.reading.box_of.Goals as goal
+
+pub returns : goal.returns
+unfolding box_of
+returns c =
+    let r1 = same_short c.short_of.result c.short_of.type-inv in
+    let r2 = same_short c.short_of-2.result c.short_of-2.type-inv in
+    let r3 = same_short c.short_of-3.result c.short_of-3.type-inv in
+    let r4 = same_short c.short_of-4.result c.short_of-4.type-inv in
+    cc

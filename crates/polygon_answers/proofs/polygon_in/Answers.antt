@@ -1,0 +1,30 @@
+-- `polygon_in` meets its contract: by the kind.
+use borrow.Author.Rules.{rules}
+use mathlib.Core.Path.{◌≡◌, sym, ◌∙◌}
+use Rattle.polygon_answers.specs.Geometry.{sphere_in, capsule_in, cylinder_in}
+use Rattle.polygon_answers.proofs.GeometryLaws.{triangle_by_kind, box_by_kind, sphere_by_kind, capsule_by_kind, cylinder_by_kind}
+use Rattle.polygon_answers.proofs.polygon_in.Goals as goal
+
+pub returns-then-kind-eq0 : goal.returns-then-kind-eq0
+returns-then-kind-eq0 c = c.triangle_in.ensures ∙ sym (triangle_by_kind c.args.c c.if-kind-eq0.true)
+
+pub returns-then-kind-eq3 : goal.returns-then-kind-eq3
+returns-then-kind-eq3 c = c.box_in.ensures ∙ sym (box_by_kind c.args.c c.if-kind-eq3.true)
+
+pub returns-then-kind-eq1 : goal.returns-then-kind-eq1
+unfolding sphere_in
+returns-then-kind-eq1 c =
+    let e = sphere_by_kind c.args.c c.if-kind-eq1.true in
+    cc
+
+pub returns-then-kind-eq2 : goal.returns-then-kind-eq2
+unfolding capsule_in
+returns-then-kind-eq2 c =
+    let e = capsule_by_kind c.args.c c.if-kind-eq2.true in
+    cc
+
+pub returns : goal.returns
+unfolding cylinder_in
+returns c =
+    let e = cylinder_by_kind c.args.c c.if-kind-eq0.false c.if-kind-eq3.false c.if-kind-eq1.false c.if-kind-eq2.false in
+    cc

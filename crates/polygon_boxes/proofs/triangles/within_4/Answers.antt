@@ -1,0 +1,15 @@
+-- `triangles::within_4`: none of the four is above the greatest.
+use borrow.Author.Rules.{rules}
+use Prim.Native.Nat.{◌+◌, ◌*◌}
+use borrow.Author.Tests.{leb-true}
+use native.Mathlib.Omega.{arith}
+use Rattle.polygon_boxes.proofs.triangles.within_4.Goals as goal
+
+pub returns : goal.returns
+returns c =
+λ e.
+    let room = leb-true (3 * c.greater-3.result + 3) c.args.words e in
+    let two = c.greater.ensures in
+    let three = c.greater-2.ensures in
+    let four = c.greater-3.ensures in
+    (omega (arith, room, two, three, four), omega (arith, room, two, three, four), omega (arith, room, three, four), omega (arith, room, four))

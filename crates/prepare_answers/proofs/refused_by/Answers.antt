@@ -1,0 +1,8 @@
+-- `refused_by` meets its contract: the number, and zeros.
+use borrow.Author.Rules.{rules}
+use lib.Ieee.{of_bits}
+use Rattle.prepare_answers.proofs.refused_by.Goals as goal
+
+pub returns : goal.returns
+unfolding of_bits
+returns c = rw (c.no_frame.ensures, c.no_octants.ensures, c.refused.ensures)

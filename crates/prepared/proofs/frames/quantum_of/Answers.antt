@@ -1,0 +1,6 @@
+-- `quantum_of`: the quantum of the box as floats.
+use borrow.Author.Rules.{rules}
+use Rattle.prepared.proofs.frames.quantum_of.Goals as goal
+
+pub returns : goal.returns
+returns c = cc

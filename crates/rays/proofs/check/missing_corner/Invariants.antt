@@ -1,0 +1,18 @@
+-- `check::missing_corner` meets its contract. The loop's invariant: none of the corners before k is missing.
+use mathlib.Core.Path.{◌≡◌, refl, sym, ap, ◌∙◌}
+use Prim.Native.Nat.{ℕ, ◌-◌, ◌*◌, ◌≤◌}
+use mathlib.Core.Bool.{true, not}
+use lib.Dec.{leb}
+use lib.ListN.{get_or}
+use native.Mathlib.Omega.{arith}
+use borrow.Author.Tests.{le-leb, lt-leb}
+use Rattle.rays.specs.Steps.Counting.{none_to}
+use Rattle.rays.proofs.CountLaws.{none_next, some_at}
+use borrow.Author.Rules.{rules}
+use Rattle.rays.proofs.check.missing_corner.Given as goal
+
+abbrev pub invariant-loop-k : goal.invariant-loop-k
+invariant-loop-k l = (l.k ≤ 3 * l.t) × (none_to l.k (λ l.k. leb l.v (get_or l.tri l.k 0)) ≡ true)
+
+abbrev pub decreases-loop-k : goal.decreases-loop-k
+decreases-loop-k l = 3 * l.t - l.k

@@ -1,0 +1,17 @@
+-- `check::none_fails` meets its contract. The loop's invariant: none of the vertices whose turn was before k fails.
+use mathlib.Core.Path.{◌≡◌, refl, sym, ap, ◌∙◌}
+use Prim.Native.Nat.{ℕ, ◌-◌, ◌≤◌}
+use mathlib.Core.Bool.{true}
+use Rattle.rays.specs.Steps.Counting.{none_to}
+use Rattle.rays.specs.Steps.Checking.{fails_in, turn_of}
+use Rattle.rays.proofs.CountLaws.{none_next, some_at}
+use Rattle.rays.proofs.TurnLaws.{all_turns}
+use native.Mathlib.Omega.{arith}
+use borrow.Author.Rules.{rules}
+use Rattle.rays.proofs.check.none_fails.Given as goal
+
+abbrev pub invariant-loop-k : goal.invariant-loop-k
+invariant-loop-k l = (l.k ≤ l.v) × (none_to l.k (λ l.k. fails_in l.tri l.t l.old l.new (turn_of l.hint l.v l.k)) ≡ true)
+
+abbrev pub decreases-loop-k : goal.decreases-loop-k
+decreases-loop-k l = l.v - l.k

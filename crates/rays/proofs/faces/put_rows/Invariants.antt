@@ -1,0 +1,23 @@
+-- `faces::put_rows` meets its contract. The loop's invariant: the rows hold the triangles before k, and are as many as at entry.
+use mathlib.Core.Path.{◌≡◌, refl, subst, sym, ap, ◌∙◌}
+use Prim.Native.Nat.{ℕ, ◌+◌, ◌*◌, ◌-◌, ◌≤◌, ◌<◌}
+use mathlib.Core.List.{List}
+use lib.ListN.{length}
+use lib.Ieee.{Float}
+use native.Mathlib.Omega.{arith}
+use Rattle.rays.specs.Rays.{facet_of}
+use Rattle.rays.specs.Steps.Rows.{Filled}
+use Rattle.rays.proofs.RowLaws.{filled_more, length_facet}
+use borrow.Author.Rules.{rules}
+use Rattle.rays.proofs.faces.put_rows.Given as goal
+
+pub record Filling (tri : List ℕ) (t : ℕ) (points : List ℕ) (before rows : List Float) (k : ℕ) : Type 0 where
+  pub upto : k ≤ t
+  pub same_length : length rows ≡ length before
+  pub filled : Filled tri t points rows k
+
+abbrev pub invariant-loop-k : goal.invariant-loop-k
+invariant-loop-k l = Filling l.tri l.t l.points l.initial.rows l.rows l.k
+
+abbrev pub decreases-loop-k : goal.decreases-loop-k
+decreases-loop-k l = l.t - l.k

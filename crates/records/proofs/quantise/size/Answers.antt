@@ -1,0 +1,8 @@
+-- `quantise::size` meets its contract: by the test.
+use Rattle.records.proofs.quantise.size.Goals as goal
+
+pub returns-then-x : goal.returns-then-x
+returns-then-x c = rw c.if-x.true
+
+pub returns-else-x : goal.returns-else-x
+returns-else-x c = rw c.if-x.false

@@ -1,0 +1,16 @@
+-- `reorder` meets its contract: the records of the first i positions are written, and the rest is as it was.
+use Prim.Native.Nat.{ℕ, ◌-◌, ◌≤◌}
+use mathlib.Core.Path.{◌≡◌, refl, sym, ap, ◌∙◌}
+use lib.ListN.{length, take}
+use lib.Seq.{get_or-take}
+use Rattle.base.specs.Lists.{over}
+use Rattle.reorder.specs.Reordering.{rebuilt_records}
+use Rattle.reorder.proofs.RecordLaws.{records_next, order_at}
+use native.Mathlib.Omega.{arith}
+use Rattle.reorder.proofs.records.reorder.Given as goal
+
+abbrev pub invariant-loop-i : goal.invariant-loop-i
+invariant-loop-i l = (l.i ≤ l.n) × (length l.out ≡ length l.initial.out) × (l.out ≡ over (rebuilt_records l.i (take l.n l.order) l.lookup l.polygons) l.initial.out)
+
+abbrev pub decreases-loop-i : goal.decreases-loop-i
+decreases-loop-i l = l.n - l.i

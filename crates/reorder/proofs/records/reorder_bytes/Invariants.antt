@@ -1,0 +1,15 @@
+-- `reorder_bytes` meets its contract: the numbers of the first i positions are written, and the rest is as it was.
+use Prim.Native.Nat.{ℕ, ◌-◌, ◌≤◌}
+use mathlib.Core.Path.{◌≡◌, refl, ap, ◌∙◌}
+use lib.ListN.{length, take, get_or, length-set}
+use Rattle.base.specs.Lists.{over}
+use Rattle.reorder.specs.Reordering.{in_order}
+use Rattle.reorder.proofs.RecordLaws.{numbers_next, order_at}
+use native.Mathlib.Omega.{arith}
+use Rattle.reorder.proofs.records.reorder_bytes.Given as goal
+
+abbrev pub invariant-loop-i : goal.invariant-loop-i
+invariant-loop-i l = (l.i ≤ l.n) × (length l.out ≡ length l.initial.out) × (l.out ≡ over (in_order (take l.i l.order) l.numbers) l.initial.out)
+
+abbrev pub decreases-loop-i : goal.decreases-loop-i
+decreases-loop-i l = l.n - l.i

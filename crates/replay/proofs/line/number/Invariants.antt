@@ -1,0 +1,11 @@
+-- `line::number` meets its contract: the bytes before i are digits and spell n. A byte that is no digit stands in no spelling.
+use Rattle.std.proofs.Common.{◌≡◌, ℕ, ◌+◌, ◌-◌, ◌*◌, ◌<◌, ◌≤◌, length, get_or, sym, ◌∙◌, subst, arith}
+use Rattle.replay.specs.Lines.{digit_of}
+use Rattle.replay.proofs.Spelling.{Spelling, none, more, fits, whole, none_at, digit_most}
+use Rattle.replay.proofs.line.number.Given as goal
+
+abbrev pub invariant-loop-i : goal.invariant-loop-i
+invariant-loop-i l = (l.i ≤ length l.text) × Spelling l.text l.i l.n
+
+abbrev pub decreases-loop-i : goal.decreases-loop-i
+decreases-loop-i l = length l.text - l.i

@@ -1,0 +1,17 @@
+-- `moving::each_second` meets its contract. The loop's invariant: the normals left, taken into the best so far, give the whole.
+use mathlib.Core.Path.{ap, ◌∙◌}
+use Prim.Native.Nat.{◌+◌, ◌-◌}
+use Rattle.math.specs.declared.vec3.Vec3.{Vec3}
+use Rattle.rings.specs.Moving.{each_third, each_second}
+use Rattle.rings.specs.Steps.Stored.{normals_from, reach_of}
+use Rattle.rings.proofs.MovingLaws.{Carried, carry}
+use Rattle.rings.proofs.Scanning.{begin, finished}
+use native.Mathlib.Omega.{arith}
+use borrow.Author.Rules.{rules}
+use Rattle.rings.proofs.moving.each_second.Given as goal
+
+abbrev pub invariant-loop-i : goal.invariant-loop-i
+invariant-loop-i l = Carried l.m (each_second l.m l.a) l.ns l.count (each_second l.m l.a l.initial.best.point (normals_from l.ns l.from (l.count - l.from))) l.best l.i
+
+abbrev pub decreases-loop-i : goal.decreases-loop-i
+decreases-loop-i l = l.count - l.i

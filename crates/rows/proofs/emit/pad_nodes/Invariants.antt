@@ -1,0 +1,14 @@
+-- `emit::pad_nodes` meets its contract. The loop's invariant: the records from `from` up to i are padding.
+use Prim.Native.Nat.{ℕ, ◌-◌, ◌*◌}
+use mathlib.Core.Path.{◌≡◌, ap, ◌∙◌}
+use lib.Seq.{sets}
+use Rattle.rows.specs.Output.{pad_bytes}
+use Rattle.rows.proofs.emit.Writing.{Padding, padding_begins, pad_next}
+use native.Mathlib.Omega.{arith}
+use Rattle.rows.proofs.emit.pad_nodes.Given as goal
+
+abbrev pub invariant-loop-i : goal.invariant-loop-i
+invariant-loop-i l = Padding l.initial.node_bytes l.node_bytes l.from l.i l.upto
+
+abbrev pub decreases-loop-i : goal.decreases-loop-i
+decreases-loop-i l = l.upto - l.i

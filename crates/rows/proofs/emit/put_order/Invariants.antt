@@ -1,0 +1,17 @@
+-- `emit::put_order` meets its contract. The loop's invariant: the first i places are written.
+use Rattle.base.proofs.NumberLaws.{below_at}
+use Rattle.base.specs.Lists.{over}
+use Prim.Native.Nat.{ℕ, ◌-◌}
+use mathlib.Core.Path.{refl, ◌∙◌, ap}
+use mathlib.Core.List.{List}
+use lib.ListN.{length, take}
+use lib.Seq.{take_all}
+use Rattle.rows.proofs.emit.Writing.{Writing, number_next}
+use native.Mathlib.Omega.{arith}
+use Rattle.rows.proofs.emit.put_order.Given as goal
+
+abbrev pub invariant-loop-i : goal.invariant-loop-i
+invariant-loop-i l = Writing l.initial.order l.order (take l.i l.places) l.i (length l.places)
+
+abbrev pub decreases-loop-i : goal.decreases-loop-i
+decreases-loop-i l = length l.places - l.i

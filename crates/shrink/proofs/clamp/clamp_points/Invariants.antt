@@ -1,0 +1,28 @@
+-- `clamp::clamp_points` meets its contract. The loop's invariant: the points before i are clamped, and those from i on are as they were.
+use mathlib.Core.Path.{◌≡◌, refl, sym, ap, ◌∙◌}
+use Prim.Native.Nat.{ℕ, ◌+◌, ◌-◌, ◌*◌, ◌≤◌, ◌<◌}
+use mathlib.Core.List.{List}
+use lib.ListN.{length, take, drop}
+use lib.Seq.{sets, take_all, drop-drop}
+use Rattle.math.specs.declared.aabb.Aabb.{Aabb}
+use Rattle.math.specs.declared.vec3.Vec3.{Vec3}
+use native.Mathlib.Omega.{arith}
+use Rattle.corners.specs.Corners.{in_turn}
+use Rattle.points.specs.Points.{vertex_at, words_of}
+use Rattle.shrink.specs.Clamping.{clamp_of, clamped_words}
+use Rattle.points.proofs.PointLaws.{points_more, points_behind, point_behind}
+use borrow.Author.Rules.{rules}
+use Rattle.shrink.proofs.clamp.clamp_points.Given as goal
+
+pub record Going (before : List ℕ) (v : ℕ) (b : Aabb) (points : List ℕ) (i : ℕ) : Type 0 where
+  pub upto : i ≤ v
+  pub same_length : length points ≡ length before
+  pub size : length points ≡ 3 * v
+  pub written : take (3 * i) points ≡ in_turn i (λ k. words_of (clamp_of b (vertex_at before k)))
+  pub behind : drop (3 * i) points ≡ drop (3 * i) before
+
+abbrev pub invariant-loop-i : goal.invariant-loop-i
+invariant-loop-i l = Going l.initial.points l.v l.b l.points l.i
+
+abbrev pub decreases-loop-i : goal.decreases-loop-i
+decreases-loop-i l = l.v - l.i

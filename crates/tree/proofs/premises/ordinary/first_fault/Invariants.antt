@@ -1,0 +1,11 @@
+-- `ordinary::first_fault` meets its contract. The loop's invariant, `Clean`: the entries before p break nothing.
+use Rattle.core.specs.Prelude.{◌-◌}
+use Rattle.tree.proofs.premises.Passing.{Clean, clean_begin, clean_next, clean_found, clean_end}
+use borrow.Author.Rules.{rules}
+use Rattle.tree.proofs.premises.ordinary.first_fault.Given as goal
+
+abbrev pub invariant-loop-p : goal.invariant-loop-p
+invariant-loop-p l = Clean l.entries l.n l.p
+
+abbrev pub decreases-loop-p : goal.decreases-loop-p
+decreases-loop-p l = l.n - l.p

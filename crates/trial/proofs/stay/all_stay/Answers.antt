@@ -1,0 +1,156 @@
+-- `stay::all_stay` meets its contract. The loop's invariant: the words of the vertices before i are written, and none of these moved.
+use mathlib.Core.Path.{◌≡◌, refl, sym, ap, ◌∙◌}
+use mathlib.Core.Bool.{true, true≢false}
+use Prim.Native.Nat.{ℕ, ◌+◌, ◌-◌, ◌*◌, ◌≤◌, ◌<◌}
+use mathlib.Core.List.{List}
+use lib.ListN.{length, take}
+use lib.Seq.{sets, take_all}
+use lib.Ieee.{Float, neg}
+use Rattle.math.specs.declared.vec3.Vec3.{Vec3}
+use Rattle.corners.specs.Corners.{in_turn}
+use Rattle.rays.specs.Steps.Checking.{moved_in}
+use Rattle.rays.specs.Steps.Counting.{none_to}
+use Rattle.rays.proofs.CountLaws.{none_next, some_at}
+use Rattle.points.specs.Points.{words_of}
+use Rattle.points.proofs.PointLaws.{points_more}
+use Rattle.rings.specs.Meshes.{Mesh, mesh_of, shrunk_at, by_margin}
+use Rattle.rings.proofs.VertexLaws.{movable_again}
+use Rattle.trial.proofs.StayLaws.{compared}
+use native.Mathlib.Omega.{arith}
+use borrow.Author.Rules.{rules}
+use Rattle.trial.proofs.stay.all_stay.Goals as goal
+
+pub loop-i-init : goal.loop-i-init
+loop-i-init c =
+    record {
+      upto = omega arith;
+      by-is = refl;
+      ring-length = refl;
+      ns-length = refl;
+      points-length = refl;
+      size = c.requires.1;
+      written = refl;
+      still = refl;
+    }
+
+pub shrunk_at-requires : goal.shrunk_at-requires
+shrunk_at-requires c =
+    let l = c.loop-i in (
+      movable_again c.requires.0 _ _
+          l.invariant.ring-length l.invariant.ns-length,
+      c.loop-i-test.true,
+    )
+
+pub put_point-requires : goal.put_point-requires
+put_point-requires c =
+    omega (
+      arith,
+      c.loop-i.invariant.size,
+      c.loop-i-test.true,
+    )
+
+pub vertex_at-requires : goal.vertex_at-requires
+vertex_at-requires c =
+    omega (
+      arith,
+      c.requires.0.vertices_in,
+      c.loop-i-test.true,
+    )
+
+pub vertex_at-requires-in-loop-i : goal.vertex_at-requires-in-loop-i
+vertex_at-requires-in-loop-i c =
+    omega (
+      arith,
+      c.loop-i.invariant.size,
+      c.loop-i-test.true,
+      c.put_point.auto.points,
+    )
+
+pub returns-then-has_moved : goal.returns-then-has_moved
+returns-then-has_moved c =
+    let a =
+    c.args in
+    let l = c.loop-i in
+    let mesh = mesh_of a.corners.now a.links.now a.n a.vertices.now a.v in
+    let more : l.i < a.v =
+    c.loop-i-test.true in
+    let point =
+    c.shrunk_at.ensures
+    ∙ ap (λ (by : Float). shrunk_at mesh by l.i) l.invariant.by-is in
+    let put =
+    c.put_point.ensures ∙ ap (λ (p : Vec3). sets l.points (3 * l.i) (words_of p)) point in
+    let written =
+    ap (take (3 * (l.i + 1))) put ∙ points_more l.points l.i (shrunk_at mesh (neg a.margin)) (omega (arith, l.invariant.size)) l.invariant.written in
+    let same =
+    compared mesh a.margin _ l.i more written _ _ c.vertex_at.ensures c.vertex_at-in-loop-i.ensures in
+    record {
+      answer =
+          sym (some_at a.v (moved_in a.vertices.now (by_margin mesh a.margin)) l.i more
+          (sym same ∙ sym c.has_moved.ensures ∙ c.if-has_moved.true));
+      points_are = λ e. absurd (true≢false (sym e));
+    }
+
+pub overflow_add-i : goal.overflow_add-i
+overflow_add-i c =
+    omega (
+      arith,
+      c.loop-i-test.true,
+      c.requires.0.few,
+    )
+
+pub loop-i-smaller : goal.loop-i-smaller
+loop-i-smaller c =
+    omega (
+      arith,
+      c.loop-i-test.true,
+    )
+
+pub loop-i-preserved : goal.loop-i-preserved
+loop-i-preserved c =
+    let a =
+    c.args in
+    let l = c.loop-i in
+    let mesh = mesh_of a.corners.now a.links.now a.n a.vertices.now a.v in
+    let more : l.i < a.v =
+    c.loop-i-test.true in
+    let point =
+    c.shrunk_at.ensures
+    ∙ ap (λ (by : Float). shrunk_at mesh by l.i) l.invariant.by-is in
+    let put =
+    c.put_point.ensures ∙ ap (λ (p : Vec3). sets l.points (3 * l.i) (words_of p)) point in
+    let written =
+    ap (take (3 * (l.i + 1))) put ∙ points_more l.points l.i (shrunk_at mesh (neg a.margin)) (omega (arith, l.invariant.size)) l.invariant.written in
+    let same =
+    compared mesh a.margin _ l.i more written _ _ c.vertex_at.ensures c.vertex_at-in-loop-i.ensures in
+    let length = c.put_point.auto.points in
+    record {
+      upto = omega arith;
+      by-is = l.invariant.by-is;
+      ring-length =
+          c.shrunk_at.auto.ring
+          ∙ l.invariant.ring-length;
+      ns-length =
+          c.shrunk_at.auto.ns
+          ∙ l.invariant.ns-length;
+      points-length = length ∙ l.invariant.points-length;
+      size = length ∙ l.invariant.size;
+      written = written;
+      still =
+          none_next l.i (moved_in a.vertices.now (by_margin mesh a.margin)) l.invariant.still
+          (sym same ∙ sym c.has_moved.ensures ∙ c.if-has_moved.false);
+    }
+
+pub returns : goal.returns
+unfolding by_margin
+returns c =
+    let a = c.args in
+    let l = c.loop-i in
+    let mesh = mesh_of a.corners.now a.links.now a.n a.vertices.now a.v in
+    let end : l.i ≡ a.v = omega (arith, l.invariant.upto) in
+    record {
+      answer = sym l.invariant.still ∙ ap (λ (k : ℕ). none_to k (moved_in a.vertices.now (by_margin mesh a.margin))) end;
+      points_are =
+          λ _.
+          sym (take_all (3 * l.i) l.points (omega (arith, l.invariant.size))) ∙ l.invariant.written
+          ∙ ap (λ (k : ℕ). in_turn k (λ i. words_of (shrunk_at mesh (neg a.margin) i))) end;
+    }

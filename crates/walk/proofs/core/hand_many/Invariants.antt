@@ -1,0 +1,14 @@
+-- `core::hand_many` meets its contract. The loop's invariant: the first i positions are stored. The measure is what is left of n.
+use Rattle.base.proofs.StoreLaws.{up_stored}
+use Rattle.base.specs.Lists.{up_from}
+use Rattle.core.specs.Prelude.{◌≡◌, ℕ, ◌+◌, ◌-◌, ◌≤◌, List, length, set}
+use mathlib.Core.Path.{refl, ap, ◌∙◌}
+use lib.Seq.{sets, length-sets}
+use native.Mathlib.Omega.{arith}
+use Rattle.walk.proofs.core.hand_many.Given as goal
+
+abbrev pub invariant-loop-i : goal.invariant-loop-i
+invariant-loop-i l = (l.i ≤ l.n) × (l.out ≡ sets l.initial.out l.from (up_from l.id l.i))
+
+abbrev pub decreases-loop-i : goal.decreases-loop-i
+decreases-loop-i l = l.n - l.i

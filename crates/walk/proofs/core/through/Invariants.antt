@@ -1,0 +1,19 @@
+-- `core::through` meets its contract. The loop's invariant: the walk from the first state leads through the present one.
+-- The measure is how many records can be left.
+use native.Mathlib.Omega.{arith}
+use Rattle.core.specs.Prelude.{◌≡◌, true}
+use mathlib.Core.Path.{sym, ◌∙◌}
+use Rattle.walk_steps.specs.Step.{lent_of}
+use Rattle.walk.specs.Walks.{left}
+use Rattle.walk_steps.specs.Steps.Lanes.{plain_of}
+use Rattle.walk.specs.Steps.Passing.{Came}
+use Rattle.walk_steps.specs.Steps.Contracts.{inside_range}
+use Rattle.walk.proofs.PassLaws.{inside_at}
+use Rattle.walk.proofs.Running as running
+use Rattle.walk.proofs.core.through.Given as goal
+
+abbrev pub invariant-loop-query : goal.invariant-loop-query
+invariant-loop-query l = Came (lent_of (plain_of l.query) l.sizes l.node_bytes l.tree_bytes) l.initial.s l.initial.out l.out l.s
+
+abbrev pub decreases-loop-query : goal.decreases-loop-query
+decreases-loop-query l = left (lent_of (plain_of l.query) l.sizes l.node_bytes l.tree_bytes) l.s
