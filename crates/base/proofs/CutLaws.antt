@@ -1,7 +1,7 @@
 -- A buffer that is cut into parts serves exactly where it is as long as all of them together. By induction on the parts. Assumes nothing.
 use Prim.Native.Nat.{ℕ, ◌+◌, ◌-◌, ◌≤◌, ◌<◌}
 use native.Mathlib.Omega.{arith}
-use mathlib.Core.Bool.{Bool, true, false, cond, ◌||◌, or_true, or_false, or_assoc}
+use mathlib.Core.Bool.{Bool, true, false, cond, ◌||◌, or-true, or-false, or_assoc}
 use mathlib.Core.List.{List, [], ◌∷◌}
 use mathlib.Core.Path.{◌≡◌, refl, sym, ap, ◌∙◌}
 use borrow.Author.Tests.{lt-ltb, le-ltb, ltb-true, ltb-false}
@@ -44,7 +44,7 @@ one_more a b w = by (ltb a w) (ltb w a) refl refl
 -- One buffer that is cut into the parts has one that is too short exactly where it is shorter than all of them together.
 pub cut_serves : (parts : List ℕ) (w : ℕ) → any_short parts (cut parts w) ≡ ltb w (total parts)
 cut_serves [] w = sym (le-ltb w 0 (omega arith))
-cut_serves (least ∷ []) w = or_false (ltb w least) ∙ ap (ltb w) (omega arith)
+cut_serves (least ∷ []) w = or-false (ltb w least) ∙ ap (ltb w) (omega arith)
 cut_serves (least ∷ next ∷ more) w =
     ap (λ (t : Bool). ltb (lesser least w) least || t) (cut_serves (next ∷ more) (w - lesser least w))
     ∙ one_more least (total (next ∷ more)) w
@@ -57,8 +57,8 @@ short_after other (least ∷ more) [] = true
 short_after other (least ∷ more) (length ∷ lengths) = short_after (other || ltb length least) more lengths
 
 pub in_a_row : (other : Bool) (parts lengths : List ℕ) → short_after other parts lengths ≡ other || any_short parts lengths
-in_a_row other [] lengths = sym (or_false other)
-in_a_row other (least ∷ more) [] = sym (or_true other)
+in_a_row other [] lengths = sym (or-false other)
+in_a_row other (least ∷ more) [] = sym (or-true other)
 in_a_row other (least ∷ more) (length ∷ lengths) =
     in_a_row (other || ltb length least) more lengths ∙ or_assoc other (ltb length least) (any_short more lengths)
 
