@@ -89,6 +89,12 @@ to_signed_ordered_lem h (numbers {x = fin false m e} {y = fin true n d} p q k) =
     zeros (m * up e / down e) (n * up d / down d) (2 ^ h - 1) (2 ^ h)
     (rw (zero-div (down d)) at (div_mono (m * up e) (down e) 0 (down d) (down_pos e) (down_pos d) (omega arith)))
     (rw (zero-div (down e)) at (div_mono (n * up d) (down d) 0 (down e) (down_pos d) (down_pos e) (omega arith)))
+to_signed_ordered_lem h {x = nan} {y = y} (numbers p q k) = elim p [ ]
+to_signed_ordered_lem h {x = inf _} {y = y} (numbers p q k) = elim p [ ]
+to_signed_ordered_lem h {x = fin false m e} {y = nan} (numbers p q k) = elim q [ ]
+to_signed_ordered_lem h {x = fin false m e} {y = inf _} (numbers p q k) = elim q [ ]
+to_signed_ordered_lem h {x = fin true m e} {y = nan} (numbers p q k) = elim q [ ]
+to_signed_ordered_lem h {x = fin true m e} {y = inf _} (numbers p q k) = elim q [ ]
 
 pub to_signed_mono_lem : (h : ℕ) (x y : Float) → T (le x y) → T (le_z (to_signed h x) (to_signed h y))
 to_signed_mono_lem h x y l = to_signed_ordered_lem h (le→ordered x y l)

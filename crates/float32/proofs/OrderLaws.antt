@@ -49,6 +49,8 @@ ordered_trans (to_highest p) (to_highest q) = to_highest p
 ordered_trans (numbers {x = x} p q h) (to_highest r) = to_highest (finite_no_nan x p)
 ordered_trans (numbers {x = x} {y = y} p q h) (numbers {y = z} r s k) =
     numbers p s (chain (over x) (under x) (den x) (over y) (under y) (den y) (over z) (under z) (den z) (den_pos y) h k)
+ordered_trans {z = z} (to_highest p) (numbers r s k) = elim r [ ]
+ordered_trans {z = z} (numbers p q h) (from_lowest _) = elim q [ ]
 
 pub le_trans : (x y z : Float) → T (le x y) → T (le y z) → T (le x z)
 le_trans x y z h k = ordered→le (ordered_trans (le→ordered x y h) (le→ordered y z k))
@@ -58,6 +60,7 @@ ordered_finite : {x y z : Float} → T (finite x) → T (finite z) → Ordered x
 ordered_finite a c (from_lowest p) k = absurd a
 ordered_finite a c (to_highest p) (to_highest q) = absurd c
 ordered_finite a c (numbers p q h) k = q
+ordered_finite {z = z} a c (to_highest p) (numbers x13 _ _) = elim x13 [ ]
 
 pub finite_between : (x y z : Float) → T (finite x) → T (finite z) → T (le x y) → T (le y z) → T (finite y)
 finite_between x y z a c h k = ordered_finite a c (le→ordered x y h) (le→ordered y z k)

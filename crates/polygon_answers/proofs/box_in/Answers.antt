@@ -7,8 +7,8 @@ use Rattle.polygon_answers.proofs.box_in.Goals as goal
 pub returns : goal.returns
 unfolding box_in
 returns c =
-    let r1 = same_short c.short_of.result c.short_of.type-inv in
-    let r2 = same_short c.short_of-2.result c.short_of-2.type-inv in
-    let r3 = same_short c.short_of-3.result c.short_of-3.type-inv in
-    let r4 = same_short c.short_of-4.result c.short_of-4.type-inv in
+    let r1 = same_short c.short_of.result c.short_of.type_inv in
+    let r2 = same_short c.short_of-2.result c.short_of-2.type_inv in
+    let r3 = same_short c.short_of-3.result c.short_of-3.type_inv in
+    let r4 = same_short c.short_of-4.result c.short_of-4.type_inv in
     cc

@@ -13,6 +13,6 @@ returns c =
     λ i. record {
       min = min.ensures i;
       max = max.ensures i;
-      item_id = (same_short first.result first.type-inv ∙ first.ensures) i;
-      item_count = (same_short second.result second.type-inv ∙ second.ensures) i;
+      item_id = (same_short first.result first.type_inv ∙ first.ensures) i;
+      item_count = (same_short second.result second.type_inv ∙ second.ensures) i;
     }

@@ -10,7 +10,7 @@ returns c =
     let y = c.short_at-y in
     let z = c.short_at-z in
     λ i. record {
-      0 = (same_short x.result x.type-inv ∙ x.ensures) i;
-      1 = (same_short y.result y.type-inv ∙ y.ensures) i;
-      2 = (same_short z.result z.type-inv ∙ z.ensures) i;
+      0 = (same_short x.result x.type_inv ∙ x.ensures) i;
+      1 = (same_short y.result y.type_inv ∙ y.ensures) i;
+      2 = (same_short z.result z.type_inv ∙ z.ensures) i;
     }

@@ -14,7 +14,7 @@ returns c =
     let x = c.vertex_value-x in
     let y = c.vertex_value-y in
     let z = c.vertex_value-z in
-    let ex = same_short x.result x.type-inv ∙ x.ensures ∙ ap (λ (v : Vec3). vertex_of v.x) d in
-    let ey = same_short y.result y.type-inv ∙ y.ensures ∙ ap (λ (v : Vec3). vertex_of v.y) d in
-    let ez = same_short z.result z.type-inv ∙ z.ensures ∙ ap (λ (v : Vec3). vertex_of v.z) d in
+    let ex = same_short x.result x.type_inv ∙ x.ensures ∙ ap (λ (v : Vec3). vertex_of v.x) d in
+    let ey = same_short y.result y.type_inv ∙ y.ensures ∙ ap (λ (v : Vec3). vertex_of v.y) d in
+    let ez = same_short z.result z.type_inv ∙ z.ensures ∙ ap (λ (v : Vec3). vertex_of v.z) d in
     λ i. record { 0 = ex i; 1 = ey i; 2 = ez i }

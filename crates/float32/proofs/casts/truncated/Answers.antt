@@ -35,7 +35,7 @@ returns-else-word-lt2147483648 c =
     let size-lt : c.lesser-size.result < 32768 = omega (arith, c.lesser-size.ensures) in
     let word = c.number_word-word in
     let size = c.cut_size in
-    to_z-of_z (sub-result c)
+    to_z-of_z (overflow_sub-result c)
     ∙ minus_is w16 c.lesser-size.result size-lt
     ∙ ap (λ (n : ℕ). neg_ℤ (pos n)) c.lesser-size.ensures
     ∙ truncated_below c.args.x held word.result size.result word.ensures size.ensures c.if-word-lt2147483648.false

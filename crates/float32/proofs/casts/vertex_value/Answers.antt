@@ -7,4 +7,4 @@ use Rattle.float32.proofs.casts.vertex_value.Goals as goal
 
 pub returns : goal.returns
 unfolding vertex_of
-returns c = same_short c.truncated.result c.truncated.type-inv ∙ c.truncated.ensures
+returns c = same_short c.truncated.result c.truncated.type_inv ∙ c.truncated.ensures

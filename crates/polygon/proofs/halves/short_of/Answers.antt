@@ -15,4 +15,4 @@ returns c =
     let bound = c.ranges.half.fits in
     let small : half < 2 ^ 31 = omega arith in
     let same : half % 65536 ≡ half = omega arith in
-    same_short c.wrap_i16.result c.wrap_i16.type-inv ∙ c.wrap_i16.ensures ∙ ap low16 (to_z_pos w32 small) ∙ ap signed16 same
+    same_short c.wrap_i16.result c.wrap_i16.type_inv ∙ c.wrap_i16.ensures ∙ ap low16 (to_z_pos w32 small) ∙ ap signed16 same

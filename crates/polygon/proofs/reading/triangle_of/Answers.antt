@@ -7,7 +7,7 @@ use Rattle.polygon.proofs.reading.triangle_of.Goals as goal
 pub returns : goal.returns
 unfolding triangle_of
 returns c =
-    let r1 = same_short c.short_of.result c.short_of.type-inv in
-    let r2 = same_short c.short_of-2.result c.short_of-2.type-inv in
-    let r3 = same_short c.short_of-3.result c.short_of-3.type-inv in
+    let r1 = same_short c.short_of.result c.short_of.type_inv in
+    let r2 = same_short c.short_of-2.result c.short_of-2.type_inv in
+    let r3 = same_short c.short_of-3.result c.short_of-3.type_inv in
     cc

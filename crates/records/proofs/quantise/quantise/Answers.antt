@@ -13,5 +13,5 @@ returns c =
     let y = c.to_short-y in
     let z = c.to_short-z in
     let d = c.scaled-d in
-    same_vertex short_of d.result x.result y.result z.result x.type-inv y.type-inv z.type-inv x.ensures y.ensures z.ensures
+    same_vertex short_of d.result x.result y.result z.result x.type_inv y.type_inv z.type_inv x.ensures y.ensures z.ensures
     ∙ ap (cast_by short_of) d.ensures

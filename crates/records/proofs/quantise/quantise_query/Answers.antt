@@ -16,5 +16,5 @@ returns c =
     let z = c.truncated-z in
     let a = c.args in
     let scaled = c.vmul-d.ensures ∙ ap (λ (v : Vec3). vmul_of v a.inverse) c.sub.ensures in
-    same_vertex truncated_of c.vmul-d.result x.result y.result z.result x.type-inv y.type-inv z.type-inv x.ensures y.ensures z.ensures
+    same_vertex truncated_of c.vmul-d.result x.result y.result z.result x.type_inv y.type_inv z.type_inv x.ensures y.ensures z.ensures
     ∙ ap (cast_by truncated_of) scaled

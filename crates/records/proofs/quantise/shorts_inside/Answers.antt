@@ -9,4 +9,4 @@ returns c =
     let x = c.short_inside-x in
     let y = c.short_inside-y in
     let z = c.short_inside-z in
-    same_vertex short_of c.args.d x.result y.result z.result x.type-inv y.type-inv z.type-inv x.ensures y.ensures z.ensures
+    same_vertex short_of c.args.d x.result y.result z.result x.type_inv y.type_inv z.type_inv x.ensures y.ensures z.ensures

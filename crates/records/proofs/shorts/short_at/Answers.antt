@@ -18,4 +18,4 @@ returns c =
     let n = c.two_at in
     let small : n.result < 2 ^ 31 = omega (arith, n.ensures.1) in
     let same : n.result % 65536 ≡ le_at 2 a.bytes.now a.at = omega (arith, n.ensures.0, n.ensures.1) in
-    same_short c.wrap_i16.result c.wrap_i16.type-inv ∙ c.wrap_i16.ensures ∙ ap low16 (to_z_pos w32 small) ∙ ap signed16 same
+    same_short c.wrap_i16.result c.wrap_i16.type_inv ∙ c.wrap_i16.ensures ∙ ap low16 (to_z_pos w32 small) ∙ ap signed16 same

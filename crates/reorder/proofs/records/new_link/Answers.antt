@@ -10,6 +10,6 @@ pub returns : goal.returns
 unfolding new_link
 returns c =
     let old = c.half_of.ensures ∙ ap low16bits (same_short c.args.e c.ranges.e.sfits) in
-    same_short c.short_of.result c.short_of.type-inv
+    same_short c.short_of.result c.short_of.type_inv
     ∙ c.short_of.ensures
     ∙ ap signed16 (c.renumbered.ensures ∙ ap (renumbered c.args.lookup.now) old)

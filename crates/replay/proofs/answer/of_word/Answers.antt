@@ -58,19 +58,19 @@ returns-in-ValueBits c = rw c.enum_told-1.given.1 (c.bits.ensures ∙ ap word c.
 
 pub returns-in-ToI32 : goal.returns-in-ToI32
 returns-in-ToI32 c =
-    let f : SFits w32 c.to_i32.result = record { sfits = c.to_i32.type-inv } in
+    let f : SFits w32 c.to_i32.result = record { sfits = c.to_i32.type_inv } in
     let cast_is = to_z-of_z f ∙ c.to_i32.ensures ∙ ap cast_i32 c.value-x.ensures in
     rw c.enum_told-in-ToI32-1.given.1 (c.signed.ensures ∙ ap signed_word cast_is)
 
 pub returns-in-ToShort : goal.returns-in-ToShort
 returns-in-ToShort c =
-    let f : SFits w16 c.to_short.result = record { sfits = c.to_short.type-inv } in
+    let f : SFits w16 c.to_short.result = record { sfits = c.to_short.type_inv } in
     let cast_is = to_z-of_z f ∙ c.to_short.ensures ∙ ap short_of c.value-x.ensures in
     rw c.enum_told-in-ToShort-1.given.1 (c.signed_short.ensures ∙ ap signed_word cast_is)
 
 pub returns-in-VertexValue : goal.returns-in-VertexValue
 returns-in-VertexValue c =
-    let f : SFits w16 c.vertex_value.result = record { sfits = c.vertex_value.type-inv } in
+    let f : SFits w16 c.vertex_value.result = record { sfits = c.vertex_value.type_inv } in
     let cast_is = to_z-of_z f ∙ c.vertex_value.ensures ∙ ap vertex_of c.value-x.ensures in
     rw c.enum_told-in-VertexValue-1.given.1 (c.signed_short-in-VertexValue.ensures ∙ ap signed_word cast_is)
 

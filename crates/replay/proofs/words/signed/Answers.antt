@@ -7,42 +7,36 @@ use Rattle.replay.proofs.SignedWords.{pos_word, neg_word, flip_small}
 use Rattle.replay.proofs.words.signed.Goals as goal
 
 pub overflow_cast-result : goal.overflow_cast-result
-unfolding seen
 overflow_cast-result c =
     let seen : ℤ = to_z w32 (of_z w32 c.args.n) in
     let seen-fits : SFits w32 seen = sfits_to_z (Fits-of_z c.ranges.n) in
     cast_pos seen seen-fits c.if-n-ge0.true
 
 pub overflow_sub-result : goal.overflow_sub-result
-unfolding seen
 overflow_sub-result c =
     let seen : ℤ = to_z w32 (of_z w32 c.args.n) in
     let seen-fits : SFits w32 seen = sfits_to_z (Fits-of_z c.ranges.n) in
     flip_fits seen seen-fits c.if-n-ge0.false
 
 pub overflow_cast-result-else-n-ge0 : goal.overflow_cast-result-else-n-ge0
-unfolding seen
 overflow_cast-result-else-n-ge0 c =
     let seen : ℤ = to_z w32 (of_z w32 c.args.n) in
     let seen-fits : SFits w32 seen = sfits_to_z (Fits-of_z c.ranges.n) in
     flip_cast seen seen-fits c.if-n-ge0.false
 
 pub overflow_sub-result-else-n-ge0 : goal.overflow_sub-result-else-n-ge0
-unfolding seen
 overflow_sub-result-else-n-ge0 c =
     let seen : ℤ = to_z w32 (of_z w32 c.args.n) in
     let seen-fits : SFits w32 seen = sfits_to_z (Fits-of_z c.ranges.n) in
     flip_small seen seen-fits c.if-n-ge0.false
 
 pub returns-then-n-ge0 : goal.returns-then-n-ge0
-unfolding seen
 returns-then-n-ge0 c =
     let seen : ℤ = to_z w32 (of_z w32 c.args.n) in
     let seen-is : seen ≡ c.args.n = to_z-of_z c.ranges.n in
     pos_word seen c.if-n-ge0.true ∙ ap signed_word seen-is
 
 pub returns-else-n-ge0 : goal.returns-else-n-ge0
-unfolding seen
 returns-else-n-ge0 c =
     let seen : ℤ = to_z w32 (of_z w32 c.args.n) in
     let seen-fits : SFits w32 seen = sfits_to_z (Fits-of_z c.ranges.n) in

@@ -12,6 +12,6 @@ returns c =
     let word = c.two_and_two-word.ensures in
     let first = c.short in
     let second = c.short-2 in (
-      same_short first.result first.type-inv ∙ first.ensures ∙ ap signed16 word.0,
-      same_short second.result second.type-inv ∙ second.ensures ∙ ap signed16 word.1,
+      same_short first.result first.type_inv ∙ first.ensures ∙ ap signed16 word.0,
+      same_short second.result second.type_inv ∙ second.ensures ∙ ap signed16 word.1,
     )

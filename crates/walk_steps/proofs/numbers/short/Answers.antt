@@ -15,4 +15,4 @@ returns c =
     let p = c.requires in
     let small : a.bits < 2 ^ 31 = omega (arith, p) in
     let same : a.bits % 65536 ≡ a.bits = omega (arith, p) in
-    same_short c.wrap_i16.result c.wrap_i16.type-inv ∙ c.wrap_i16.ensures ∙ ap low16 (to_z_pos w32 small) ∙ ap signed16 same
+    same_short c.wrap_i16.result c.wrap_i16.type_inv ∙ c.wrap_i16.ensures ∙ ap low16 (to_z_pos w32 small) ∙ ap signed16 same
