@@ -40,7 +40,7 @@ returns-then-x c =
     let read : to_z w16 (of_z w16 (to_signed 15 c.whole-n.result)) ≡ pos cut_of.part =     ap (λ (z : ℤ). to_z w16 (of_z w16 z)) (cast_value c.whole-n.result cut_of.part value_of small) ∙ to_z-of_z {w = w16} (record { sfits = small }) in
     let minus : pos 0 -ℤ to_z w16 (of_z w16 (to_signed 15 c.whole-n.result)) ≡ neg_ℤ (pos cut_of.part) = ap (λ (z : ℤ). pos 0 -ℤ z) (read ∙ sym (to_z_pos w16 small)) ∙ minus_is w16 cut_of.part small in
     let n = cut_of.part in
-    to_z-of_z (sub-result c) ∙ minus
+    to_z-of_z (overflow_sub-result c) ∙ minus
     ∙ sym (short_of_is_cast_i32_lem c.args.x c.requires.0 c.requires.1 ∙ cut_of.cast ∙ ap (λ (b : Bool). cond b (neg_ℤ (pos n)) (pos n)) c.if-x.true)
 
 pub returns-else-x : goal.returns-else-x

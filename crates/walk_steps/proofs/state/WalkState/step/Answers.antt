@@ -18,7 +18,7 @@ at_tree-requires c =
 
 pub returns-then-self : goal.returns-then-self
 returns-then-self c =
-    let lent : Lent = lent_of c.args.query c.args.sizes c.args.node_bytes_lem.now c.args.tree_bytes_lem.now in
+    let lent : Lent = lent_of c.args.query c.args.sizes c.args.node_bytes.now c.args.tree_bytes.now in
     let l = lent in
     let s = c.args.self in
     let same = ap (λ (q : Query). at_node q l.sizes.items (node_at l.nodes (16 * s.at)) s) c.lanes_of-lanes.ensures.0 in
@@ -26,7 +26,7 @@ returns-then-self c =
 
 pub returns-else-self : goal.returns-else-self
 returns-else-self c =
-    let lent : Lent = lent_of c.args.query c.args.sizes c.args.node_bytes_lem.now c.args.tree_bytes_lem.now in
+    let lent : Lent = lent_of c.args.query c.args.sizes c.args.node_bytes.now c.args.tree_bytes.now in
     let l = lent in
     let s = c.args.self in
     let same = ap (λ (q : Query). at_tree q l.sizes.nodes (tree_at l.trees (16 * s.tree)) s) c.lanes_of-lanes.ensures.0 in
