@@ -8,7 +8,7 @@ use Rattle.rows.proofs.ranges.put_trees.Goals as goal
 pub loop-i-init : goal.loop-i-init
 loop-i-init c =
     let a = c.args in
-    start a.limit a.scale a.m a.rows.now a.tree_bytes_lem.now c.requires
+    start a.limit a.scale a.m a.rows.now a.tree_bytes.now c.requires
 
 pub tree_size-size-requires : goal.tree_size-size-requires
 tree_size-size-requires c = omega (arith, table_room _ _ _ _ c.requires)
@@ -19,7 +19,7 @@ loop-i-preserved-then-limit-size c =
 
 pub overflow_mul-k : goal.overflow_mul-k
 overflow_mul-k c =
-    let before_it : let l = c.loop-i in Turn (entry c).args.rows.now l.tree_bytes_lem l.i l.k c.tree_size-size.result = 
+    let before_it : let l = c.loop-i in Turn (entry c).args.rows.now l.tree_bytes l.i l.k c.tree_size-size.result = 
         let size = c.tree_size-size.ensures in
         turn _ _ _ _ _ _ _ _ _ c.requires c.loop-i.inv c.loop-i-test.taken size c.if-limit-size.false in
     let b = before_it in
@@ -27,7 +27,7 @@ overflow_mul-k c =
 
 pub overflow_add-i-else-limit-size : goal.overflow_add-i-else-limit-size
 overflow_add-i-else-limit-size c =
-    let before_it : let l = c.loop-i in Turn (entry c).args.rows.now l.tree_bytes_lem l.i l.k c.tree_size-size.result = 
+    let before_it : let l = c.loop-i in Turn (entry c).args.rows.now l.tree_bytes l.i l.k c.tree_size-size.result = 
         let size = c.tree_size-size.ensures in
         turn _ _ _ _ _ _ _ _ _ c.requires c.loop-i.inv c.loop-i-test.taken size c.if-limit-size.false in
     let b = before_it in
@@ -35,7 +35,7 @@ overflow_add-i-else-limit-size c =
 
 pub put_range-requires : goal.put_range-requires
 put_range-requires c =
-    let before_it : let l = c.loop-i in Turn (entry c).args.rows.now l.tree_bytes_lem l.i l.k c.tree_size-size.result = 
+    let before_it : let l = c.loop-i in Turn (entry c).args.rows.now l.tree_bytes l.i l.k c.tree_size-size.result = 
         let size = c.tree_size-size.ensures in
         turn _ _ _ _ _ _ _ _ _ c.requires c.loop-i.inv c.loop-i-test.taken size c.if-limit-size.false in
     let b = before_it in
@@ -43,28 +43,28 @@ put_range-requires c =
 
 pub overflow_add-k : goal.overflow_add-k
 overflow_add-k c =
-    let before_it : let l = c.loop-i in Turn (entry c).args.rows.now l.tree_bytes_lem l.i l.k c.tree_size-size.result = 
+    let before_it : let l = c.loop-i in Turn (entry c).args.rows.now l.tree_bytes l.i l.k c.tree_size-size.result = 
         let size = c.tree_size-size.ensures in
         turn _ _ _ _ _ _ _ _ _ c.requires c.loop-i.inv c.loop-i-test.taken size c.if-limit-size.false in
-    let after-it : let l = c.loop-i in Turn c.args.rows.now l.tree_bytes_lem l.i l.k c.tree_size-size.result = before_it in
+    let after-it : let l = c.loop-i in Turn c.args.rows.now l.tree_bytes l.i l.k c.tree_size-size.result = before_it in
     let b = after-it in
     omega arith
 
 pub overflow_add-i-else-limit-size-2 : goal.overflow_add-i-else-limit-size-2
 overflow_add-i-else-limit-size-2 c =
-    let before_it : let l = c.loop-i in Turn (entry c).args.rows.now l.tree_bytes_lem l.i l.k c.tree_size-size.result = 
+    let before_it : let l = c.loop-i in Turn (entry c).args.rows.now l.tree_bytes l.i l.k c.tree_size-size.result = 
         let size = c.tree_size-size.ensures in
         turn _ _ _ _ _ _ _ _ _ c.requires c.loop-i.inv c.loop-i-test.taken size c.if-limit-size.false in
-    let after-it : let l = c.loop-i in Turn c.args.rows.now l.tree_bytes_lem l.i l.k c.tree_size-size.result = before_it in
+    let after-it : let l = c.loop-i in Turn c.args.rows.now l.tree_bytes l.i l.k c.tree_size-size.result = before_it in
     let b = after-it in
     omega arith
 
 pub loop-i-smaller : goal.loop-i-smaller
 loop-i-smaller c =
-    let before_it : let l = c.loop-i in Turn (entry c).args.rows.now l.tree_bytes_lem l.i l.k c.tree_size-size.result = 
+    let before_it : let l = c.loop-i in Turn (entry c).args.rows.now l.tree_bytes l.i l.k c.tree_size-size.result = 
         let size = c.tree_size-size.ensures in
         turn _ _ _ _ _ _ _ _ _ c.requires c.loop-i.inv c.loop-i-test.taken size c.if-limit-size.false in
-    let after-it : let l = c.loop-i in Turn c.args.rows.now l.tree_bytes_lem l.i l.k c.tree_size-size.result = before_it in
+    let after-it : let l = c.loop-i in Turn c.args.rows.now l.tree_bytes l.i l.k c.tree_size-size.result = before_it in
     let b = after-it in
     omega arith
 

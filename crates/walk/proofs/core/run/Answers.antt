@@ -14,7 +14,7 @@ use Rattle.walk.proofs.core.run.Goals as goal
 pub read_trees-s-requires : goal.read_trees-s-requires
 read_trees-s-requires c =
     let a = c.args in
-    let l = lent_of (plain_of c.lanes_of-lanes.result) a.sizes a.node_bytes_lem.now a.tree_bytes_lem.now in
+    let l = lent_of (plain_of c.lanes_of-lanes.result) a.sizes a.node_bytes.now a.tree_bytes.now in
     let ready = running.begun l a.out.now c.requires.0 c.requires.1 in
     let b = subst (λ (u : WalkState). Ready l a.out.now u × (inside_range u ≡ false)) (sym c.start-start.ensures) (ready, refl) in
     (b.0, ((b.1, omega (arith, c.lesser-few.ensures)), c.lanes_of-lanes.ensures.1))

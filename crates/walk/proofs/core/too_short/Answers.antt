@@ -9,18 +9,18 @@ use Rattle.walk.proofs.core.too_short.Goals as goal
 pub returns-then-node_bytes-sizes : goal.returns-then-node_bytes-sizes
 returns-then-node_bytes-sizes c =
     let a = c.args in
-    let e = lt-ltb a.node_bytes_lem (16 * a.sizes.nodes) c.if-node_bytes-sizes.true in
+    let e = lt-ltb a.node_bytes (16 * a.sizes.nodes) c.if-node_bytes-sizes.true in
     e ∙ sym (or_yes _ e)
 
 pub returns-then-tree_bytes-sizes : goal.returns-then-tree_bytes-sizes
 returns-then-tree_bytes-sizes c =
     let a = c.args in
-    let e = lt-ltb a.tree_bytes_lem (16 * a.sizes.trees) c.if-tree_bytes-sizes.true in
-    e ∙ sym (or_no _ (le-ltb a.node_bytes_lem (16 * a.sizes.nodes) c.if-node_bytes-sizes.false) ∙ or_yes _ e)
+    let e = lt-ltb a.tree_bytes (16 * a.sizes.trees) c.if-tree_bytes-sizes.true in
+    e ∙ sym (or_no _ (le-ltb a.node_bytes (16 * a.sizes.nodes) c.if-node_bytes-sizes.false) ∙ or_yes _ e)
 
 pub returns-else-tree_bytes-sizes : goal.returns-else-tree_bytes-sizes
 returns-else-tree_bytes-sizes c =
     let a = c.args in
-    let nodes = le-ltb a.node_bytes_lem (16 * a.sizes.nodes) c.if-node_bytes-sizes.false in
-    let trees = le-ltb a.tree_bytes_lem (16 * a.sizes.trees) c.if-tree_bytes-sizes.false in
+    let nodes = le-ltb a.node_bytes (16 * a.sizes.nodes) c.if-node_bytes-sizes.false in
+    let trees = le-ltb a.tree_bytes (16 * a.sizes.trees) c.if-tree_bytes-sizes.false in
     sym (or_no _ nodes ∙ or_no _ trees)
