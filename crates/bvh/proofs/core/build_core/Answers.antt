@@ -94,6 +94,6 @@ returns c =
     let some : 1 ≤ c.args.threshold = c.if-threshold-lt1.false in
     let most : c.args.threshold ≤ 32767 = c.if-threshold-gt32767.false in
     let long : short c.args.n (lengths_of before work) ≡ false = sym c.too_short.ensures ∙ c.if-too_short.false in
-    let g = grown c in
+    let g = c in
     built _ _ _ _ _ _ few some most long (omega (arith, c.if-planted-gt32767.false, g.plant.ensures.grown.size_is)) _ _
     c.write_tree.ensures
