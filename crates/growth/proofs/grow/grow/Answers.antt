@@ -223,9 +223,9 @@ loop-lo-preserved-then-k-threshold c =
     let l = c.loop-lo in
     let p = c.put_leaf in
     let small = c.if-k-threshold.true in (
-      leaf_turn _ law _ _ before room here _ _ _ l.inv.0 (omega arith) small width
+      leaf_turn _ law _ _ before room here _ _ _ l.invariant.0 (omega arith) small width
           p.new.rows (omega arith) p.ensures p.auto.rows,
-      l.inv.1,
+      l.invariant.1,
       none_begun _ _ _ c.no_longer-begun.ensures,
     )
 
@@ -274,7 +274,7 @@ put_inner-inner-requires c =
       segment-within,
       c.requires.2,
       c.requires.3,
-      turn_begun _ _ s.stack s.sp s.places s.lo s.inv.2,
+      turn_begun _ _ s.stack s.sp s.places s.lo s.invariant.2,
     )
 
 pub overflow_sub-k : goal.overflow_sub-k
@@ -384,10 +384,10 @@ loop-lo-preserved c =
     let t = turn in
     let large = c.if-k-threshold.false in
     let pushed = c.push_two in (
-      inner_turn _ law _ _ before room here _ _ _ l.inv.0 (omega arith) large width
+      inner_turn _ law _ _ before room here _ _ _ l.invariant.0 (omega arith) large width
           p.result.first p.last.0 p.last.1.0 pushed.new.stack p.last.1.1.1.0 (omega arith) p.ensures.0 p.kept.0
           p.kept.1.0 p.kept.1.1.1.0 pushed.ensures,
-      l.inv.1,
+      l.invariant.1,
       inner_begun _ p.result.begun l.places p.last.0 l.stack pushed.new.stack l.lo width l.sp p.result.first
           (top-length - p.result.first) (omega (arith, t.in_places)) (omega (arith, p.ensures.0.rest, p.kept.0)) (t.more large)
           t.in_stack pushed.ensures p.ensures.1,

@@ -62,8 +62,8 @@ loop-i-preserved-then-row_count-eq0 c =
     let l = c.loop-i in
     let inner = sym c.row_count.ensures ∙ c.if-row_count-eq0.true in (
       rw c.set_head.ensures
-          (inner_turn _ _ _ _ _ many l.inv.0 (l.i - 1) (omega (arith, c.loop-i-test.true)) (row_at l.rows 0) _ _ both inner),
-      c.set_head.auto.rows ∙ l.inv.1,
+          (inner_turn _ _ _ _ _ many l.invariant.0 (l.i - 1) (omega (arith, c.loop-i-test.true)) (row_at l.rows 0) _ _ both inner),
+      c.set_head.auto.rows ∙ l.invariant.1,
     )
 
 pub loop-i-preserved : goal.loop-i-preserved
