@@ -1,5 +1,4 @@
 -- `first_shadows` says so only where one of the list shadows.
-use borrow.Author.Rules.{rules}
 use mathlib.Core.Path.{sym, ◌∙◌}
 use Prim.Native.Nat.{◌<◌}
 use Rattle.base.proofs.EveryLaws.{every_at}

@@ -1,9 +1,7 @@
 -- `furthest` reads rows that are there; what it answers is free.
-use Prim.Native.Nat.{◌-◌, ◌<◌, ◌≤◌}
-use lib.ListN.{length}
+use Prim.Native.Nat.{◌<◌}
 use Rattle.base.proofs.EveryLaws.{every_at}
 use native.Mathlib.Omega.{arith}
-use borrow.Author.Rules.{rules}
 use Rattle.maxima.proofs.kept.furthest.Goals as goal
 
 pub overflow_cast-kept : goal.overflow_cast-kept
