@@ -9,9 +9,6 @@ use Rattle.maxima.proofs.kept.first_shadows.Goals as goal
 pub returns-then-kept-first : goal.returns-then-kept-first
 returns-then-kept-first c = λ e. cc
 
-pub overflow_cast-kept : goal.overflow_cast-kept
-overflow_cast-kept c = omega (arith, c.shared_slice_known-3-1.given c.args.first)
-
 pub shadowed-requires : goal.shadowed-requires
 shadowed-requires c =
     let a = c.args in

@@ -10,9 +10,6 @@ use Rattle.maxima.proofs.kept.retain.Goals as goal
 pub loop-k-init : goal.loop-k-init
 loop-k-init c = unthinned _ _
 
-pub overflow_cast-p : goal.overflow_cast-p
-overflow_cast-p c = omega (arith, c.slice_known-in-loop-k-1.given c.loop-k.k)
-
 pub shadowed-requires : goal.shadowed-requires
 shadowed-requires c =
     let l = c.loop-k in (

@@ -9,9 +9,6 @@ use Rattle.maxima.proofs.kept.some_shadows.Goals as goal
 pub loop-k-init : goal.loop-k-init
 loop-k-init c = record { upto = omega arith; rest = refl }
 
-pub overflow_cast-kept : goal.overflow_cast-kept
-overflow_cast-kept c = omega (arith, c.shared_slice_known-in-loop-k-1.given c.loop-k.k)
-
 pub shadowed-requires : goal.shadowed-requires
 shadowed-requires c = (
   c.requires.size,
