@@ -29,6 +29,7 @@ note_side-requires c = (
   c.loop-s.invariant.room,
   omega
       (arith, c.requires.1, c.loop-s-test.true),
+)
 
 pub overflow_add-s : goal.overflow_add-s
 overflow_add-s c =
