@@ -4,10 +4,11 @@
 use std::env;
 use std::fs::File;
 use std::os::fd::AsRawFd;
+use std::rt::Files;
 
 const STDOUT: i32 = 1;
 
-fn run_case(rt: &HostRuntime, name: &str) {
+fn run_case(rt: &(impl Files<File = File> + Eprint), name: &str) {
     io::write_all(STDOUT, b"case ");
     io::write_all(STDOUT, name.as_bytes());
     io::write_all(STDOUT, b"\n");
