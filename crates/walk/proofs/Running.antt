@@ -1,5 +1,5 @@
 -- The loops of a walk: the walk from one state leads through another, as a reading and the rest, over trees passed, or by two ways put together.
-use Rattle.core.specs.Prelude.{◌≡◌, ℕ, ◌+◌, ◌-◌, ◌*◌, ◌<◌, ◌≤◌, true, false, List, [], ◌++◌, length}
+use Rattle.std.specs.Prelude.{◌≡◌, ℕ, ◌+◌, ◌-◌, ◌*◌, ◌<◌, ◌≤◌, true, false, List, [], ◌++◌, length}
 use mathlib.Core.Path.{refl, sym, ap, subst, ◌∙◌}
 use mathlib.Core.List.{append_assoc, append-nil}
 use native.Mathlib.Omega.{arith}
@@ -10,7 +10,7 @@ use Rattle.base.proofs.StoreLaws.{sets_append}
 use Rattle.base.proofs.NumberLaws.{length_up}
 use Rattle.base.specs.Lists.{up_from}
 use Rattle.records.specs.Records.{node_at, tree_at}
-use Rattle.walk_steps.specs.Step.{Lent, lent_of, Turn, quiet, started, more, at_tree, at_node, step_of}
+use Rattle.walk_steps.specs.Step.{Lent, lent_of, Turn, started, more, at_tree, at_node, step_of}
 use Rattle.walk.specs.Walks.{joined, left, walk_from}
 use Rattle.walk_steps.specs.Steps.Contracts.{Steppable, Stepped, Ran, ahead_at, inside_range}
 use Rattle.walk.specs.Steps.Passing.{PassedUpTo, Ready, Came}
