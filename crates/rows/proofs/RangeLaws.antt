@@ -3,7 +3,7 @@
 use Prim.Native.Nat.{ℕ, zero, suc, ◌+◌, ◌-◌, ◌≤◌, ◌<◌}
 use native.Mathlib.Omega.{arith}
 use native.Mathlib.Nat.{add-zero, zero-add, suc-add}
-use mathlib.Core.Bool.{Bool, true, false, cond, and_false}
+use mathlib.Core.Bool.{Bool, true, false, cond, and-false}
 use mathlib.Core.List.Memᴰ
 use mathlib.Core.List.{List, [], ◌∷◌, ◌++◌, map, append_assoc, append-nil, map-append}
 use mathlib.Core.List.{Memᴰ}
@@ -43,7 +43,7 @@ not_before : (k : ℕ) (x : Range) → k < x.first → holds k x ≡ false
 not_before k x h = rw (lt-leb x.first k h)
 
 not_after : (k : ℕ) (x : Range) → x.last ≤ k → holds k x ≡ false
-not_after k x h = rw (le-ltb k x.last h) (and_false (leb x.first k))
+not_after k x h = rw (le-ltb k x.last h) (and-false (leb x.first k))
 
 between : (k : ℕ) (x : Range) → x.first ≤ k → k < x.last → holds k x ≡ true
 between k x h h' = rw (le-leb x.first k h, lt-ltb k x.last h')

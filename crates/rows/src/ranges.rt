@@ -1,7 +1,7 @@
 // The ranges that a tree's nodes are cut into, found by one scan of its rows.
 ghost use Rattle.std.specs.Prelude.{◌≡◌, ◌+◌, ◌*◌, ◌≤◌, ◌<◌, length};
 ghost use Rattle.std.proofs.lemmas.List.Edits.{sets};
-ghost use Rattle.records.specs.Records.{tree_bytes};
+ghost use Rattle.records.specs.Records.{tree_bytes as bytes_of_tree};
 ghost use Rattle.rows.specs.Steps.Flat.{tree_size, Flat, Scannable, TreesPut};
 ghost use Rattle.rows.specs.Output.{tree_record};
 ghost use Rattle.rows.specs.Tree.{Node};
@@ -25,7 +25,7 @@ fn put_range(
 )
     requires { (at + 16 ≤ length tree_bytes.old) × (8 * first + 8 ≤ length rows.now) × (first < 32768) × (last < 32768) }
     ensures { tree_bytes.new ≡ sets tree_bytes.old at
-        (tree_bytes (tree_record scale (record { box = (row_at rows.now first).box; first = first; last = last }))) }
+        (bytes_of_tree (tree_record scale (record { box = (row_at rows.now first).box; first = first; last = last }))) }
 {
     let b = row_box(rows, first);
     let t = BvhTree {

@@ -62,7 +62,7 @@ module _ (key : ℕ → ℕ) (ss : List ℕ) (i : ℕ) (h : i < length ss) where
 
   pub one_without : (k : ℕ) → (key (get_or ss i 0) ≡ k → ⊥) → with_key key k (take (suc i) ss) ≡ with_key key k (take i ss)
   one_without k e = one_more k ∙ ap (λ (l : List ℕ). with_key key k (take i ss) ++ l) (sift_past (λ s. eqb (key s) k) (get_or ss i 0) [] (ne_eqb _ _ e))
-      ∙ simp mathlib.Core.List.append_nil
+      ∙ simp mathlib.Core.List.append-nil
 
   -- there is one more to come
   pub one_to_come : length (with_key key (key (get_or ss i 0)) (take i ss)) < length (with_key key (key (get_or ss i 0)) ss)

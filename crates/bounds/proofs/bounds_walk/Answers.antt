@@ -10,5 +10,5 @@ pub returns : goal.returns
 returns c =
     let a = c.args in
     walk_answered_over
-    (λ (s : Sizes). walk_of a.query a.cen a.inverse s a.node_bytes_lem.now a.tree_bytes_lem.now (length a.out.now))
+    (λ (s : Sizes). walk_of a.query a.cen a.inverse s a.node_bytes.now a.tree_bytes.now (length a.out.now))
     _ _ _ _ _ _ c.sizes-sizes.ensures c.walk_bvh.ensures c.walk_answer.ensures

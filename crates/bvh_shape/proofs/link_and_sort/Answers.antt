@@ -11,7 +11,7 @@ use Rattle.bvh_shape.proofs.link_and_sort.Goals as goal
 
 pub reorder_bytes-requires : goal.reorder_bytes-requires
 reorder_bytes-requires c =
-    let t = told c in
+    let t = c in
     let s = c.requires t.enum_told.given.0.0 t.enum_told.given.1 in
     (s.work.few, s.long, s.for_sorted, s.places_below)
 

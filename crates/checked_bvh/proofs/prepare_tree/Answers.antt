@@ -14,7 +14,7 @@ shape_bvh-built-requires c =
     let before : Lists = 
         let a = c.args in
         lists a.list.now a.indices.now a.polygons-out.now a.stored.now a.floats.now in
-    let trees : Outputs = let a = c.args in outputs a.node_bytes_lem.now a.tree_bytes_lem.now a.order.now in
+    let trees : Outputs = let a = c.args in outputs a.node_bytes.now a.tree_bytes.now a.order.now in
     let work : BvhWork = 
         let a = c.args in
         bvh_work a.entries.now a.places.now a.temp.now a.stack.now a.rows.now a.points.now a.sorted.now a.centres.now in
@@ -28,7 +28,7 @@ finish_tree-requires c =
     let before : Lists = 
         let a = c.args in
         lists a.list.now a.indices.now a.polygons-out.now a.stored.now a.floats.now in
-    let trees : Outputs = let a = c.args in outputs a.node_bytes_lem.now a.tree_bytes_lem.now a.order.now in
+    let trees : Outputs = let a = c.args in outputs a.node_bytes.now a.tree_bytes.now a.order.now in
     let work : BvhWork = 
         let a = c.args in
         bvh_work a.entries.now a.places.now a.temp.now a.stack.now a.rows.now a.points.now a.sorted.now a.centres.now in
@@ -42,7 +42,7 @@ returns c =
     let before : Lists = 
         let a = c.args in
         lists a.list.now a.indices.now a.polygons-out.now a.stored.now a.floats.now in
-    let trees : Outputs = let a = c.args in outputs a.node_bytes_lem.now a.tree_bytes_lem.now a.order.now in
+    let trees : Outputs = let a = c.args in outputs a.node_bytes.now a.tree_bytes.now a.order.now in
     let work : BvhWork = 
         let a = c.args in
         bvh_work a.entries.now a.places.now a.temp.now a.stack.now a.rows.now a.points.now a.sorted.now a.centres.now in

@@ -19,7 +19,7 @@ returns-in-Fails c =
     let before : Lists = 
         let a = c.args in
         lists a.list.now a.indices.now a.polygons-out.now a.stored.now a.floats.now in
-    let trees : Outputs = let a = c.args in outputs a.node_bytes_lem.now a.tree_bytes_lem.now a.order.now in
+    let trees : Outputs = let a = c.args in outputs a.node_bytes.now a.tree_bytes.now a.order.now in
     let work : BvhWork = 
         let a = c.args in
         bvh_work a.entries.now a.places.now a.temp.now a.stack.now a.rows.now a.points.now a.sorted.now a.centres.now in
@@ -34,7 +34,7 @@ finish_empty-requires c =
     let before : Lists = 
         let a = c.args in
         lists a.list.now a.indices.now a.polygons-out.now a.stored.now a.floats.now in
-    let trees : Outputs = let a = c.args in outputs a.node_bytes_lem.now a.tree_bytes_lem.now a.order.now in
+    let trees : Outputs = let a = c.args in outputs a.node_bytes.now a.tree_bytes.now a.order.now in
     let work : BvhWork = 
         let a = c.args in
         bvh_work a.entries.now a.places.now a.temp.now a.stack.now a.rows.now a.points.now a.sorted.now a.centres.now in
@@ -50,7 +50,7 @@ returns-then-counts-eq0 c =
     let before : Lists = 
         let a = c.args in
         lists a.list.now a.indices.now a.polygons-out.now a.stored.now a.floats.now in
-    let trees : Outputs = let a = c.args in outputs a.node_bytes_lem.now a.tree_bytes_lem.now a.order.now in
+    let trees : Outputs = let a = c.args in outputs a.node_bytes.now a.tree_bytes.now a.order.now in
     let work : BvhWork = 
         let a = c.args in
         bvh_work a.entries.now a.places.now a.temp.now a.stack.now a.rows.now a.points.now a.sorted.now a.centres.now in
@@ -68,7 +68,7 @@ prepare_tree-requires c =
     let before : Lists = 
         let a = c.args in
         lists a.list.now a.indices.now a.polygons-out.now a.stored.now a.floats.now in
-    let trees : Outputs = let a = c.args in outputs a.node_bytes_lem.now a.tree_bytes_lem.now a.order.now in
+    let trees : Outputs = let a = c.args in outputs a.node_bytes.now a.tree_bytes.now a.order.now in
     let work : BvhWork = 
         let a = c.args in
         bvh_work a.entries.now a.places.now a.temp.now a.stack.now a.rows.now a.points.now a.sorted.now a.centres.now in

@@ -31,4 +31,4 @@ pub returns : goal.returns
 returns c =
     let a = c.args in
     shaped a.counts.polygons a.counts.vertices a.polygons.now _ _ _ _ c.link_mesh.ensures a.bound a.quantum a.vertices.now
-    c.if-v-eq0.left _ _ _ c.shrink_and_store.ensures
+    c.if-v-eq0.false _ _ _ c.shrink_and_store.ensures

@@ -5,8 +5,7 @@ use Rattle.mesh_input.proofs.row_at.Goals as goal
 
 pub returns : goal.returns
 unfolding row_at
-returns c =
-λ i. record {
+returns c = λ i. record {
   x = c.float_at.ensures i;
   y = c.float_at-2.ensures i;
   z = c.float_at-3.ensures i;

@@ -5,8 +5,7 @@ use Rattle.mesh_input.proofs.transform_of.Goals as goal
 
 pub returns : goal.returns
 unfolding transform_of
-returns c =
-λ i. record {
+returns c = λ i. record {
   row0 = c.row_at.ensures i;
   row1 = c.row_at-2.ensures i;
   row2 = c.row_at-3.ensures i;

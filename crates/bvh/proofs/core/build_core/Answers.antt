@@ -28,7 +28,7 @@ pub slice_bounds-listed-end : goal.slice_bounds-listed-end
 slice_bounds-listed-end c =
     let before : Outputs = 
         let a = c.args in
-        record { nodes = a.node_bytes_lem.now; trees = a.tree_bytes_lem.now; order = a.order.now } in
+        record { nodes = a.node_bytes.now; trees = a.tree_bytes.now; order = a.order.now } in
     let work : Lent = 
         let a = c.args in
         lent a.entries.now a.places.now a.temp.now a.stack.now a.rows.now a.centres.now in
@@ -40,7 +40,7 @@ pub plant-planted-requires : goal.plant-planted-requires
 plant-planted-requires c =
     let before : Outputs = 
         let a = c.args in
-        record { nodes = a.node_bytes_lem.now; trees = a.tree_bytes_lem.now; order = a.order.now } in
+        record { nodes = a.node_bytes.now; trees = a.tree_bytes.now; order = a.order.now } in
     let work : Lent = 
         let a = c.args in
         lent a.entries.now a.places.now a.temp.now a.stack.now a.rows.now a.centres.now in
@@ -55,7 +55,7 @@ pub returns-then-planted-gt32767 : goal.returns-then-planted-gt32767
 returns-then-planted-gt32767 c =
     let before : Outputs = 
         let a = c.args in
-        record { nodes = a.node_bytes_lem.now; trees = a.tree_bytes_lem.now; order = a.order.now } in
+        record { nodes = a.node_bytes.now; trees = a.tree_bytes.now; order = a.order.now } in
     let work : Lent = 
         let a = c.args in
         lent a.entries.now a.places.now a.temp.now a.stack.now a.rows.now a.centres.now in
@@ -69,7 +69,7 @@ pub write_tree-requires : goal.write_tree-requires
 write_tree-requires c =
     let before : Outputs = 
         let a = c.args in
-        record { nodes = a.node_bytes_lem.now; trees = a.tree_bytes_lem.now; order = a.order.now } in
+        record { nodes = a.node_bytes.now; trees = a.tree_bytes.now; order = a.order.now } in
     let work : Lent = 
         let a = c.args in
         lent a.entries.now a.places.now a.temp.now a.stack.now a.rows.now a.centres.now in
@@ -86,7 +86,7 @@ pub returns : goal.returns
 returns c =
     let before : Outputs = 
         let a = c.args in
-        record { nodes = a.node_bytes_lem.now; trees = a.tree_bytes_lem.now; order = a.order.now } in
+        record { nodes = a.node_bytes.now; trees = a.tree_bytes.now; order = a.order.now } in
     let work : Lent = 
         let a = c.args in
         lent a.entries.now a.places.now a.temp.now a.stack.now a.rows.now a.centres.now in
@@ -94,6 +94,6 @@ returns c =
     let some : 1 ≤ c.args.threshold = c.if-threshold-lt1.false in
     let most : c.args.threshold ≤ 32767 = c.if-threshold-gt32767.false in
     let long : short c.args.n (lengths_of before work) ≡ false = sym c.too_short.ensures ∙ c.if-too_short.false in
-    let g = grown c in
+    let g = c in
     built _ _ _ _ _ _ few some most long (omega (arith, c.if-planted-gt32767.false, g.plant.ensures.grown.size_is)) _ _
     c.write_tree.ensures

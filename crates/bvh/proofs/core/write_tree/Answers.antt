@@ -15,14 +15,14 @@ write_nodes-capacity-requires c =
 
 pub put_trees-parts-requires : goal.put_trees-parts-requires
 put_trees-parts-requires c =
-    let w = (start c).requires in
+    let w = c.requires in
     scannable _ _ _ _ _ _ _ w _ (omega (arith, w.limit))
 
 pub slice_bounds-write_order-end : goal.slice_bounds-write_order-end
-slice_bounds-write_order-end c = sym (leaves_long _ _ _ _ _ _ _ (start (scaled c)).requires)
+slice_bounds-write_order-end c = sym (leaves_long _ _ _ _ _ _ _ c.requires)
 
 pub write_order-requires : goal.write_order-requires
-write_order-requires c = order_fits _ _ _ _ _ _ _ (start (scaled c)).requires
+write_order-requires c = order_fits _ _ _ _ _ _ _ c.requires
 
 pub returns : goal.returns
 returns c =

@@ -9,8 +9,7 @@ pub put_sums-requires : goal.put_sums-requires
 put_sums-requires c = c.requires
 
 pub put_pushed-requires : goal.put_pushed-requires
-put_pushed-requires c =
-(
+put_pushed-requires c = (
   c.requires.vertices_in,
   c.put_sums.auto.points ∙ c.requires.size,
 

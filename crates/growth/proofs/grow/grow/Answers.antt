@@ -173,7 +173,7 @@ overflow_add-sp c =
     let depth : length c.loop-lo.stack ≡ length c.args.stack.now = c.loop-lo.invariant.0.same.stack_same ∙ simp length-set in
     let t = turn in
     let d = depth in
-    omega (arith, (entry c).good.1.1.1.0)
+    omega (arith, c.good.1.1.1.0)
 
 pub overflow_add-m : goal.overflow_add-m
 overflow_add-m c =
@@ -189,7 +189,7 @@ overflow_add-m c =
     let room : Room c.args.threshold before.places before.temp c.args.entries.now before.stack before.rows = room_set _ _ c.requires.1 in
     let turn : Top c.args.threshold before here c.loop-lo.sp c.loop-lo.lo c.loop-lo.m top-length = top _ law _ _ before room here _ _ _ c.loop-lo.invariant.0 (omega arith) in
     let t = turn in
-    omega (arith, (entry c).requires.1.few)
+    omega (arith, c.requires.1.few)
 
 pub loop-lo-smaller-then-k-threshold : goal.loop-lo-smaller-then-k-threshold
 loop-lo-smaller-then-k-threshold c =
@@ -223,9 +223,9 @@ loop-lo-preserved-then-k-threshold c =
     let l = c.loop-lo in
     let p = c.put_leaf in
     let small = c.if-k-threshold.true in (
-      leaf_turn _ law _ _ before room here _ _ _ l.inv.0 (omega arith) small width
+      leaf_turn _ law _ _ before room here _ _ _ l.invariant.0 (omega arith) small width
           p.new.rows (omega arith) p.ensures p.auto.rows,
-      l.inv.1,
+      l.invariant.1,
       none_begun _ _ _ c.no_longer-begun.ensures,
     )
 
@@ -274,7 +274,7 @@ put_inner-inner-requires c =
       segment-within,
       c.requires.2,
       c.requires.3,
-      turn_begun _ _ s.stack s.sp s.places s.lo s.inv.2,
+      turn_begun _ _ s.stack s.sp s.places s.lo s.invariant.2,
     )
 
 pub overflow_sub-k : goal.overflow_sub-k
@@ -315,7 +315,7 @@ push_two-requires c =
     let t = turn in
     let l = segment-long in
     let e = c.put_inner-inner.ensures.0 in
-    (t.more c.if-k-threshold.left, t.in_stack, omega (arith, t.few, e.rest), omega (arith, t.few, e.rest))
+    (t.more c.if-k-threshold.false, t.in_stack, omega (arith, t.few, e.rest), omega (arith, t.few, e.rest))
 
 pub overflow_sub-sp-else-k-threshold : goal.overflow_sub-sp-else-k-threshold
 overflow_sub-sp-else-k-threshold c =
@@ -330,7 +330,7 @@ overflow_sub-sp-else-k-threshold c =
     let law : Lawful (builder (box_at c.args.entries.now)) = lawful (box_at c.args.entries.now) in
     let room : Room c.args.threshold before.places before.temp c.args.entries.now before.stack before.rows = room_set _ _ c.requires.1 in
     let turn : Top c.args.threshold before here c.loop-lo.sp c.loop-lo.lo c.loop-lo.m top-length = top _ law _ _ before room here _ _ _ c.loop-lo.invariant.0 (omega arith) in
-    turn.more c.if-k-threshold.left
+    turn.more c.if-k-threshold.false
 
 pub overflow_add-m-else-k-threshold : goal.overflow_add-m-else-k-threshold
 overflow_add-m-else-k-threshold c =
@@ -345,7 +345,7 @@ overflow_add-m-else-k-threshold c =
     let law : Lawful (builder (box_at c.args.entries.now)) = lawful (box_at c.args.entries.now) in
     let room : Room c.args.threshold before.places before.temp c.args.entries.now before.stack before.rows = room_set _ _ c.requires.1 in
     let turn : Top c.args.threshold before here c.loop-lo.sp c.loop-lo.lo c.loop-lo.m top-length = top _ law _ _ before room here _ _ _ c.loop-lo.invariant.0 (omega arith) in
-    let i = inner-call c in
+    let i = c in
     let t = turn i in
     omega (arith, c.requires.1.few)
 
@@ -362,7 +362,7 @@ loop-lo-smaller c =
     let law : Lawful (builder (box_at c.args.entries.now)) = lawful (box_at c.args.entries.now) in
     let room : Room c.args.threshold before.places before.temp c.args.entries.now before.stack before.rows = room_set _ _ c.requires.1 in
     let turn : Top c.args.threshold before here c.loop-lo.sp c.loop-lo.lo c.loop-lo.m top-length = top _ law _ _ before room here _ _ _ c.loop-lo.invariant.0 (omega arith) in
-    let t = turn (inner-call c) in
+    let t = turn c in
     omega arith
 
 pub loop-lo-preserved : goal.loop-lo-preserved
@@ -382,12 +382,12 @@ loop-lo-preserved c =
     let p = c.put_inner-inner in
     let l = c.loop-lo in
     let t = turn in
-    let large = c.if-k-threshold.left in
+    let large = c.if-k-threshold.false in
     let pushed = c.push_two in (
-      inner_turn _ law _ _ before room here _ _ _ l.inv.0 (omega arith) large width
+      inner_turn _ law _ _ before room here _ _ _ l.invariant.0 (omega arith) large width
           p.result.first p.last.0 p.last.1.0 pushed.new.stack p.last.1.1.1.0 (omega arith) p.ensures.0 p.kept.0
           p.kept.1.0 p.kept.1.1.1.0 pushed.ensures,
-      l.inv.1,
+      l.invariant.1,
       inner_begun _ p.result.begun l.places p.last.0 l.stack pushed.new.stack l.lo width l.sp p.result.first
           (top-length - p.result.first) (omega (arith, t.in_places)) (omega (arith, p.ensures.0.rest, p.kept.0)) (t.more large)
           t.in_stack pushed.ensures p.ensures.1,

@@ -15,21 +15,21 @@ line_of bytes i = node_line i (node_at bytes (16 * i))
 pub loop-i-init : goal.loop-i-init
 loop-i-init c =
     let a = c.args in
-    no_line (line_of a.node_bytes_lem.now) a.out.now a.at a.count
+    no_line (line_of a.node_bytes.now) a.out.now a.at a.count
 
 pub put_node_line-end-requires : goal.put_node_line-end-requires
 put_node_line-end-requires c =
-    let records = c.args.node_bytes_lem.now in
+    let records = c.args.node_bytes.now in
     (line_room (line_of records) c.loop-i.invariant (omega arith) (omega arith), omega arith)
 
 pub loop-i-preserved : goal.loop-i-preserved
 loop-i-preserved c =
     let a = c.args in
     let l = c.loop-i in
-    let line = line_of a.node_bytes_lem.now in
+    let line = line_of a.node_bytes.now in
     let e = c.read_node.ensures in
     line_next line l.invariant (omega arith) (put_as (ap (node_line l.i) e) (omega arith) c.put_node_line-end.ensures)
 
 pub returns : goal.returns
 unfolding node_lines
-returns c = all_lines (line_of c.args.node_bytes_lem.now) c.loop-i.invariant (omega arith)
+returns c = all_lines (line_of c.args.node_bytes.now) c.loop-i.invariant (omega arith)

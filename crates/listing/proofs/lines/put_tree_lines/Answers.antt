@@ -15,21 +15,21 @@ line_of bytes i = tree_line i (tree_at bytes (16 * i))
 pub loop-i-init : goal.loop-i-init
 loop-i-init c =
     let a = c.args in
-    no_line (line_of a.tree_bytes_lem.now) a.out.now a.at a.count
+    no_line (line_of a.tree_bytes.now) a.out.now a.at a.count
 
 pub put_tree_line-end-requires : goal.put_tree_line-end-requires
 put_tree_line-end-requires c =
-    let records = c.args.tree_bytes_lem.now in
+    let records = c.args.tree_bytes.now in
     (line_room (line_of records) c.loop-i.invariant (omega arith) (omega arith), omega arith)
 
 pub loop-i-preserved : goal.loop-i-preserved
 loop-i-preserved c =
     let a = c.args in
     let l = c.loop-i in
-    let line = line_of a.tree_bytes_lem.now in
+    let line = line_of a.tree_bytes.now in
     let e = c.tree_at.ensures in
     line_next line l.invariant (omega arith) (put_as (ap (tree_line l.i) e) (omega arith) c.put_tree_line-end.ensures)
 
 pub returns : goal.returns
 unfolding tree_lines
-returns c = all_lines (line_of c.args.tree_bytes_lem.now) c.loop-i.invariant (omega arith)
+returns c = all_lines (line_of c.args.tree_bytes.now) c.loop-i.invariant (omega arith)

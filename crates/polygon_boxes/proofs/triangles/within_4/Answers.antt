@@ -6,8 +6,7 @@ use native.Mathlib.Omega.{arith}
 use Rattle.polygon_boxes.proofs.triangles.within_4.Goals as goal
 
 pub returns : goal.returns
-returns c =
-λ e.
+returns c = λ e.
     let room = leb-true (3 * c.greater-3.result + 3) c.args.words e in
     let two = c.greater.ensures in
     let three = c.greater-2.ensures in

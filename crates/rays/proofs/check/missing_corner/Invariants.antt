@@ -12,7 +12,7 @@ use borrow.Author.Rules.{rules}
 use Rattle.rays.proofs.check.missing_corner.Given as goal
 
 abbrev pub invariant-loop-k : goal.invariant-loop-k
-invariant-loop-k l = (l.k ≤ 3 * l.t) × (none_to l.k (λ l.k. leb l.v (get_or l.tri l.k 0)) ≡ true)
+invariant-loop-k l = (l.k ≤ 3 * l.t) × (none_to l.k (λ k. leb l.v (get_or l.tri k 0)) ≡ true)
 
 abbrev pub decreases-loop-k : goal.decreases-loop-k
 decreases-loop-k l = 3 * l.t - l.k

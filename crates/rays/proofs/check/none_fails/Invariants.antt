@@ -11,7 +11,7 @@ use borrow.Author.Rules.{rules}
 use Rattle.rays.proofs.check.none_fails.Given as goal
 
 abbrev pub invariant-loop-k : goal.invariant-loop-k
-invariant-loop-k l = (l.k ≤ l.v) × (none_to l.k (λ l.k. fails_in l.tri l.t l.old l.new (turn_of l.hint l.v l.k)) ≡ true)
+invariant-loop-k l = (l.k ≤ l.v) × (none_to l.k (λ k. fails_in l.tri l.t l.old l.new (turn_of l.hint l.v k)) ≡ true)
 
 abbrev pub decreases-loop-k : goal.decreases-loop-k
 decreases-loop-k l = l.v - l.k

@@ -18,7 +18,7 @@ of-requires c =
 
 pub returns : goal.returns
 returns c =
-    let n = c.args.taken in
+    let n = c.args.true in
     let ws = c.args.words.now in
     let op = c.args.op in
     let words : Words ws = λ i. (c.shared_slice_known-1.given i).fits in

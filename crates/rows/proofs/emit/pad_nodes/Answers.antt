@@ -23,4 +23,4 @@ returns c =
     let a = c.args in
     let l = c.loop-i in
     let end : l.i ≡ a.upto = omega arith in
-    l.invariant.held ∙ ap (λ (k : ℕ). sets a.node_bytes_lem.now (16 * a.from) (pad_bytes (k - a.from))) end
+    l.invariant.held ∙ ap (λ (k : ℕ). sets a.node_bytes.now (16 * a.from) (pad_bytes (k - a.from))) end

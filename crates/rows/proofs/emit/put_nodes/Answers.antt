@@ -23,7 +23,7 @@ overflow_mul-i c = omega (arith, c.requires)
 pub row_node-requires : goal.row_node-requires
 row_node-requires c =
     let a = c.args in
-    let small = small_at a.threshold a.leaf-order.now a.m a.rows.now c.loop-i.i c.requires.small (omega arith) in
+    let small = small_at a.threshold a.leaf_order.now a.m a.rows.now c.loop-i.i c.requires.small (omega arith) in
     (omega (arith, c.requires), small)
 
 pub put_node-requires : goal.put_node-requires
@@ -35,7 +35,7 @@ loop-i-preserved c =
     let l = c.loop-i in
     let row = c.row_node in
     let put = c.put_node in
-    row_next a.scale a.threshold a.leaf-order.now a.m a.rows.now a.node_bytes_lem.now l.node_bytes_lem put.new.out row.result
+    row_next a.scale a.threshold a.leaf_order.now a.m a.rows.now a.node_bytes.now l.node_bytes put.new.out row.result
     l.i l.invariant (omega arith) row.ensures c.requires.nodes_room put.ensures
 
 pub returns : goal.returns
@@ -44,4 +44,4 @@ returns c =
     let l = c.loop-i in
     let rs = rows_in a.m a.rows.now in
     let all = take_all l.i rs (omega (arith, length_rows_in a.m a.rows.now)) in
-    l.invariant.held ∙ ap (λ (qs : List Row). over (nodes_bytes a.scale a.threshold a.leaf-order.now qs) a.node_bytes_lem.now) all
+    l.invariant.held ∙ ap (λ (qs : List Row). over (nodes_bytes a.scale a.threshold a.leaf_order.now qs) a.node_bytes.now) all

@@ -15,19 +15,19 @@ use Rattle.rows.proofs.emit.row_node.Goals as goal
 
 pub item_id-id-requires : goal.item_id-id-requires
 item_id-id-requires c =
-    let leaves = length c.args.leaf-order.now in
+    let leaves = length c.args.leaf_order.now in
     let count = c.row_count-items.ensures in
     λ some. subst (λ (h : ℕ). h < leaves) (sym c.row_head.ensures) (c.requires.1.inside (subst (λ (n : ℕ). 0 < n) count some))
 
 pub overflow_cast-result : goal.overflow_cast-result
 overflow_cast-result c =
     let row : Row = row_at c.args.rows.now c.args.i in
-    let id_is : c.item_id-id.result ≡ id_of c.args.threshold c.args.leaf-order.now row = 
+    let id_is : c.item_id-id.result ≡ id_of c.args.threshold c.args.leaf_order.now row = 
         let a = c.args in
         let head = c.row_head.ensures in
         let count = c.row_count-items.ensures in
         c.item_id-id.ensures row.box
-        ∙ (λ j. id_of a.threshold a.leaf-order.now (record { box = row.box; head = head j; count = count j })) in
+        ∙ (λ j. id_of a.threshold a.leaf_order.now (record { box = row.box; head = head j; count = count j })) in
     let small : c.item_id-id.result < 32768 = subst (λ (n : ℕ). n < 32768) (sym id_is) c.requires.1.id in
     search rules
 
@@ -35,12 +35,12 @@ pub returns : goal.returns
 unfolding node_of
 returns c =
     let row : Row = row_at c.args.rows.now c.args.i in
-    let id_is : c.item_id-id.result ≡ id_of c.args.threshold c.args.leaf-order.now row = 
+    let id_is : c.item_id-id.result ≡ id_of c.args.threshold c.args.leaf_order.now row = 
         let a = c.args in
         let head = c.row_head.ensures in
         let count = c.row_count-items.ensures in
         c.item_id-id.ensures row.box
-        ∙ (λ j. id_of a.threshold a.leaf-order.now (record { box = row.box; head = head j; count = count j })) in
+        ∙ (λ j. id_of a.threshold a.leaf_order.now (record { box = row.box; head = head j; count = count j })) in
     let s = c.args.scale in
     let small = c.requires.1 in
     let corners = c.row_box-b.ensures in

@@ -26,7 +26,7 @@ made s b d min max first last hf hl eb emin emax = rw (emin, emax, to_z_pos w16 
 pub returns : goal.returns
 returns c =
     let a = c.args in
-    let bytes = a.tree_bytes_lem.now in
+    let bytes = a.tree_bytes.now in
     c.put_tree.ensures
     ∙ ap (λ (t : BvhTree). sets bytes a.at (tree_bytes t))
     (made a.scale _ _ _ _ a.first a.last c.requires.2 c.requires.3 c.row_box-b.ensures c.quantise.ensures

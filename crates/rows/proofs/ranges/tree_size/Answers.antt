@@ -6,13 +6,13 @@ use Rattle.rows.proofs.ranges.tree_size.Goals as goal
 
 pub returns-then-head-gt1 : goal.returns-then-head-gt1
 returns-then-head-gt1 c =
-    let none = eq-eqb _ 0 c.if-row_count-eq0.taken in
-    rw (← c.row_count.ensures, none) (omega (arith, c.if-head-gt1.taken, c.row_head-head.ensures))
+    let none = eq-eqb _ 0 c.if-row_count-eq0.true in
+    rw (← c.row_count.ensures, none) (omega (arith, c.if-head-gt1.true, c.row_head-head.ensures))
 
 pub returns-else-head-gt1 : goal.returns-else-head-gt1
 returns-else-head-gt1 c =
-    let none = eq-eqb _ 0 c.if-row_count-eq0.taken in
-    rw (← c.row_count.ensures, none) (omega (arith, c.if-head-gt1.left, c.row_head-head.ensures))
+    let none = eq-eqb _ 0 c.if-row_count-eq0.true in
+    rw (← c.row_count.ensures, none) (omega (arith, c.if-head-gt1.false, c.row_head-head.ensures))
 
 pub returns-else-row_count-eq0 : goal.returns-else-row_count-eq0
-returns-else-row_count-eq0 c = rw (← c.row_count.ensures, ne_eqb _ 0 c.if-row_count-eq0.left)
+returns-else-row_count-eq0 c = rw (← c.row_count.ensures, ne_eqb _ 0 c.if-row_count-eq0.false)

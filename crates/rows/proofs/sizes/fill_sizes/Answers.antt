@@ -35,14 +35,14 @@ node_size-r-requires c =
 pub overflow_add-l : goal.overflow_add-l
 overflow_add-l c =
     let many : length (rows_in c.args.m c.args.rows.now) ≡ c.args.m = length_rows_in c.args.m c.args.rows.now in
-    let both : Read (rows_in c.args.m c.args.rows.now) c.loop-i.i c.node_size-l.result c.node_size-r.result =     read _ _ _ _ _ many c.loop-i.inv.0 _ _ c.node_size-l.ensures c.node_size-r.ensures in
+    let both : Read (rows_in c.args.m c.args.rows.now) c.loop-i.i c.node_size-l.result c.node_size-r.result =     read _ _ _ _ _ many c.loop-i.invariant.0 _ _ c.node_size-l.ensures c.node_size-r.ensures in
     let r = both in
     omega (arith, many, c.requires)
 
 pub overflow_add-l-then-row_count-eq0 : goal.overflow_add-l-then-row_count-eq0
 overflow_add-l-then-row_count-eq0 c =
     let many : length (rows_in c.args.m c.args.rows.now) ≡ c.args.m = length_rows_in c.args.m c.args.rows.now in
-    let both : Read (rows_in c.args.m c.args.rows.now) c.loop-i.i c.node_size-l.result c.node_size-r.result =     read _ _ _ _ _ many c.loop-i.inv.0 _ _ c.node_size-l.ensures c.node_size-r.ensures in
+    let both : Read (rows_in c.args.m c.args.rows.now) c.loop-i.i c.node_size-l.result c.node_size-r.result =     read _ _ _ _ _ many c.loop-i.invariant.0 _ _ c.node_size-l.ensures c.node_size-r.ensures in
     let r = both in
     omega (arith, many, c.requires)
 
@@ -50,20 +50,20 @@ pub set_head-requires : goal.set_head-requires
 set_head-requires c =
     let many : length (rows_in c.args.m c.args.rows.now) ≡ c.args.m = length_rows_in c.args.m c.args.rows.now in
     let fits : c.loop-i.i - 1 < c.args.m = omega (arith, many, c.loop-i.invariant.0.within, c.loop-i-test.true) in
-    let both : Read (rows_in c.args.m c.args.rows.now) c.loop-i.i c.node_size-l.result c.node_size-r.result =     read _ _ _ _ _ many c.loop-i.inv.0 _ _ c.node_size-l.ensures c.node_size-r.ensures in
+    let both : Read (rows_in c.args.m c.args.rows.now) c.loop-i.i c.node_size-l.result c.node_size-r.result =     read _ _ _ _ _ many c.loop-i.invariant.0 _ _ c.node_size-l.ensures c.node_size-r.ensures in
     let r = both in
     let f = fits in
-    (omega (arith, c.loop-i.inv.1, c.requires), omega (arith, many, c.requires))
+    (omega (arith, c.loop-i.invariant.1, c.requires), omega (arith, many, c.requires))
 
 pub loop-i-preserved-then-row_count-eq0 : goal.loop-i-preserved-then-row_count-eq0
 loop-i-preserved-then-row_count-eq0 c =
     let many : length (rows_in c.args.m c.args.rows.now) ≡ c.args.m = length_rows_in c.args.m c.args.rows.now in
-    let both : Read (rows_in c.args.m c.args.rows.now) c.loop-i.i c.node_size-l.result c.node_size-r.result =     read _ _ _ _ _ many c.loop-i.inv.0 _ _ c.node_size-l.ensures c.node_size-r.ensures in
+    let both : Read (rows_in c.args.m c.args.rows.now) c.loop-i.i c.node_size-l.result c.node_size-r.result =     read _ _ _ _ _ many c.loop-i.invariant.0 _ _ c.node_size-l.ensures c.node_size-r.ensures in
     let l = c.loop-i in
     let inner = sym c.row_count.ensures ∙ c.if-row_count-eq0.true in (
       rw c.set_head.ensures
-          (inner_turn _ _ _ _ _ many l.inv.0 (l.i - 1) (omega (arith, c.loop-i-test.taken)) (row_at l.rows 0) _ _ both inner),
-      c.set_head.auto.rows ∙ l.inv.1,
+          (inner_turn _ _ _ _ _ many l.invariant.0 (l.i - 1) (omega (arith, c.loop-i-test.true)) (row_at l.rows 0) _ _ both inner),
+      c.set_head.auto.rows ∙ l.invariant.1,
     )
 
 pub loop-i-preserved : goal.loop-i-preserved

@@ -11,4 +11,4 @@ pub returns-in-Built : goal.returns-in-Built
 returns-in-Built c =
     let tree = c.built-in-Built-1.given in
     let items = c.item_count.ensures in
-    paired _ _ _ _ _ _ _ _ _ tree.0.0 _ _ _ (build c).build-core.ensures tree.1 items c.walk_bvh-walked.ensures
+    paired _ _ _ _ _ _ _ _ _ tree.0.0 _ _ _ c.build-core.ensures tree.1 items c.walk_bvh-walked.ensures

@@ -10,8 +10,7 @@ pub returns-then-v-hint : goal.returns-then-v-hint
 returns-then-v-hint c = λ e. absurd (true≢false (sym e))
 
 pub stopped-requires : goal.stopped-requires
-stopped-requires c =
-(
+stopped-requires c = (
   stoppable c.requires _ c.put_point.auto.points,
   omega
       (arith, c.if-v-hint.false),
