@@ -16,7 +16,7 @@ use bvh::core::BuiltTree;
 use math::aabb::Aabb;
 use std::num::wrapping_add_u64;
 use tree::pair::Found;
-use walk::core::{Counts, Walk};
+use walk::slices::{Counts, Walk};
 
 const STDOUT: i32 = 1;
 
