@@ -1,8 +1,8 @@
 -- What the answer of a walk says of the C interface's. Assumes nothing.
 use Rattle.core.specs.Prelude.{◌≡◌, ℕ, List}
 use mathlib.Core.Path.{ap, subst, ◌∙◌}
-use Rattle.walk.specs.declared.core.Counts.{Counts}
-use Rattle.walk.specs.declared.core.Walk.{Walk}
+use Rattle.walk.specs.declared.slices.Counts.{Counts}
+use Rattle.walk.specs.declared.slices.Walk.{Walk}
 use Rattle.walk_steps.specs.declared.state.Sizes.{Sizes}
 use Rattle.walk.specs.Walks.{Outcome, Promise, counts_of}
 use Rattle.answers.specs.declared.walks.WalkAnswer.{WalkAnswer}

@@ -1,8 +1,8 @@
 -- What the C interface answers of a walk. Definitions only.
 use Rattle.core.specs.Prelude.{◌≡◌, ℕ, List}
 use Rattle.base.specs.Lists.{over}
-use Rattle.walk.specs.declared.core.Counts.{Counts}
-use Rattle.walk.specs.declared.core.Walk.{Walk}
+use Rattle.walk.specs.declared.slices.Counts.{Counts}
+use Rattle.walk.specs.declared.slices.Walk.{Walk}
 use Rattle.walk_steps.specs.declared.state.Sizes.{Sizes}
 use Rattle.walk.specs.Walks.{Outcome, number_of, counts_of}
 use Rattle.answers.specs.declared.walks.WalkAnswer.{WalkAnswer}

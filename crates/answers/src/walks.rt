@@ -3,7 +3,7 @@ ghost use Rattle.core.specs.Prelude.{◌≡◌};
 ghost use Rattle.walk.specs.Walks.{refusal_number as walkRefusal};
 ghost use Rattle.answers.specs.WalkAnswers.{sizes_of, counted, walk_answer};
 
-use walk::core::{Counts, Walk};
+use walk::slices::{Counts, Walk};
 use walk_steps::refusals::WalkRefusal;
 use walk_steps::state::Sizes;
 

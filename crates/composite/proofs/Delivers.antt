@@ -19,8 +19,8 @@ use Rattle.bvh.specs.declared.core.BuiltTree.{BuiltTree}
 use Rattle.bvh.specs.declared.core.Lengths.{Lengths}
 use Rattle.walk_steps.specs.Boxes.{meets_box}
 use Rattle.walk.specs.Walks.{Outcome, walk_of, counts_of, Promise}
-use Rattle.walk.specs.declared.core.Counts.{Counts}
-use Rattle.walk.specs.declared.core.Walk.{Walk}
+use Rattle.walk.specs.declared.slices.Counts.{Counts}
+use Rattle.walk.specs.declared.slices.Walk.{Walk}
 use Rattle.tree.specs.Pair.{outcome_of, box_values, Delivered}
 use Rattle.tree.specs.WellFormed.{WellFormed, items_at}
 use Rattle.tree.proofs.AnswerLaws.{refusal_numbered, Listed, items_listed}

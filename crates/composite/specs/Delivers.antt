@@ -7,7 +7,7 @@ use Rattle.bvh.specs.Entry.{Outputs}
 use Rattle.bvh.specs.declared.core.BuiltTree.{BuiltTree}
 use Rattle.walk_steps.specs.Boxes.{query_of, meets_box}
 use Rattle.walk.specs.Walks.{walk_of, number_of, counts_of, Promise}
-use Rattle.walk.specs.declared.core.Walk.{Walk}
+use Rattle.walk.specs.declared.slices.Walk.{Walk}
 use Rattle.tree.specs.Pair.{Ordinary}
 use Rattle.tree.specs.WellFormed.{WellFormed, FromLeaf}
 use Rattle.composite.specs.Children.{is_present, computed_box}

@@ -37,9 +37,9 @@ use Rattle.rebuild.specs.Rebuilding.{leaf_limit, tree_answer}
 use Rattle.tree.specs.WellFormed.{node_no, NodeNumbers}
 use Rattle.walk.specs.Walks.{Outcome, walk_of, unread, ended, too_many, too_short, status_number, walk_from}
 use Rattle.walk.specs.Walks as W
-use Rattle.walk.specs.declared.core.Counts.{Counts}
-use Rattle.walk.specs.declared.core.Walk.{Walk}
-use Rattle.walk.specs.declared.core.Walk.TheVariants as Walk
+use Rattle.walk.specs.declared.slices.Counts.{Counts}
+use Rattle.walk.specs.declared.slices.Walk.{Walk}
+use Rattle.walk.specs.declared.slices.Walk.TheVariants as Walk
 use Rattle.walk_steps.specs.Boxes.{query_of}
 use Rattle.walk_steps.specs.Step.{Turn, lent_of, started}
 use Rattle.walk_steps.specs.declared.refusals.WalkRefusal.{WalkRefusal}

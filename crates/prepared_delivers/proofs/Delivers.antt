@@ -31,8 +31,8 @@ use Rattle.tree.proofs.PointThree.{records_well_formed, walk_delivers}
 use Rattle.tree.specs.Pair.{outcome_of, box_values, Delivered}
 use Rattle.tree.specs.WellFormed.{items_at}
 use Rattle.walk.specs.Walks.{Outcome, walk_of, counts_of, Promise}
-use Rattle.walk.specs.declared.core.Counts.{Counts}
-use Rattle.walk.specs.declared.core.Walk.{Walk}
+use Rattle.walk.specs.declared.slices.Counts.{Counts}
+use Rattle.walk.specs.declared.slices.Walk.{Walk}
 use Rattle.walk_steps.specs.Boxes.{meets_box}
 use Rattle.prepared_delivers.proofs.Boxes.{place_below, same_box, prepared_box}
 use Rattle.prepared_delivers.proofs.Places.{polygons_listed, as_many_listed, once_in_order, place_listed}

@@ -31,7 +31,7 @@ use Rattle.prepared.specs.declared.Prepare.{Prepare}
 use Rattle.prepared.specs.declared.Prepare.TheVariants.{Geometry, Bvh, Empty, Refused}
 use Rattle.prepared.specs.declared.Values.{Values}
 use Rattle.rebuild.specs.Rebuilding.{leaf_limit, tree_answer}
-use Rattle.walk.specs.declared.core.Walk.{Walk}
+use Rattle.walk.specs.declared.slices.Walk.{Walk}
 use Rattle.prepared_delivers.proofs.Delivers.{of_tree}
 use Rattle.prepared_delivers.specs.Delivers.{WalkedOver, Delivers}
 

@@ -16,7 +16,7 @@ use Rattle.rebuild.specs.Rebuilding.{leaf_limit, polygon_entries}
 use Rattle.tree.specs.Pair.{Ordinary}
 use Rattle.tree.specs.WellFormed.{WellFormed, FromLeaf}
 use Rattle.walk.specs.Walks.{walk_of, number_of, counts_of, Promise}
-use Rattle.walk.specs.declared.core.Walk.{Walk}
+use Rattle.walk.specs.declared.slices.Walk.{Walk}
 use Rattle.walk_steps.specs.Boxes.{query_of, meets_box}
 
 -- Rule P3, of p polygons whose tree x was written into `after`: the contract of a walk that is given its node and tree bytes unchanged, its cen and

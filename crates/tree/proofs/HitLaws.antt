@@ -1,6 +1,6 @@
 -- Every node that holds an item is hit, where the fold of any places among which the item is, is hit: a node's box is the fold of the places below it.
 -- By induction over how a tree grows.
-use Rattle.core.specs.Prelude.{◌≡◌, ℕ, ◌+◌, ◌<◌, Bool, true, List, ◌++◌}
+use Rattle.std.specs.Prelude.{◌≡◌, ℕ, ◌+◌, ◌<◌, Bool, true, List, ◌++◌}
 use native.Mathlib.Omega.{arith}
 use mathlib.Core.Path.{refl, sym, ap₂, ◌∙◌}
 use Rattle.base.proofs.ListLaws.{occurs_append}

@@ -1,5 +1,5 @@
 -- A node's record meets the quantised query where an item below it meets the query as floats: what holds on each axis (bvh's MeetLaws), put together.
-use Rattle.core.specs.Prelude.{◌≡◌, ℕ, ◌<◌, Bool, true, false, ◌&&◌, T, List, [], ◌∷◌, length}
+use Rattle.std.specs.Prelude.{◌≡◌, ℕ, ◌<◌, Bool, true, false, ◌&&◌, T, List, [], ◌∷◌, length}
 use native.Mathlib.Omega.{arith}
 use mathlib.Core.Bool.{and-eq-true_iff}
 use mathlib.Core.Path.{refl, sym, ap₂, subst}

@@ -1,7 +1,7 @@
 -- Point 3 of the request, in terms of the tree: a walk over a build's records is refused only with 2, and otherwise hands out every present item
 -- that meets the query, none twice, none from a leaf that misses it, within the bound on the readings. RecordLaws says it of the records.
 -- The walk is the visit (MachineLaws), and the visit has these properties (VisitLaws, HitLaws, MeetLaws).
-use Rattle.core.specs.Prelude.{◌≡◌, ℕ, ◌+◌, ◌-◌, ◌*◌, ◌<◌, ◌≤◌, Bool, true, false, cond, eqb, ltb, List, [], ◌∷◌, ◌++◌, map, length, get_or, drop}
+use Rattle.std.specs.Prelude.{◌≡◌, ℕ, ◌+◌, ◌-◌, ◌*◌, ◌<◌, ◌≤◌, Bool, true, false, cond, eqb, ltb, List, [], ◌∷◌, ◌++◌, map, length, get_or, drop}
 use native.Mathlib.Omega.{arith}
 use mathlib.Core.List.{append_assoc, append-nil}
 use mathlib.Core.List.Memᴰ

@@ -1,7 +1,7 @@
 -- Point 3 of the request, from the contract of a build alone: whatever answers a build that is not refused, by the definition and with its bytes,
 -- has well formed records, and the walk over them delivers. What a crate above needs; it holds for entries in words (`words_listed`)
 -- and for a list of items (`items_listed`).
-use Rattle.core.specs.Prelude.{◌≡◌, ℕ}
+use Rattle.std.specs.Prelude.{◌≡◌, ℕ}
 use mathlib.Core.Path.{sym, subst}
 use Rattle.base.specs.Lists.{over}
 use Rattle.math.specs.declared.aabb.Aabb.{Aabb}

@@ -1,6 +1,6 @@
 -- The records that a build wrote, read back: node record k is that of row k of the tree, tree record j that of range j, and the order list leads
 -- to the items of the leaf order. So what holds of the tree (bvh's Promises, PairLaws) holds of the bytes.
-use Rattle.core.specs.Prelude.{◌≡◌, ℕ, zero, suc, ◌+◌, ◌-◌, ◌*◌, ◌<◌, ◌≤◌, Bool, true, false, cond, T, eqb, List, [], ◌∷◌, ◌++◌, map, length, get_or, drop}
+use Rattle.std.specs.Prelude.{◌≡◌, ℕ, zero, suc, ◌+◌, ◌-◌, ◌*◌, ◌<◌, ◌≤◌, Bool, true, false, cond, T, eqb, List, [], ◌∷◌, ◌++◌, map, length, get_or, drop}
 use native.Mathlib.Omega.{arith}
 use mathlib.Core.List.{append_assoc}
 use mathlib.Core.List.Memᴰ

@@ -1,6 +1,6 @@
 -- What a visit hands out: each item at most as often as the tree holds it, an item whose nodes are all hit as often, only positions of leaves that are hit;
 -- and how much it reads. By induction over the tree, and over its parts, at every limit from 1 on.
-use Rattle.core.specs.Prelude.{◌≡◌, ℕ, zero, suc, ◌+◌, ◌<◌, ◌≤◌, Bool, true, false, cond, T, List, [], ◌∷◌, ◌++◌, map, length, drop}
+use Rattle.std.specs.Prelude.{◌≡◌, ℕ, zero, suc, ◌+◌, ◌<◌, ◌≤◌, Bool, true, false, cond, T, List, [], ◌∷◌, ◌++◌, map, length, drop}
 use native.Mathlib.Omega.{arith}
 use mathlib.Core.List.Memᴰ
 use mathlib.Core.List.{map-append, append_assoc, append-nil}

@@ -1,5 +1,5 @@
 -- Point 3 of the request, as one statement about a build and the walk over its records. Definitions only.
-use Rattle.core.specs.Prelude.{◌≡◌, ℕ, ◌+◌, ◌<◌, ◌≤◌, true, cond, T, ◌⊎◌, List, length, nat_lt}
+use Rattle.std.specs.Prelude.{◌≡◌, ℕ, ◌+◌, ◌<◌, ◌≤◌, true, cond, T, ◌⊎◌, List, length, nat_lt}
 use mathlib.Core.List.{Memᴰ}
 use Rattle.std.specs.Prelude.{Float}
 use Rattle.std.specs.Float.Ieee.{le, eq}

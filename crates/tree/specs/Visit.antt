@@ -1,5 +1,5 @@
 -- The walk over a tree, by recursion: what the machine over its records comes to. Definitions only.
-use Rattle.core.specs.Prelude.{◌≡◌, ℕ, ◌+◌, ◌<◌, ◌≤◌, Bool, true, cond, List, [], ◌∷◌, ◌++◌, length}
+use Rattle.std.specs.Prelude.{◌≡◌, ℕ, ◌+◌, ◌<◌, ◌≤◌, Bool, true, cond, List, [], ◌∷◌, ◌++◌, length}
 use mathlib.Core.List.{Memᴰ}
 use Rattle.base.specs.Lists.{occurrences, up_from}
 use Rattle.math.specs.declared.aabb.Aabb.{Aabb}

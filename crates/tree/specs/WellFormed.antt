@@ -1,5 +1,5 @@
 -- The records that a build wrote, as they are read from its bytes (records' `node_at` and `tree_at`), and what it promises of them. Definitions only.
-use Rattle.core.specs.Prelude.{◌≡◌, ℕ, zero, suc, ◌+◌, ◌-◌, ◌*◌, ◌<◌, ◌≤◌, Bool, true, cond, ◌&&◌, ◌||◌, List, [], ◌++◌, map, pos, ◌==◌, int_le, int_lt, nat_lt}
+use Rattle.std.specs.Prelude.{◌≡◌, ℕ, zero, suc, ◌+◌, ◌-◌, ◌*◌, ◌<◌, ◌≤◌, Bool, true, cond, ◌&&◌, ◌||◌, List, [], ◌++◌, map, pos, ◌==◌, int_le, int_lt, nat_lt}
 use mathlib.Core.List.{Memᴰ}
 use Rattle.base.specs.Lists.{one_if, occurrences, up_from}
 use Rattle.records.specs.Records.{node_at, tree_at}

@@ -1,5 +1,5 @@
 // Builds a tree and walks it. The contract is what a server may rely on (point 3 of the request).
-ghost use Rattle.core.specs.Prelude.{◌≡◌, ◌*◌, ◌<◌, false, length, take, ◌==◌};
+ghost use Rattle.std.specs.Prelude.{◌≡◌, ◌*◌, ◌<◌, false, length, take, ◌==◌};
 ghost use Rattle.bvh.specs.Entry.{entries_in, outputs, lent};
 ghost use Rattle.rows.specs.Positions.{item_at};
 ghost use Rattle.tree.specs.Pair.{Paired};
@@ -9,7 +9,7 @@ use base::numbers::{Place, Position};
 use bvh::core::{Build, BuildRefusal, BuiltTree};
 use math::aabb::Aabb;
 use rows::ranges::RANGE_LIMIT;
-use walk::core::Walk;
+use walk::slices::Walk;
 use walk_steps::state::Sizes;
 
 // A build that is refused leaves nothing to walk. Any other is walked: what was built, and how the walk over its records ended.

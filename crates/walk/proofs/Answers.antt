@@ -1,5 +1,5 @@
--- What `core::walk_core` answers, by the outcome of its checks.
-use Rattle.core.specs.Prelude.{◌≡◌, ℕ, ◌*◌, ◌≤◌, true, false, ◌||◌, ltb, List, length}
+-- What `slices::walk_core` answers, by the outcome of its checks.
+use Rattle.std.specs.Prelude.{◌≡◌, ℕ, ◌*◌, ◌≤◌, true, false, ◌||◌, ltb, List, length}
 use mathlib.Core.Path.{refl, ap, subst, ◌∙◌}
 use native.Mathlib.Omega.{arith}
 use lib.Dec.{lit<}
@@ -13,7 +13,7 @@ use Rattle.walk_steps.specs.Step.{Lent, lent_of, started}
 use Rattle.walk.specs.Walks.{walk_from, status_number, number_of, counts_of, unread, ended, too_many, too_short, walk_of, Outcome, Promise}
 use Rattle.walk_steps.specs.Steps.Contracts.{Steppable, Ran}
 use Rattle.walk_steps.specs.declared.boxes.Query.{Query}
-use Rattle.walk.specs.declared.core.Walk.{Walk}
+use Rattle.walk.specs.declared.slices.Walk.{Walk}
 use Rattle.walk_steps.specs.declared.refusals.WalkRefusal.TheVariants.{TooMany, BufferTooShort}
 use Rattle.walk_steps.specs.declared.state.Sizes.{Sizes}
 use Rattle.walk_steps.specs.declared.state.WalkState.{WalkState}

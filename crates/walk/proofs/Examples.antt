@@ -1,5 +1,5 @@
 -- Walks over records written by hand, by computing the definitions: an inner node over two leaves, in one range that starts at node 1.
-use Rattle.core.specs.Prelude.{◌≡◌, ℕ, List, [], ◌∷◌, ◌++◌, ℤ, pos, negsuc}
+use Rattle.std.specs.Prelude.{◌≡◌, ℕ, List, [], ◌∷◌, ◌++◌, ℤ, pos, negsuc}
 use mathlib.Core.Path.{refl}
 use Rattle.base.specs.LittleEndian.{little_endian, le_at}
 use Rattle.records.specs.Shorts.{short_bytes, short_at}

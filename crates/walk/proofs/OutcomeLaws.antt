@@ -1,6 +1,6 @@
 -- What holds of every walk's outcome, whatever the bytes: its reads are within what the trees allow, its count is that of its positions,
 -- there are no more of them than items, each is below the item count, and a walk that was not refused has read everything that it had to.
-use Rattle.core.specs.Prelude.{◌≡◌, ℕ, zero, suc, ◌+◌, ◌-◌, ◌<◌, ◌≤◌, max, Bool, true, false, cond, ◌||◌, eqb, ltb, List, length, pos}
+use Rattle.std.specs.Prelude.{◌≡◌, ℕ, zero, suc, ◌+◌, ◌-◌, ◌<◌, ◌≤◌, max, Bool, true, false, cond, ◌||◌, eqb, ltb, List, length, pos}
 use mathlib.Core.Path.{refl}
 use native.Mathlib.Omega.{arith}
 use lib.Signed.{lt_z}

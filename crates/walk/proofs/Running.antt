@@ -1,5 +1,5 @@
 -- The loops of a walk: the walk from one state leads through another, as a reading and the rest, over trees passed, or by two ways put together.
-use Rattle.core.specs.Prelude.{◌≡◌, ℕ, ◌+◌, ◌-◌, ◌*◌, ◌<◌, ◌≤◌, true, false, List, [], ◌++◌, length}
+use Rattle.std.specs.Prelude.{◌≡◌, ℕ, ◌+◌, ◌-◌, ◌*◌, ◌<◌, ◌≤◌, true, false, List, [], ◌++◌, length}
 use mathlib.Core.Path.{refl, sym, ap, subst, ◌∙◌}
 use mathlib.Core.List.{append_assoc, append-nil}
 use native.Mathlib.Omega.{arith}
@@ -10,7 +10,7 @@ use Rattle.base.proofs.StoreLaws.{sets_append}
 use Rattle.base.proofs.NumberLaws.{length_up}
 use Rattle.base.specs.Lists.{up_from}
 use Rattle.records.specs.Records.{node_at, tree_at}
-use Rattle.walk_steps.specs.Step.{Lent, lent_of, Turn, quiet, started, more, at_tree, at_node, step_of}
+use Rattle.walk_steps.specs.Step.{Lent, lent_of, Turn, started, more, at_tree, at_node, step_of}
 use Rattle.walk.specs.Walks.{joined, left, walk_from}
 use Rattle.walk_steps.specs.Steps.Contracts.{Steppable, Stepped, Ran, ahead_at, inside_range}
 use Rattle.walk.specs.Steps.Passing.{PassedUpTo, Ready, Came}
@@ -93,8 +93,8 @@ module _ (l : Lent) (out : List ℕ) (s : WalkState) (g : Ready l out s) (e : mo
                     few_nodes = p.few_nodes;
                     few_trees = p.few_trees;
                     few_items = p.few_items;
-                    node_bytes_lem = p.node_bytes;
-                    tree_bytes_lem = p.tree_bytes;
+                    node_bytes_lem = p.node_bytes_lem;
+                    tree_bytes_lem = p.tree_bytes_lem;
                     last_in = step_last_within l s p.last_in;
                     handed_in = step_handed_within l s p.handed_in;
                     few_reads = omega (arith, step_reads l s, g.allowed);
@@ -168,8 +168,8 @@ module _ (l : Lent) (out : List ℕ) (s : WalkState) (upto : ℕ) (g : Ready l o
                       few_nodes = f.few_nodes;
                       few_trees = f.few_trees;
                       few_items = f.few_items;
-                      node_bytes_lem = f.node_bytes;
-                      tree_bytes_lem = f.tree_bytes;
+                      node_bytes_lem = f.node_bytes_lem;
+                      tree_bytes_lem = f.tree_bytes_lem;
                       last_in = f.last_in;
                       handed_in = f.handed_in;
                       few_reads = omega (arith, b.left_falls, g.allowed);
@@ -205,7 +205,7 @@ module _ (l : Lent) (out : List ℕ) (s : WalkState) (upto : ℕ) (g : Ready l o
           let f = g.fits in
           let c = passed in
           subst (λ (u : WalkState). (16 * u.tree + 16 ≤ length l.trees) × (u.tree < 65536) × (u.reads < 4294967296)) (sym k)
-          (omega (arith, f.tree_bytes), omega (arith, f.few_trees), c.ready.fits.few_reads)
+          (omega (arith, f.tree_bytes_lem), omega (arith, f.few_trees), c.ready.fits.few_reads)
 
       ahead_read : Came l s out out (step_of l (ahead_at t s)).state × (left l (step_of l (ahead_at t s)).state < left l s)
       ahead_read =

@@ -1,5 +1,5 @@
 -- A walk as a whole: each reading uses up some of what `left` allows, so a walk ends, and goes on from each state as a reading and the rest.
-use Rattle.core.specs.Prelude.{◌≡◌, ℕ, zero, suc, ◌+◌, ◌-◌, ◌*◌, ◌<◌, ◌≤◌, min, max, Bool, true, false, cond, ◌||◌, eqb, ltb, ◌++◌, length, pos}
+use Rattle.std.specs.Prelude.{◌≡◌, ℕ, zero, suc, ◌+◌, ◌-◌, ◌*◌, ◌<◌, ◌≤◌, max, Bool, true, false, cond, ◌||◌, eqb, ltb, ◌++◌, length, pos}
 use mathlib.Core.Path.{refl, sym, ap, subst, ◌∙◌}
 use native.Mathlib.Omega.{arith}
 use lib.Signed.{lt_z}
@@ -47,17 +47,17 @@ module _ (l : Lent) (s : WalkState) where
   abbrev n : BvhNode
   n = node_of l s
 
-  at_tree : s.last ≤ s.at → (b m : Bool) → bad_range l.sizes.nodes t ≡ b → meets l.query t.min t.max ≡ m
+  tree_reading : s.last ≤ s.at → (b m : Bool) → bad_range l.sizes.nodes t ≡ b → meets l.query t.min t.max ≡ m
       → Reading l s (quiet (at_tree l.query l.sizes.nodes t s))
-  at_tree h true m e k = subst (λ (u : WalkState). Reading l s (quiet u)) (sym (tree_refused l.query l.sizes.nodes t s e)) (refused_tree h e)
-  at_tree h false true e k = subst (λ (u : WalkState). Reading l s (quiet u)) (sym (tree_entered l.query l.sizes.nodes t s e k)) (entered_tree h e k)
-  at_tree h false false e k = subst (λ (u : WalkState). Reading l s (quiet u)) (sym (tree_passed l.query l.sizes.nodes t s e k)) (passed_tree h e k)
+  tree_reading h true m e k = subst (λ (u : WalkState). Reading l s (quiet u)) (sym (tree_refused l.query l.sizes.nodes t s e)) (refused_tree h e)
+  tree_reading h false true e k = subst (λ (u : WalkState). Reading l s (quiet u)) (sym (tree_entered l.query l.sizes.nodes t s e k)) (entered_tree h e k)
+  tree_reading h false false e k = subst (λ (u : WalkState). Reading l s (quiet u)) (sym (tree_passed l.query l.sizes.nodes t s e k)) (passed_tree h e k)
 
-  at_node : s.at < s.last → (b m : Bool) → bad_node s.at s.last l.sizes.items n ≡ b → meets l.query n.min n.max ≡ m
+  node_reading : s.at < s.last → (b m : Bool) → bad_node s.at s.last l.sizes.items n ≡ b → meets l.query n.min n.max ≡ m
       → Reading l s (at_node l.query l.sizes.items n s)
-  at_node h true m e k = subst (Reading l s) (sym (node_refused l.query l.sizes.items n s e)) (refused_node h e)
-  at_node h false true e k = subst (Reading l s) (sym (node_handing l.query l.sizes.items n s e k)) (met_node h e k)
-  at_node h false false e k = subst (Reading l s) (sym (node_onward l.query l.sizes.items n s e k)) (missed_node h e k)
+  node_reading h true m e k = subst (Reading l s) (sym (node_refused l.query l.sizes.items n s e)) (refused_node h e)
+  node_reading h false true e k = subst (Reading l s) (sym (node_handing l.query l.sizes.items n s e k)) (met_node h e k)
+  node_reading h false false e k = subst (Reading l s) (sym (node_onward l.query l.sizes.items n s e k)) (missed_node h e k)
 
   pub reading : Reading l s (step_of l s)
   reading = go (ltb s.at s.last) refl
@@ -65,10 +65,10 @@ module _ (l : Lent) (s : WalkState) where
       go : (b : Bool) → ltb s.at s.last ≡ b → Reading l s (step_of l s)
       go true e =
           let h = ltb-true s.at s.last e in
-          subst (Reading l s) (sym (step_node l s h)) (at_node h _ _ refl refl)
+          subst (Reading l s) (sym (step_node l s h)) (node_reading h _ _ refl refl)
       go false e =
           let h = ltb-false s.at s.last e in
-          subst (Reading l s) (sym (step_tree l s h)) (at_tree h _ _ refl refl)
+          subst (Reading l s) (sym (step_tree l s h)) (tree_reading h _ _ refl refl)
 
 -- ---- a range that is not refused
 pub range_within : (nodes : ℕ) (t : BvhTree) → bad_range nodes t ≡ false → whole t.node_index2 ≤ nodes

@@ -1,5 +1,5 @@
 -- A whole walk, and what it answers. Definitions only.
-use Rattle.core.specs.Prelude.{◌≡◌, ℕ, zero, suc, ◌+◌, ◌-◌, ◌*◌, Bool, true, false, cond, ◌||◌, List, [], ◌++◌, length, nat_lt}
+use Rattle.std.specs.Prelude.{◌≡◌, ℕ, zero, suc, ◌+◌, ◌-◌, ◌*◌, Bool, true, false, cond, ◌||◌, List, [], ◌++◌, length, nat_lt}
 use Rattle.base.specs.Lists.{over}
 use Rattle.math.specs.declared.aabb.Aabb.{Aabb}
 use Rattle.math.specs.declared.vec3.Vec3.{Vec3}
@@ -7,9 +7,9 @@ use Rattle.records.specs.Records.{tree_at}
 use Rattle.walk_steps.specs.Boxes.{query_of}
 use Rattle.walk_steps.specs.Refusals.{whole, bad_range}
 use Rattle.walk_steps.specs.Step.{Lent, lent_of, Turn, quiet, going, started, more, step_of}
-use Rattle.walk.specs.declared.core.Counts.{Counts}
-use Rattle.walk.specs.declared.core.Walk.{Walk}
-use Rattle.walk.specs.declared.core.Walk.TheVariants.{Walked, Refused}
+use Rattle.walk.specs.declared.slices.Counts.{Counts}
+use Rattle.walk.specs.declared.slices.Walk.{Walk}
+use Rattle.walk.specs.declared.slices.Walk.TheVariants.{Walked, Refused}
 use Rattle.walk_steps.specs.declared.refusals.WalkRefusal.{WalkRefusal}
 use Rattle.walk_steps.specs.declared.refusals.WalkRefusal.TheVariants.{TooMany, BufferTooShort, TreeRange, NodeRecord, TooManyHandedOut}
 use Rattle.walk_steps.specs.declared.state.Sizes.{Sizes}

@@ -1,9 +1,9 @@
 // The entry point of a walk.
-ghost use Rattle.core.specs.Prelude.{length};
+ghost use Rattle.std.specs.Prelude.{length};
 ghost use Rattle.walk.specs.Walks.{walk_of, Promise};
 
-use crate::core::Walk;
 use crate::reader::NodeReader;
+use crate::slices::Walk;
 use math::aabb::Aabb;
 use math::vec3::Vec3;
 use walk_steps::state::Sizes;

@@ -1,9 +1,9 @@
 // The node records as the bytes that were lent: the struct is taken apart, and a function on the slice and the number is called.
-ghost use Rattle.core.specs.Prelude.{◌≡◌, ◌+◌, ◌*◌, ◌≤◌, length};
+ghost use Rattle.std.specs.Prelude.{◌≡◌, ◌+◌, ◌*◌, ◌≤◌, length};
 ghost use Rattle.records.specs.Records.{node_at};
 ghost use Rattle.walk.specs.Walks.{walk_of, Promise};
 
-use crate::core::Walk;
+use crate::slices::Walk;
 use math::aabb::Aabb;
 use math::vec3::Vec3;
 use records::BvhNode;
@@ -42,11 +42,11 @@ impl<'a> NodeReader<'a> {
         ensures { Promise (walk_of query cen inverse sizes self.entry.node_bytes.now tree_bytes.now (length out.old))
             out.old out.new result }
     {
-        crate::core::walk_core(query, cen, inverse, sizes, self.node_bytes, tree_bytes, out)
+        crate::slices::walk_core(query, cen, inverse, sizes, self.node_bytes, tree_bytes, out)
     }
 }
 
-// The node record of the number given, for a caller that has plain bytes: no function but one that is walked by hand holds a reader.
+// The node record of the number given, for a caller that has plain bytes.
 pub fn read_node(node_bytes: &[u8], number: usize) -> BvhNode
     requires { 16 * number + 16 ≤ length node_bytes.now }
     ensures { result ≡ node_at node_bytes.now (16 * number) }

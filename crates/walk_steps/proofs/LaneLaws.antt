@@ -1,5 +1,5 @@
 -- The eight tests of a record: the lower corner turned, so that all are of one kind, and the two that every number passes.
-use mathlib.Core.Path.{◌≡◌, refl, sym, ap, ap₂, subst, ◌∙◌}
+use mathlib.Core.Path.{◌≡◌, refl, ap, ap₂, ◌∙◌}
 use mathlib.Core.Bool.{Bool, true, false, ◌&&◌}
 use Prim.Native.Nat.{suc, ◌-◌, ◌<◌}
 use native.Mathlib.Omega.{arith}
@@ -10,7 +10,6 @@ use mir.Syntax.{w16}
 use mir.Val.{to_z, of_z}
 use mir.Facts.{to_z_pos, to_z-neg}
 use Rattle.walk_steps.specs.Steps.Lanes.{flip, plain_of, Topped}
-use Rattle.walk_steps.specs.declared.boxes.Lanes.{Lanes}
 use Rattle.walk_steps.specs.declared.boxes.Query.{Query}
 use Rattle.walk_steps.proofs.Shorts.{seen, same}
 

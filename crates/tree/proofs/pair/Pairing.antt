@@ -1,5 +1,5 @@
 -- What `pair::build_and_walk` promises, from what the build and the walk do.
-use Rattle.core.specs.Prelude.{◌≡◌, ℕ, List, length}
+use Rattle.std.specs.Prelude.{◌≡◌, ℕ, List, length}
 use native.Mathlib.Omega.{arith}
 use mathlib.Core.Path.{refl, ap, subst, ◌∙◌}
 use Rattle.math.specs.declared.aabb.Aabb.{Aabb}
@@ -10,7 +10,7 @@ use Rattle.bvh.specs.declared.core.BuiltTree.{BuiltTree}
 use Rattle.bvh.specs.Build.{Entries, refusal_number, number_of}
 use Rattle.bvh.specs.Entry.{entries_in, Outputs, Lent, lengths_of, Answered}
 use Rattle.walk.specs.Walks.{Outcome, walk_of, Promise}
-use Rattle.walk.specs.declared.core.Walk.{Walk}
+use Rattle.walk.specs.declared.slices.Walk.{Walk}
 use Rattle.tree.specs.declared.pair.Found.TheVariants.{Unbuilt, Walked}
 use Rattle.tree.specs.Pair.{outcome_of, Delivered, pair_number, Paired}
 use Rattle.tree.specs.WellFormed.{count_for}

@@ -1,5 +1,5 @@
 -- 2^100 and 2^-100 as words: a float is compared with the word's as with the power.
-use Rattle.core.specs.Prelude.{◌≡◌, T}
+use Rattle.std.specs.Prelude.{◌≡◌, T}
 use lib.Ieee.{Float, binary32, of_bits, le}
 use Rattle.base.proofs.Truth.{T_ext}
 use Rattle.float32.proofs.OrderLaws.{le_trans}

@@ -1,7 +1,7 @@
 -- Rule P4: what breaks the premises of point 3 in one box, and in the box of all, by number. Definitions only.
 -- 1 to 6: that value (min x, y, z, max x, y, z) is not finite, or above 2^100 in size; 7 to 9: min is above max on x, y, z;
 -- 10 to 12: the half extent q on x, y, z is neither 0 nor at least 2^-100; 0: nothing.
-use Rattle.core.specs.Prelude.{ℕ, ◌+◌, Bool, cond, ◌||◌, from_bits}
+use Rattle.std.specs.Prelude.{ℕ, ◌+◌, Bool, cond, ◌||◌, from_bits}
 use Rattle.std.specs.Prelude.{Float}
 use Rattle.std.specs.Float.{binary32}
 use Rattle.std.specs.Float.Ieee.{le, eq}

@@ -1,5 +1,5 @@
 -- Rule P4: whether a list of entries meets the premises of point 3, and what breaks them first where not. Definitions only.
-use Rattle.core.specs.Prelude.{◌≡◌, ℕ, ◌*◌, cond, List, [], ◌∷◌, ◌==◌, nat_lt}
+use Rattle.std.specs.Prelude.{◌≡◌, ℕ, ◌*◌, cond, List, [], ◌∷◌, ◌==◌, nat_lt}
 use Rattle.entries.specs.Folding.{fold_box}
 use Rattle.entries.specs.declared.boxes.BoxWords.{BoxWords}
 use Rattle.bvh.specs.Build.{Entries}

@@ -1,5 +1,5 @@
 // What breaks the premises in one box, and in the box of all.
-ghost use Rattle.core.specs.Prelude.{◌≡◌, ◌<◌, from_bits};
+ghost use Rattle.std.specs.Prelude.{◌≡◌, ◌<◌, from_bits};
 ghost use Rattle.std.specs.Float.{binary32};
 ghost use Rattle.records.specs.Axis.{extent};
 ghost use Rattle.tree.specs.premises.Faults.{sized, sound, failing, size_fault, order_fault, box_fault, extent_fault};

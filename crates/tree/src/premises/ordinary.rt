@@ -1,5 +1,5 @@
 // Whether the entries meet the premises of point 3: the first entry that breaks them, else the box of all.
-ghost use Rattle.core.specs.Prelude.{◌≡◌, ◌+◌, ◌*◌, ◌<◌, ◌≤◌, length, take, if◌then◌else◌, slice_index};
+ghost use Rattle.std.specs.Prelude.{◌≡◌, ◌+◌, ◌*◌, ◌<◌, ◌≤◌, length, take, if◌then◌else◌, slice_index};
 ghost use Rattle.bvh.specs.Entry.{entries_in};
 ghost use Rattle.bvh.specs.Items.{is_marked, marked};
 ghost use Rattle.entries.specs.Boxes.{box_at};

@@ -1,15 +1,14 @@
 -- A walk taken in runs (rules W3, W5): trees passed over, then the nodes of one range. Definitions only.
-use Rattle.core.specs.Prelude.{◌≡◌, ℕ, ◌+◌, ◌-◌, ◌*◌, ◌<◌, ◌≤◌, Bool, true, false, cond, not, ◌&&◌, ltb, List, length}
+use Rattle.std.specs.Prelude.{◌≡◌, ℕ, ◌+◌, ◌*◌, ◌<◌, ◌≤◌, Bool, true, false, cond, not, List, length}
 use Rattle.std.proofs.lemmas.List.Edits.{sets}
 use Rattle.records.specs.Records.{tree_at}
 use Rattle.records.specs.declared.BvhTree.{BvhTree}
 use Rattle.walk_steps.specs.Boxes.{meets}
 use Rattle.walk_steps.specs.Refusals.{bad_range}
-use Rattle.walk_steps.specs.Step.{Lent, going}
+use Rattle.walk_steps.specs.Step.{Lent}
 use Rattle.walk.specs.Walks.{joined, left, walk_from}
 use Rattle.walk_steps.specs.Steps.Contracts.{Steppable}
 use Rattle.walk_steps.specs.declared.boxes.Query.{Query}
-use Rattle.walk_steps.specs.declared.state.Status.TheVariants.{Going}
 use Rattle.walk_steps.specs.declared.state.WalkState.{WalkState}
 
 -- Whether a tree is passed over: it misses, and its range is not refused.

@@ -96,7 +96,7 @@ returns c =
         c.args.spare.now c.args.links.now c.args.normals.now c.args.olds.now c.args.news.now in
     let a = c.args in
     let long = sym c.too_short.ensures ∙ c.if-too_short.false in
-    let front = c.shrink_polygons.kept.1.1.1.1.1.0 ∙ length-take-le (3 * a.v) a.points.now (room a.n a.v sizes long).points in
+    let front = c.shrink_polygons.auto.points ∙ length-take-le (3 * a.v) a.points.now (room a.n a.v sizes long).points in
     served a.geometry a.n a.polygons.now a.v a.vertices.now sizes a.points.now c.if-n-gt32767.false c.if-v-gt32768.false long
     (sym c.kinds_known.ensures ∙ c.if-not-kinds_known.false) c.if-v-eq0.false (sym
     c.infinite_start.ensures ∙ c.if-infinite_start.false) _

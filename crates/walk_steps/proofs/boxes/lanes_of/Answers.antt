@@ -1,5 +1,4 @@
 -- `boxes::lanes_of` meets its contract: turned twice, the lower corner is itself.
-use borrow.Author.Rules.{rules}
 use Rattle.walk_steps.proofs.LaneLaws.{seen_flip, lanes_are}
 use Rattle.walk_steps.proofs.boxes.lanes_of.Goals as goal
 

@@ -22,5 +22,5 @@ returns c =
     (below_low x.0 q.low.0 xf.0.1 low.0.1)
     (below_low x.1 q.low.1 xf.1.0.1 low.1.0.1)
     (below_low x.2 q.low.2 xf.1.1.0.1 low.1.1.0.1)
-    (below_top c.args.first q.first c.fits.first.sfits lanes.1.1.0.1 c.requires.first_top)
-    (below_top c.args.second q.second c.fits.second.sfits lanes.1.1.1.0.1 c.requires.second_top)
+    (below_top c.args.first q.first c.ranges.first.sfits lanes.1.1.0.1 c.requires.first_top)
+    (below_top c.args.second q.second c.ranges.second.sfits lanes.1.1.1.0.1 c.requires.second_top)

@@ -1,5 +1,4 @@
 -- `boxes::meets_box` meets its contract: the three ways through it are how far the tests of the axes go.
-use borrow.Author.Rules.{rules}
 use Rattle.base.proofs.Truth.{third, second, first}
 use Rattle.walk_steps.specs.Boxes.{meets_box}
 use Rattle.walk_steps.proofs.boxes.meets_box.Goals as goal

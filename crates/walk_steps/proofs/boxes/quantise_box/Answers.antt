@@ -1,5 +1,4 @@
 -- `boxes::quantise_box` meets its contract: corner by corner what `quantise_query` ensures.
-use borrow.Author.Rules.{rules}
 use Rattle.walk_steps.specs.Boxes.{query_of}
 use Rattle.walk_steps.proofs.boxes.quantise_box.Goals as goal
 

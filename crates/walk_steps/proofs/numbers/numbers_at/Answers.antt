@@ -1,5 +1,4 @@
 -- `numbers::numbers_at` meets its contract: the halves of the word are the bits of the numbers.
-use borrow.Author.Rules.{rules}
 use mathlib.Core.Path.{ap, ◌∙◌}
 use Rattle.base.proofs.ShortLaws.{same_short}
 use Rattle.float32.specs.Casts.{signed16}

@@ -1,5 +1,4 @@
 -- `numbers::short` meets its contract: a number below 65,536 is its low 16 bits.
-use borrow.Author.Rules.{rules}
 use mathlib.Core.Path.{◌≡◌, ap, ◌∙◌}
 use Prim.Native.Nat.{◌%◌, ◌^◌, ◌<◌}
 use native.Mathlib.Omega.{arith}

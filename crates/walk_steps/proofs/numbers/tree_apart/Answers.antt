@@ -1,5 +1,4 @@
 -- `numbers::tree_apart` meets its contract: the box is that of the record, and the numbers are read again.
-use borrow.Author.Rules.{rules}
 use mathlib.Core.Path.{◌≡◌, ap, ◌∙◌}
 use Prim.Native.Nat.{◌+◌}
 use native.Mathlib.Omega.{arith}

@@ -1,5 +1,4 @@
 -- `numbers::two_and_two` meets its contract: each byte is below 256.
-use borrow.Author.Rules.{rules}
 use mathlib.Core.Path.{◌≡◌}
 use Prim.Native.Nat.{◌+◌}
 use native.Mathlib.Omega.{arith}

@@ -1,5 +1,4 @@
 -- `refusals::node_refused` meets its contract: the ways through it are how far its tests go.
-use borrow.Author.Rules.{rules}
 use Rattle.base.proofs.Truth.{or_yes, or_no, when, unless}
 use mathlib.Core.Path.{sym, ap, ap₂, ◌∙◌}
 use Prim.Native.Nat.{ℕ, ◌+◌, max}

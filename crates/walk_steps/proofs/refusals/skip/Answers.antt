@@ -1,5 +1,4 @@
 -- `refusals::skip` meets its contract: the two ways through it are the two cases of the maximum.
-use borrow.Author.Rules.{rules}
 use mathlib.Core.Path.{ap, ◌∙◌}
 use lib.Dec.{lit<}
 use mir.Facts.{to_z-of_z}

@@ -1,5 +1,4 @@
 -- `state::stride` meets its contract: a node of count 0 is passed with all below it, a leaf alone.
-use borrow.Author.Rules.{rules}
 use Rattle.base.proofs.Truth.{when, unless}
 use mathlib.Core.Path.{◌≡◌, sym, ap, ◌∙◌}
 use Prim.Native.Nat.{max}

@@ -1,5 +1,5 @@
 -- `ordinary::fold_present` meets its contract. The loop's invariant, `Folded`: the rest folded onto the box so far is the whole fold.
-use Rattle.core.specs.Prelude.{◌-◌}
+use Rattle.std.specs.Prelude.{◌-◌}
 use Rattle.entries.specs.Folding.{fold_box}
 use Rattle.tree.proofs.premises.Passing.{Folded, folded_begin, folded_next, folded_end}
 use borrow.Author.Rules.{rules}

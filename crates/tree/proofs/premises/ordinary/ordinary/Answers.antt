@@ -1,7 +1,7 @@
 -- `ordinary::ordinary` meets its contract: Build's two refusals, else the judgement (Judging).
 use borrow.Author.Rules.{rules}
 use mathlib.Core.Path.{sym}
-use Rattle.core.specs.Prelude.{◌*◌}
+use Rattle.std.specs.Prelude.{◌*◌}
 use lib.Seq.{length-take-le}
 use Rattle.tree.proofs.premises.Judging.{too_many, too_short, read}
 use native.Mathlib.Omega.{arith}

@@ -1,5 +1,4 @@
 -- `state::WalkState::ahead` meets its contract: a record read for each tree passed over.
-use borrow.Author.Rules.{rules}
 use mathlib.Core.Path.{refl}
 use Rattle.walk_steps.proofs.state.WalkState.ahead.Goals as goal
 

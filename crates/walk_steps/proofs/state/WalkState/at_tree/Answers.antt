@@ -1,6 +1,4 @@
 -- `state::WalkState::at_tree` meets its contract: the three ways through it are the cases of the definition.
-use borrow.Author.Rules.{rules}
-use native.Mathlib.Omega.{arith}
 use mathlib.Core.Path.{sym, ap, ◌∙◌}
 use Rattle.records.specs.declared.BvhTree.{BvhTree}
 use Rattle.walk_steps.specs.Refusals.{whole}
@@ -16,18 +14,6 @@ returns-then-range_refused c =
     let is = ap (λ (u : BvhTree). at_tree (plain_of a.query) a.nodes u a.self) (sym c.tree_at-t.ensures) in
     let bad = sym c.range_refused.ensures ∙ c.if-range_refused.true in
     c.refused.ensures ∙ sym (is ∙ tree_refused (plain_of a.query) a.nodes c.tree_at-t.result a.self bad)
-
-pub overflow_add-result : goal.overflow_add-result
-overflow_add-result c =
-    omega (arith, c.requires.0)
-
-pub overflow_add-result-then-meets : goal.overflow_add-result-then-meets
-overflow_add-result-then-meets c =
-    omega (arith, c.requires.0)
-
-pub overflow_add-result-else-meets-2 : goal.overflow_add-result-else-meets-2
-overflow_add-result-else-meets-2 c =
-    omega (arith, c.requires.0)
 
 pub returns-then-meets : goal.returns-then-meets
 returns-then-meets c =

@@ -1,5 +1,4 @@
 -- `state::WalkState::hand_over` meets its contract: the numbers read from the record are the definition's.
-use borrow.Author.Rules.{rules}
 use Rattle.base.specs.Lists.{up_from}
 use native.Mathlib.Omega.{arith}
 use mathlib.Core.Path.{ap, ◌∙◌}

@@ -1,20 +1,12 @@
 -- `state::WalkState::step` meets its contract: a node where one is left in the range, else the next tree, by the lanes of the query.
-use borrow.Author.Rules.{rules}
-use native.Mathlib.Omega.{arith}
 use mathlib.Core.Path.{sym, ap, ◌∙◌}
 use Prim.Native.Nat.{◌*◌}
 use Rattle.records.specs.Records.{node_at, tree_at}
 use Rattle.walk_steps.specs.Step.{Lent, lent_of, quiet, at_node, at_tree}
 use Rattle.walk_steps.specs.declared.boxes.Query.{Query}
-use Rattle.walk_steps.proofs.StepLaws.{step_node, step_tree, more_tree}
+use Rattle.walk_steps.proofs.StepLaws.{step_node, step_tree}
 use Rattle.walk_steps.proofs.SameTurn.{stepped_as}
 use Rattle.walk_steps.proofs.state.WalkState.step.Goals as goal
-
-pub at_tree-requires : goal.at_tree-requires
-at_tree-requires c =
-    let h = more_tree c.args.sizes.trees c.args.self c.requires.1 c.if-self.false in
-    let p = c.requires.0 in
-    ((omega arith, omega arith, p.few_reads), c.lanes_of-lanes.ensures.1)
 
 pub returns-then-self : goal.returns-then-self
 returns-then-self c =
