@@ -1,5 +1,5 @@
 -- The leaves' items, read by the rows' ids and counts, are the leaf order, and no row counts more than its leaf holds. By induction over the tree.
-use Prim.Native.Nat.{ℕ, ◌+◌, ◌≤◌, ◌<◌}
+use Prim.Native.Nat.{ℕ, ◌+◌, ◌≤◌}
 use native.Mathlib.Omega.{arith}
 use native.Mathlib.Nat.{add-zero}
 use mathlib.Core.Bool.{Bool, true, false, cond}

@@ -1,5 +1,4 @@
 -- `quantum` meets its contract: axis by axis what its calls ensure.
-use borrow.Author.Rules.{rules}
 use mathlib.Core.Path.{ap, ◌∙◌}
 use lib.Ieee.{Float}
 use Rattle.float32.specs.Casts.{limit}

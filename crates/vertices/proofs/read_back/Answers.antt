@@ -1,5 +1,4 @@
 -- `read_back` meets its contract: axis by axis the float of the number, times the quantum.
-use borrow.Author.Rules.{rules}
 use mathlib.Core.Path.{ap, ◌∙◌}
 use lib.Ieee.{Float, binary32, of_int}
 use Rattle.base.proofs.ShortLaws.{same_short}

@@ -1,5 +1,4 @@
 -- `stored` meets its contract: axis by axis the cast of the quotient.
-use borrow.Author.Rules.{rules}
 use mathlib.Core.Path.{ap, ◌∙◌}
 use Rattle.base.proofs.ShortLaws.{same_short}
 use Rattle.float32.specs.Casts.{vertex_of}

@@ -1,5 +1,4 @@
 -- `halves::half_of` meets its contract: widening v to an i32 changes no number, and its low 16 bits fit a u16.
-use borrow.Author.Rules.{rules}
 use mathlib.Core.Path.{ap, subst, sym, ◌∙◌}
 use Prim.Native.Nat.{ℕ, ◌<◌}
 use lib.IntN.{ℤ}

@@ -1,5 +1,4 @@
 -- `halves::halves_at` meets its contract: field by field what the calls ensure.
-use borrow.Author.Rules.{rules}
 use Rattle.polygon.specs.Halves.{halves_at}
 use Rattle.polygon.proofs.halves.halves_at.Goals as goal
 

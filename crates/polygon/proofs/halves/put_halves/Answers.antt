@@ -1,5 +1,4 @@
 -- `halves::put_halves` meets its contract: two runs of eight stores are one run of 16.
-use borrow.Author.Rules.{rules}
 use Rattle.base.proofs.StoreLaws.{store_next}
 use Rattle.polygon.specs.Halves.{four_bytes, halves_bytes}
 use Rattle.polygon.proofs.Sizes.{four_bytes_lem}

@@ -1,5 +1,4 @@
 -- `halves::short_of` meets its contract: a u16 is below 65,536, so its low 16 bits are itself.
-use borrow.Author.Rules.{rules}
 use mathlib.Core.Path.{◌≡◌, ap, ◌∙◌}
 use Prim.Native.Nat.{◌%◌, ◌^◌, ◌<◌}
 use mir.Syntax.{w32}

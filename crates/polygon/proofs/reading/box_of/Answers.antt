@@ -1,5 +1,4 @@
 -- `reading::box_of` meets its contract: field by field what `short_of` ensures.
-use borrow.Author.Rules.{rules}
 use Rattle.base.proofs.ShortLaws.{same_short}
 use Rattle.polygon.specs.Polygons.{box_of}
 use Rattle.polygon.proofs.reading.box_of.Goals as goal

@@ -1,5 +1,4 @@
 -- `reading::polygon_at` meets its contract: what its calls ensure, one after the other.
-use borrow.Author.Rules.{rules}
 use mathlib.Core.Path.{ap, ◌∙◌}
 use Rattle.polygon.specs.Polygons.{polygon_of, polygon_at}
 use Rattle.polygon.proofs.reading.polygon_at.Goals as goal

@@ -1,5 +1,4 @@
 -- `reading::polygon_of` meets its contract: by the kind.
-use borrow.Author.Rules.{rules}
 use mathlib.Core.Path.{sym, ◌∙◌}
 use Rattle.polygon.specs.Polygons.{sphere_of, capsule_of, cylinder_of}
 use Rattle.polygon.proofs.KindLaws.{triangle_by_kind, box_by_kind, sphere_by_kind, capsule_by_kind, cylinder_by_kind}

@@ -1,5 +1,4 @@
 -- `reading::triangle_of` meets its contract: field by field what the calls ensure.
-use borrow.Author.Rules.{rules}
 use Rattle.base.proofs.ShortLaws.{same_short}
 use Rattle.polygon.specs.Polygons.{triangle_of}
 use Rattle.polygon.proofs.reading.triangle_of.Goals as goal

@@ -1,5 +1,4 @@
 -- `writing::box_halves` meets its contract: field by field what `half_of` ensures.
-use borrow.Author.Rules.{rules}
 use Rattle.base.proofs.ShortLaws.{same_short}
 use Rattle.polygon.specs.Polygons.{box_halves}
 use Rattle.polygon.proofs.writing.box_halves.Goals as goal

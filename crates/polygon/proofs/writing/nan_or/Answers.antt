@@ -1,5 +1,4 @@
 -- `writing::nan_or` meets its contract: what differs from itself is a NaN.
-use borrow.Author.Rules.{rules}
 use mathlib.Core.Path.{sym, ap, ◌∙◌}
 use lib.Ieee.{is_nan}
 use Rattle.float32.proofs.Patterns.{ne_self}

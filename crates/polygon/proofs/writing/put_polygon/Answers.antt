@@ -1,5 +1,4 @@
 -- `writing::put_polygon` meets its contract: what its calls ensure, one after the other.
-use borrow.Author.Rules.{rules}
 use mathlib.Core.Path.{ap, ◌∙◌}
 use lib.Seq.{sets}
 use Rattle.polygon.specs.Halves.{halves_bytes}

@@ -1,5 +1,4 @@
 -- `writing::round_halves` meets its contract: field by field what the calls ensure.
-use borrow.Author.Rules.{rules}
 use Rattle.polygon.specs.Polygons.{round_halves}
 use Rattle.polygon.proofs.writing.round_halves.Goals as goal
 

@@ -1,5 +1,4 @@
 -- `writing::triangle_halves` meets its contract: field by field what the calls ensure.
-use borrow.Author.Rules.{rules}
 use Rattle.base.proofs.ShortLaws.{same_short}
 use Rattle.polygon.specs.Polygons.{triangle_halves}
 use Rattle.polygon.proofs.writing.triangle_halves.Goals as goal

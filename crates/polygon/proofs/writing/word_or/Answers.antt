@@ -1,5 +1,4 @@
 -- `writing::word_or` meets its contract: what differs from itself is a NaN.
-use borrow.Author.Rules.{rules}
 use mathlib.Core.Path.{sym, ◌∙◌}
 use Rattle.float32.proofs.Patterns.{ne_self}
 use Rattle.polygon.specs.Polygons.{word_or}

@@ -1,5 +1,4 @@
 -- `writing::write` meets its contract: by the outcome of the check.
-use borrow.Author.Rules.{rules}
 use native.Mathlib.Omega.{arith}
 use mathlib.Core.Path.{◌∙◌}
 use borrow.Author.Tests.{lt-ltb, le-ltb}

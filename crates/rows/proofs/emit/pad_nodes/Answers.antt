@@ -3,7 +3,7 @@ use Prim.Native.Nat.{ℕ, ◌-◌, ◌*◌}
 use mathlib.Core.Path.{◌≡◌, ap, ◌∙◌}
 use lib.Seq.{sets}
 use Rattle.rows.specs.Output.{pad_bytes}
-use Rattle.rows.proofs.emit.Writing.{Padding, padding_begins, pad_next}
+use Rattle.rows.proofs.emit.Writing.{padding_begins, pad_next}
 use native.Mathlib.Omega.{arith}
 use Rattle.rows.proofs.emit.pad_nodes.Goals as goal
 

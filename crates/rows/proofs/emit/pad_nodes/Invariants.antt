@@ -1,10 +1,6 @@
 -- `emit::pad_nodes` meets its contract. The loop's invariant: the records from `from` up to i are padding.
-use Prim.Native.Nat.{ℕ, ◌-◌, ◌*◌}
-use mathlib.Core.Path.{◌≡◌, ap, ◌∙◌}
-use lib.Seq.{sets}
-use Rattle.rows.specs.Output.{pad_bytes}
-use Rattle.rows.proofs.emit.Writing.{Padding, padding_begins, pad_next}
-use native.Mathlib.Omega.{arith}
+use Prim.Native.Nat.{◌-◌}
+use Rattle.rows.proofs.emit.Writing.{Padding}
 use Rattle.rows.proofs.emit.pad_nodes.Given as goal
 
 abbrev pub invariant-loop-i : goal.invariant-loop-i

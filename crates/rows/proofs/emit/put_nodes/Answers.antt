@@ -1,16 +1,14 @@
 -- `emit::put_nodes` meets its contract. The loop's invariant: the records of the first i rows are written.
 use Rattle.base.specs.Lists.{over}
-use Prim.Native.Nat.{◌-◌}
 use mathlib.Core.Path.{refl, ap, ◌∙◌}
 use mathlib.Core.List.{List}
-use lib.ListN.{take}
 use lib.Seq.{take_all}
 use Rattle.rows.specs.Output.{nodes_bytes}
 use Rattle.rows.specs.Rows.{Row}
 use Rattle.rows.specs.Steps.Table.{rows_in}
 use Rattle.rows.proofs.SmallLaws.{small_at}
 use Rattle.rows.proofs.TableLaws.{length_rows_in}
-use Rattle.rows.proofs.emit.Writing.{Writing, row_next}
+use Rattle.rows.proofs.emit.Writing.{row_next}
 use native.Mathlib.Omega.{arith}
 use Rattle.rows.proofs.emit.put_nodes.Goals as goal
 

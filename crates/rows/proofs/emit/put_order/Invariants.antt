@@ -1,13 +1,7 @@
 -- `emit::put_order` meets its contract. The loop's invariant: the first i places are written.
-use Rattle.base.proofs.NumberLaws.{below_at}
-use Rattle.base.specs.Lists.{over}
-use Prim.Native.Nat.{ℕ, ◌-◌}
-use mathlib.Core.Path.{refl, ◌∙◌, ap}
-use mathlib.Core.List.{List}
+use Prim.Native.Nat.{◌-◌}
 use lib.ListN.{length, take}
-use lib.Seq.{take_all}
-use Rattle.rows.proofs.emit.Writing.{Writing, number_next}
-use native.Mathlib.Omega.{arith}
+use Rattle.rows.proofs.emit.Writing.{Writing}
 use Rattle.rows.proofs.emit.put_order.Given as goal
 
 abbrev pub invariant-loop-i : goal.invariant-loop-i

@@ -22,12 +22,12 @@ item_id-id-requires c =
 pub overflow_cast-result : goal.overflow_cast-result
 overflow_cast-result c =
     let row : Row = row_at c.args.rows.now c.args.i in
-    let id_is : c.item_id-id.result ≡ id_of c.args.threshold c.args.leaf_order.now row = 
-        let a = c.args in
-        let head = c.row_head.ensures in
-        let count = c.row_count-items.ensures in
-        c.item_id-id.ensures row.box
-        ∙ (λ j. id_of a.threshold a.leaf_order.now (record { box = row.box; head = head j; count = count j })) in
+    let id_is : c.item_id-id.result ≡ id_of c.args.threshold c.args.leaf_order.now row =
+    let a = c.args in
+    let head = c.row_head.ensures in
+    let count = c.row_count-items.ensures in
+    c.item_id-id.ensures row.box
+    ∙ (λ j. id_of a.threshold a.leaf_order.now (record { box = row.box; head = head j; count = count j })) in
     let small : c.item_id-id.result < 32768 = subst (λ (n : ℕ). n < 32768) (sym id_is) c.requires.1.id in
     search rules
 
@@ -35,12 +35,12 @@ pub returns : goal.returns
 unfolding node_of
 returns c =
     let row : Row = row_at c.args.rows.now c.args.i in
-    let id_is : c.item_id-id.result ≡ id_of c.args.threshold c.args.leaf_order.now row = 
-        let a = c.args in
-        let head = c.row_head.ensures in
-        let count = c.row_count-items.ensures in
-        c.item_id-id.ensures row.box
-        ∙ (λ j. id_of a.threshold a.leaf_order.now (record { box = row.box; head = head j; count = count j })) in
+    let id_is : c.item_id-id.result ≡ id_of c.args.threshold c.args.leaf_order.now row =
+    let a = c.args in
+    let head = c.row_head.ensures in
+    let count = c.row_count-items.ensures in
+    c.item_id-id.ensures row.box
+    ∙ (λ j. id_of a.threshold a.leaf_order.now (record { box = row.box; head = head j; count = count j })) in
     let s = c.args.scale in
     let small = c.requires.1 in
     let corners = c.row_box-b.ensures in

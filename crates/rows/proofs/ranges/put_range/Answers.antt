@@ -1,5 +1,4 @@
 -- `ranges::put_range` meets its contract: what `put_tree` ensures of the record that is made of the row's box and the two numbers.
-use borrow.Author.Rules.{rules}
 use Prim.Native.Nat.{ℕ, ◌<◌}
 use mathlib.Core.Path.{◌≡◌, ap, ◌∙◌}
 use lib.Seq.{sets}

@@ -1,8 +1,7 @@
 -- `ranges::put_trees` meets its contract. The loop's invariant, for every tree whose rows the table holds: after k records, at row i, the
 -- ranges yet to come are those of the rows from i on, and the others' records are written. The measure is what is left of the rows.
 use Prim.Native.Nat.{◌-◌}
-use Rattle.rows.proofs.ranges.Scanning.{Going, Turn, start, finish, table_room, pass, turn, write}
-use native.Mathlib.Omega.{arith}
+use Rattle.rows.proofs.ranges.Scanning.{Going}
 use Rattle.rows.proofs.ranges.put_trees.Given as goal
 
 abbrev pub invariant-loop-i : goal.invariant-loop-i

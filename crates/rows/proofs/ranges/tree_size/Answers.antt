@@ -1,5 +1,4 @@
 -- `ranges::tree_size` meets its contract: the three ways through it are the cases of the definition.
-use borrow.Author.Rules.{rules}
 use borrow.Author.Tests.{eq-eqb, ne_eqb}
 use native.Mathlib.Omega.{arith}
 use Rattle.rows.proofs.ranges.tree_size.Goals as goal

@@ -1,10 +1,10 @@
 -- `sizes::fill_sizes` meets its contract. The loop's invariant is `Filling`: the rows from i on are sized, the others as they were.
-use Prim.Native.Nat.{◌-◌, ◌*◌, ◌<◌}
+use Prim.Native.Nat.{◌-◌, ◌<◌}
 use mathlib.Core.Path.{◌≡◌, refl, sym, ◌∙◌}
-use lib.ListN.{length, drop}
+use lib.ListN.{length}
 use Rattle.rows.specs.Steps.Table.{row_at, rows_in}
 use Rattle.rows.proofs.TableLaws.{length_rows_in}
-use Rattle.rows.proofs.sizes.Filling.{Filling, Read, start, first_ends, read, inner_turn, leaf_turn, ended}
+use Rattle.rows.proofs.sizes.Filling.{Read, start, first_ends, read, inner_turn, leaf_turn, ended}
 use native.Mathlib.Omega.{arith}
 use Rattle.rows.proofs.sizes.fill_sizes.Goals as goal
 
@@ -35,14 +35,14 @@ node_size-r-requires c =
 pub overflow_add-l : goal.overflow_add-l
 overflow_add-l c =
     let many : length (rows_in c.args.m c.args.rows.now) ≡ c.args.m = length_rows_in c.args.m c.args.rows.now in
-    let both : Read (rows_in c.args.m c.args.rows.now) c.loop-i.i c.node_size-l.result c.node_size-r.result =     read _ _ _ _ _ many c.loop-i.invariant.0 _ _ c.node_size-l.ensures c.node_size-r.ensures in
+    let both : Read (rows_in c.args.m c.args.rows.now) c.loop-i.i c.node_size-l.result c.node_size-r.result = read _ _ _ _ _ many c.loop-i.invariant.0 _ _ c.node_size-l.ensures c.node_size-r.ensures in
     let r = both in
     omega (arith, many, c.requires)
 
 pub overflow_add-l-then-row_count-eq0 : goal.overflow_add-l-then-row_count-eq0
 overflow_add-l-then-row_count-eq0 c =
     let many : length (rows_in c.args.m c.args.rows.now) ≡ c.args.m = length_rows_in c.args.m c.args.rows.now in
-    let both : Read (rows_in c.args.m c.args.rows.now) c.loop-i.i c.node_size-l.result c.node_size-r.result =     read _ _ _ _ _ many c.loop-i.invariant.0 _ _ c.node_size-l.ensures c.node_size-r.ensures in
+    let both : Read (rows_in c.args.m c.args.rows.now) c.loop-i.i c.node_size-l.result c.node_size-r.result = read _ _ _ _ _ many c.loop-i.invariant.0 _ _ c.node_size-l.ensures c.node_size-r.ensures in
     let r = both in
     omega (arith, many, c.requires)
 
@@ -50,7 +50,7 @@ pub set_head-requires : goal.set_head-requires
 set_head-requires c =
     let many : length (rows_in c.args.m c.args.rows.now) ≡ c.args.m = length_rows_in c.args.m c.args.rows.now in
     let fits : c.loop-i.i - 1 < c.args.m = omega (arith, many, c.loop-i.invariant.0.within, c.loop-i-test.true) in
-    let both : Read (rows_in c.args.m c.args.rows.now) c.loop-i.i c.node_size-l.result c.node_size-r.result =     read _ _ _ _ _ many c.loop-i.invariant.0 _ _ c.node_size-l.ensures c.node_size-r.ensures in
+    let both : Read (rows_in c.args.m c.args.rows.now) c.loop-i.i c.node_size-l.result c.node_size-r.result = read _ _ _ _ _ many c.loop-i.invariant.0 _ _ c.node_size-l.ensures c.node_size-r.ensures in
     let r = both in
     let f = fits in
     (omega (arith, c.loop-i.invariant.1, c.requires), omega (arith, many, c.requires))
@@ -58,7 +58,7 @@ set_head-requires c =
 pub loop-i-preserved-then-row_count-eq0 : goal.loop-i-preserved-then-row_count-eq0
 loop-i-preserved-then-row_count-eq0 c =
     let many : length (rows_in c.args.m c.args.rows.now) ≡ c.args.m = length_rows_in c.args.m c.args.rows.now in
-    let both : Read (rows_in c.args.m c.args.rows.now) c.loop-i.i c.node_size-l.result c.node_size-r.result =     read _ _ _ _ _ many c.loop-i.invariant.0 _ _ c.node_size-l.ensures c.node_size-r.ensures in
+    let both : Read (rows_in c.args.m c.args.rows.now) c.loop-i.i c.node_size-l.result c.node_size-r.result = read _ _ _ _ _ many c.loop-i.invariant.0 _ _ c.node_size-l.ensures c.node_size-r.ensures in
     let l = c.loop-i in
     let inner = sym c.row_count.ensures ∙ c.if-row_count-eq0.true in (
       rw c.set_head.ensures

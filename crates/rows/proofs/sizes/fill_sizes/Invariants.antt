@@ -1,11 +1,9 @@
 -- `sizes::fill_sizes` meets its contract. The loop's invariant is `Filling`: the rows from i on are sized, the others as they were.
-use Prim.Native.Nat.{◌-◌, ◌*◌, ◌<◌}
-use mathlib.Core.Path.{◌≡◌, refl, sym, ◌∙◌}
+use Prim.Native.Nat.{◌*◌}
+use mathlib.Core.Path.{◌≡◌}
 use lib.ListN.{length, drop}
-use Rattle.rows.specs.Steps.Table.{row_at, rows_in}
-use Rattle.rows.proofs.TableLaws.{length_rows_in}
-use Rattle.rows.proofs.sizes.Filling.{Filling, Read, start, first_ends, read, inner_turn, leaf_turn, ended}
-use native.Mathlib.Omega.{arith}
+use Rattle.rows.specs.Steps.Table.{rows_in}
+use Rattle.rows.proofs.sizes.Filling.{Filling}
 use Rattle.rows.proofs.sizes.fill_sizes.Given as goal
 
 abbrev pub invariant-loop-i : goal.invariant-loop-i

@@ -1,5 +1,4 @@
 -- `sizes::node_size` meets its contract: a row of the table or none, a leaf or not.
-use borrow.Author.Rules.{rules}
 use Prim.Native.Nat.{ℕ, ◌<◌}
 use mathlib.Core.Bool.{cond}
 use mathlib.Core.List.{List}

@@ -1,5 +1,4 @@
 -- `rows::put_row` meets its contract: the box, and the two words behind it, are one run of stores.
-use borrow.Author.Rules.{rules}
 use Prim.Native.Nat.{suc, ◌+◌, ◌*◌}
 use mathlib.Core.List.{[], ◌∷◌}
 use mathlib.Core.Path.{◌≡◌, refl}

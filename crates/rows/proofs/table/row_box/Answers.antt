@@ -1,5 +1,4 @@
 -- `rows::row_box` meets its contract: six reads in a row, the max three words after the min.
-use borrow.Author.Rules.{rules}
 use Prim.Native.Nat.{◌+◌, ◌*◌}
 use mathlib.Core.Path.{◌≡◌}
 use native.Mathlib.Omega.{arith}
