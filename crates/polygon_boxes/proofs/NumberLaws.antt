@@ -1,7 +1,7 @@
 -- The extremes of words that are no NaN's, by their floats: the float that is chosen is no NaN, and its word is the one that is chosen.
 use Prim.Native.Nat.{ℕ, ◌<◌}
 use mathlib.Core.Path.{◌≡◌, refl, sym, ap, ap₂, subst, ◌∙◌}
-use mathlib.Core.Bool.{Bool, true, false, not, cond, ◌&&◌, ◌||◌, true≢false}
+use mathlib.Core.Bool.{Bool, true, false, not, cond, ◌&&◌, true≢false}
 use lib.Dec.{T}
 use lib.Ieee.{Float, binary32, of_bits, to_bits, is_nan, lt}
 use lib.Ieee.Bits.{to_bits-of_bits, nan_bits_is}

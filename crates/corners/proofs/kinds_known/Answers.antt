@@ -1,7 +1,6 @@
 -- `corners::kinds_known` meets its contract. The invariant: the kinds of i records are known.
-use mathlib.Core.Bool.{true}
 use mathlib.Core.Path.{◌≡◌, refl, sym, ap, ◌∙◌}
-use Prim.Native.Nat.{ℕ, ◌*◌, ◌-◌, ◌≤◌, ◌<◌}
+use Prim.Native.Nat.{ℕ, ◌*◌, ◌≤◌, ◌<◌}
 use Rattle.polygon.specs.Polygons.{kind_at}
 use Rattle.corners.specs.Corners.{kinds_known}
 use Rattle.corners.proofs.CornerLaws.{known_more, unknown_among}

@@ -1,12 +1,8 @@
 -- `corners::kinds_known` meets its contract. The invariant: the kinds of i records are known.
 use mathlib.Core.Bool.{true}
-use mathlib.Core.Path.{◌≡◌, refl, sym, ap, ◌∙◌}
-use Prim.Native.Nat.{ℕ, ◌*◌, ◌-◌, ◌≤◌, ◌<◌}
-use Rattle.polygon.specs.Polygons.{kind_at}
+use mathlib.Core.Path.{◌≡◌}
+use Prim.Native.Nat.{◌-◌, ◌≤◌}
 use Rattle.corners.specs.Corners.{kinds_known}
-use Rattle.corners.proofs.CornerLaws.{known_more, unknown_among}
-use native.Mathlib.Omega.{arith}
-use borrow.Author.Rules.{rules}
 use Rattle.corners.proofs.kinds_known.Given as goal
 
 abbrev pub invariant-loop-i : goal.invariant-loop-i

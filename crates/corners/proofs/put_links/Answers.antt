@@ -1,7 +1,6 @@
 -- `corners::put_links` meets its contract. The invariant: the links of i polygons are stored, and all else is as it was.
-use lib.ListN.{length}
 use mathlib.Core.Path.{◌≡◌, refl, ap, ◌∙◌}
-use Prim.Native.Nat.{ℕ, ◌-◌, ◌≤◌}
+use Prim.Native.Nat.{ℕ}
 use Rattle.base.specs.Lists.{over}
 use Rattle.corners.specs.Corners.{linked_records, links_put}
 use Rattle.corners.proofs.CornerLaws.{links_next}

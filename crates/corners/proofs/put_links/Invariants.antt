@@ -1,12 +1,9 @@
 -- `corners::put_links` meets its contract. The invariant: the links of i polygons are stored, and all else is as it was.
 use lib.ListN.{length}
-use mathlib.Core.Path.{◌≡◌, refl, ap, ◌∙◌}
-use Prim.Native.Nat.{ℕ, ◌-◌, ◌≤◌}
+use mathlib.Core.Path.{◌≡◌}
+use Prim.Native.Nat.{◌-◌, ◌≤◌}
 use Rattle.base.specs.Lists.{over}
-use Rattle.corners.specs.Corners.{linked_records, links_put}
-use Rattle.corners.proofs.CornerLaws.{links_next}
-use native.Mathlib.Omega.{arith}
-use borrow.Author.Rules.{rules}
+use Rattle.corners.specs.Corners.{linked_records}
 use Rattle.corners.proofs.put_links.Given as goal
 
 abbrev pub invariant-loop-i : goal.invariant-loop-i

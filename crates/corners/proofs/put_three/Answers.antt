@@ -1,5 +1,4 @@
 -- `corners::put_three` meets its contract: three runs of two stores, each from where the last one ended, are one run.
-use borrow.Author.Rules.{rules}
 use mathlib.Core.List.{◌++◌}
 use Prim.Native.Nat.{◌+◌, ◌*◌}
 use lib.ListN.{get_or}

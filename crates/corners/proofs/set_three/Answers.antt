@@ -1,5 +1,4 @@
 -- `corners::set_three` meets its contract: three stores in a row are a run.
-use borrow.Author.Rules.{rules}
 use lib.ListN.{length-set}
 use Rattle.corners.proofs.CornerLaws.{three_set}
 use native.Mathlib.Omega.{arith}

@@ -1,11 +1,8 @@
 -- `corners::unpack_corners` meets its contract. The invariant: the corners of i polygons are stored, and the rest is as it was.
-use mathlib.Core.Path.{◌≡◌, refl, ap, ◌∙◌}
-use Prim.Native.Nat.{ℕ, ◌-◌, ◌≤◌}
+use mathlib.Core.Path.{◌≡◌}
+use Prim.Native.Nat.{◌-◌, ◌≤◌}
 use Rattle.base.specs.Lists.{over}
 use Rattle.corners.specs.Corners.{corners_of}
-use Rattle.corners.proofs.CornerLaws.{corners_next}
-use native.Mathlib.Omega.{arith}
-use borrow.Author.Rules.{rules}
 use lib.ListN.{length}
 use Rattle.corners.proofs.unpack_corners.Given as goal
 

@@ -1,5 +1,4 @@
 -- `corners::unpack_one` meets its contract: by the kind.
-use borrow.Author.Rules.{rules}
 use mathlib.Core.Path.{sym, ◌∙◌}
 use borrow.Author.Tests.{eq-eqb, ne_eqb}
 use Rattle.corners.specs.Corners.{corners_at}

@@ -1,5 +1,4 @@
 -- `four_box` meets its contract: either way makes the same box.
-use borrow.Author.Rules.{rules}
 use Rattle.polygon_boxes.proofs.four_box.Goals as goal
 
 pub number_box_4-requires : goal.number_box_4-requires

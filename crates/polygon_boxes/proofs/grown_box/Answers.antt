@@ -1,5 +1,4 @@
 -- `grown_box` meets its contract: what its calls ensure, one after the other.
-use borrow.Author.Rules.{rules}
 use mathlib.Core.Path.{ap, ◌∙◌}
 use Rattle.math.specs.Stored.{bits_of}
 use Rattle.polygon_boxes.specs.Boxes.{grown_box}

@@ -1,5 +1,4 @@
 -- `near_words` meets its contract: the vertex is there, so its three words are.
-use borrow.Author.Rules.{rules}
 use Prim.Native.Nat.{◌/◌, ◌<◌}
 use lib.ListN.{length}
 use borrow.Author.Tests.{lt-ltb}

@@ -1,5 +1,4 @@
 -- `number_box`: on each axis the extremes of three words that are no NaN's.
-use borrow.Author.Rules.{rules}
 use Rattle.polygon_boxes.specs.Boxes.{three_box}
 use Rattle.polygon_boxes.proofs.number_box.Goals as goal
 

@@ -1,5 +1,4 @@
 -- `number_box_4`: on each axis the extremes of four words that are no NaN's.
-use borrow.Author.Rules.{rules}
 use Rattle.polygon_boxes.specs.Boxes.{four_box}
 use Rattle.polygon_boxes.proofs.number_box_4.Goals as goal
 

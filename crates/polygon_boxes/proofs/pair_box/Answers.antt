@@ -1,5 +1,4 @@
 -- `pair_box` meets its contract: what its calls ensure, one after the other.
-use borrow.Author.Rules.{rules}
 use mathlib.Core.Path.{ap₂, ◌∙◌}
 use Rattle.math.specs.Vec3s.{vmin3_of, vmax3_of}
 use Rattle.math.specs.declared.vec3.Vec3.{Vec3}

@@ -1,5 +1,4 @@
 -- `three_box` meets its contract: either way makes the same box.
-use borrow.Author.Rules.{rules}
 use Rattle.polygon_boxes.proofs.three_box.Goals as goal
 
 pub number_box-requires : goal.number_box-requires

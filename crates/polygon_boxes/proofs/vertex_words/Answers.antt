@@ -1,5 +1,4 @@
 -- `vertex_words` meets its contract: a vertex is there where its three words are.
-use borrow.Author.Rules.{rules}
 use Prim.Native.Nat.{◌/◌, ◌≤◌}
 use lib.ListN.{length}
 use borrow.Author.Tests.{le-ltb}

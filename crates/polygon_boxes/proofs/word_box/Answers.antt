@@ -1,5 +1,4 @@
 -- `word_box` meets its contract: what its calls ensure, one after the other.
-use borrow.Author.Rules.{rules}
 use mathlib.Core.Path.{ap, ◌∙◌}
 use Rattle.math.specs.Stored.{vmin_words_of, vmax_words_of}
 use Rattle.math.specs.declared.words3.Words3.{Words3}

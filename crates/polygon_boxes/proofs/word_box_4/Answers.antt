@@ -1,5 +1,4 @@
 -- `word_box_4` meets its contract: what its calls ensure, one after the other.
-use borrow.Author.Rules.{rules}
 use mathlib.Core.Path.{ap, ◌∙◌}
 use Rattle.math.specs.Stored.{vmin_words_of, vmax_words_of}
 use Rattle.polygon_boxes.specs.Boxes.{three_box, four_box}

@@ -1,5 +1,4 @@
 -- `kinds::box_box`: what its calls ensure, on the short way and on the long one.
-use borrow.Author.Rules.{rules}
 use Rattle.polygon_boxes.proofs.kinds.box_box.Goals as goal
 
 pub near_words-a-requires : goal.near_words-a-requires

@@ -1,5 +1,4 @@
 -- `kinds::triangle_box`: what its calls ensure.
-use borrow.Author.Rules.{rules}
 use Rattle.polygon_boxes.proofs.kinds.triangle_box.Goals as goal
 
 pub returns : goal.returns

@@ -1,5 +1,4 @@
 -- `numbers::all_four`: each test says so of its words.
-use borrow.Author.Rules.{rules}
 use Rattle.polygon_boxes.proofs.NumberLaws.{both_true}
 use Rattle.polygon_boxes.proofs.numbers.all_four.Goals as goal
 

@@ -1,5 +1,4 @@
 -- `numbers::all_three`: each test says so of its words.
-use borrow.Author.Rules.{rules}
 use Rattle.polygon_boxes.proofs.NumberLaws.{three_true}
 use Rattle.polygon_boxes.proofs.numbers.all_three.Goals as goal
 

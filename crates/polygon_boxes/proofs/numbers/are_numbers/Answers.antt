@@ -1,5 +1,4 @@
 -- `are_numbers`: each test says so of its word.
-use borrow.Author.Rules.{rules}
 use Rattle.polygon_boxes.proofs.NumberLaws.{three_true}
 use Rattle.polygon_boxes.proofs.numbers.are_numbers.Goals as goal
 

@@ -1,5 +1,4 @@
 -- `high4`: the greater of numbers, by their floats.
-use borrow.Author.Rules.{rules}
 use Rattle.float32.proofs.Patterns.{no_nan}
 use Rattle.polygon_boxes.proofs.NumberLaws.{of_word, of_max, no_nan_by, word_by}
 use native.Mathlib.Omega.{arith}

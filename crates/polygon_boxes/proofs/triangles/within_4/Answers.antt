@@ -1,5 +1,4 @@
 -- `triangles::within_4`: none of the four is above the greatest.
-use borrow.Author.Rules.{rules}
 use Prim.Native.Nat.{◌+◌, ◌*◌}
 use borrow.Author.Tests.{leb-true}
 use native.Mathlib.Omega.{arith}

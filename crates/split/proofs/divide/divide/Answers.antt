@@ -1,5 +1,4 @@
 -- `divide::divide` meets its contract: what the calls ensure, and the first group begins as the places do, as far as they stand.
-use borrow.Author.Rules.{rules}
 use native.Mathlib.Omega.{arith}
 use Prim.Native.Nat.{ℕ}
 use mathlib.Core.List.{List}

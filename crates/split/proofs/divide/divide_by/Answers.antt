@@ -1,5 +1,4 @@
 -- `divide::divide_by` meets its contract: each step by what its call ensures, and the steps by the rule's laws.
-use borrow.Author.Rules.{rules}
 use native.Mathlib.Omega.{arith}
 use Prim.Native.Nat.{ℕ}
 use mathlib.Core.Path.{subst, ap}
@@ -33,14 +32,14 @@ pub settle-requires : goal.settle-requires
 settle-requires c =
     let boxes-of : ℕ → BoxWords = box_at c.args.entries.now in
     let places_of : List ℕ = c.args.places.now in
-    let Units : (ℕ → Bool) → Type 0 = λ test. 
-        LeaderFirst boxes-of (sift test places_of) (sift (λ p. not (test p)) places_of)
-        c.part-g.new.places c.part-g.result.first in
-    let united : Units (chosen boxes-of places_of) = 
-        let axis = c.choose_axis-axis in
-        let counts = c.count_below-counts in
-        let test = chosen_by boxes-of places_of c.args.avg counts.result axis.result c.requires.4 counts.ensures axis.ensures in
-        subst (λ (t : ℕ → Bool). Units t) test c.part-g.ensures.0 in
+    let Units : (ℕ → Bool) → Type 0 = λ test.
+    LeaderFirst boxes-of (sift test places_of) (sift (λ p. not (test p)) places_of)
+    c.part-g.new.places c.part-g.result.first in
+    let united : Units (chosen boxes-of places_of) =
+    let axis = c.choose_axis-axis in
+    let counts = c.count_below-counts in
+    let test = chosen_by boxes-of places_of c.args.avg counts.result axis.result c.requires.4 counts.ensures axis.ensures in
+    subst (λ (t : ℕ → Bool). Units t) test c.part-g.ensures.0 in
     let kept = c.part-g.auto in
     let test = chosen boxes-of places_of in (
       omega (arith, kept.places, kept.temp, c.requires.2),
@@ -52,14 +51,14 @@ pub returns : goal.returns
 returns c =
     let boxes-of : ℕ → BoxWords = box_at c.args.entries.now in
     let places_of : List ℕ = c.args.places.now in
-    let Units : (ℕ → Bool) → Type 0 = λ test. 
-        LeaderFirst boxes-of (sift test places_of) (sift (λ p. not (test p)) places_of)
-        c.part-g.new.places c.part-g.result.first in
-    let united : Units (chosen boxes-of places_of) = 
-        let axis = c.choose_axis-axis in
-        let counts = c.count_below-counts in
-        let test = chosen_by boxes-of places_of c.args.avg counts.result axis.result c.requires.4 counts.ensures axis.ensures in
-        subst (λ (t : ℕ → Bool). Units t) test c.part-g.ensures.0 in
+    let Units : (ℕ → Bool) → Type 0 = λ test.
+    LeaderFirst boxes-of (sift test places_of) (sift (λ p. not (test p)) places_of)
+    c.part-g.new.places c.part-g.result.first in
+    let united : Units (chosen boxes-of places_of) =
+    let axis = c.choose_axis-axis in
+    let counts = c.count_below-counts in
+    let test = chosen_by boxes-of places_of c.args.avg counts.result axis.result c.requires.4 counts.ensures axis.ensures in
+    subst (λ (t : ℕ → Bool). Units t) test c.part-g.ensures.0 in
     let s = c.settle in
     let e = c.unsorted-same in
     let at = boxes-of in

@@ -1,5 +1,4 @@
 -- `divide::settle` meets its contract: as it was where the first group has not all, else sorted, and its halves united.
-use borrow.Author.Rules.{rules}
 use native.Mathlib.Omega.{arith}
 use Prim.Native.Nat.{ℕ, ◌≤◌}
 use mathlib.Core.Path.{◌≡◌, refl, sym, subst}

@@ -1,11 +1,9 @@
 -- `groups::choose_axis` meets its contract: each answer is the one that the definition picks by the same tests.
-use borrow.Author.Rules.{rules}
 use native.Mathlib.Omega.{arith}
 use Rattle.std.proofs.lemmas.Bool.Decides.{nat_tests}
 use borrow.Author.Tests.{le-leb, lt-leb}
 use mathlib.Core.Path.{◌≡◌}
-use mathlib.Core.Logic.{⊎_elim}
-use mathlib.Core.Bool.{false, ◌&&◌, and-false}
+use mathlib.Core.Bool.{false, ◌&&◌}
 use lib.Dec.{leb}
 use Rattle.split.specs.Rule.{nearest_axis}
 use Rattle.split.specs.Steps.Groups.{axis_by}

@@ -1,7 +1,6 @@
 -- `groups::count_below` meets its contract. The loop's invariant: the counts of the rest added to those so far are the whole counts.
 use native.Mathlib.Omega.{arith}
-use borrow.Author.Rules.{rules}
-use Prim.Native.Nat.{◌+◌, ◌-◌, ◌≤◌}
+use Prim.Native.Nat.{◌+◌, ◌≤◌}
 use mathlib.Core.Path.{◌≡◌, ap, ◌∙◌}
 use lib.ListN.{length, get_or, drop}
 use lib.Ieee.{lt, neg}
@@ -11,7 +10,7 @@ use Rattle.entries.specs.declared.average.Lanes.{Lanes}
 use Rattle.entries.specs.Boxes.{box_at}
 use Rattle.split.specs.Rule.{below, above}
 use Rattle.split.specs.Steps.Groups.{count_more}
-use Rattle.entries.proofs.Places.{Pass, begin, taken, finished, next_within}
+use Rattle.entries.proofs.Places.{begin, taken, finished, next_within}
 use Rattle.split.proofs.LaneLaws.{lane_above}
 use Rattle.split.proofs.Counting.{onto, none, onto_more, onto_none, none_onto, small}
 use Rattle.split.proofs.groups.count_below.Goals as goal
@@ -28,30 +27,30 @@ centre_at-c-requires c =
 
 pub overflow_add-counts : goal.overflow_add-counts
 overflow_add-counts c =
-    let few : let n = c.loop-i.counts in let m = length c.args.places.now in (n.x ≤ m) × (n.y ≤ m) × (n.z ≤ m) × (n.over ≤ m) = 
-        let g = c.args in
-        small (box_at g.entries.now) g.avg _ g.places.now _ _ c.loop-i.invariant in
+    let few : let n = c.loop-i.counts in let m = length c.args.places.now in (n.x ≤ m) × (n.y ≤ m) × (n.z ≤ m) × (n.over ≤ m) =
+    let g = c.args in
+    small (box_at g.entries.now) g.avg _ g.places.now _ _ c.loop-i.invariant in
     omega (arith, c.one_if_below.ensures.1, few.0)
 
 pub overflow_add-counts-in-loop-i : goal.overflow_add-counts-in-loop-i
 overflow_add-counts-in-loop-i c =
-    let few : let n = c.loop-i.counts in let m = length c.args.places.now in (n.x ≤ m) × (n.y ≤ m) × (n.z ≤ m) × (n.over ≤ m) = 
-        let g = c.args in
-        small (box_at g.entries.now) g.avg _ g.places.now _ _ c.loop-i.invariant in
+    let few : let n = c.loop-i.counts in let m = length c.args.places.now in (n.x ≤ m) × (n.y ≤ m) × (n.z ≤ m) × (n.over ≤ m) =
+    let g = c.args in
+    small (box_at g.entries.now) g.avg _ g.places.now _ _ c.loop-i.invariant in
     omega (arith, c.one_if_below-in-loop-i.ensures.1, few.1)
 
 pub overflow_add-counts-in-loop-i-2 : goal.overflow_add-counts-in-loop-i-2
 overflow_add-counts-in-loop-i-2 c =
-    let few : let n = c.loop-i.counts in let m = length c.args.places.now in (n.x ≤ m) × (n.y ≤ m) × (n.z ≤ m) × (n.over ≤ m) = 
-        let g = c.args in
-        small (box_at g.entries.now) g.avg _ g.places.now _ _ c.loop-i.invariant in
+    let few : let n = c.loop-i.counts in let m = length c.args.places.now in (n.x ≤ m) × (n.y ≤ m) × (n.z ≤ m) × (n.over ≤ m) =
+    let g = c.args in
+    small (box_at g.entries.now) g.avg _ g.places.now _ _ c.loop-i.invariant in
     omega (arith, c.one_if_below-in-loop-i-2.ensures.1, few.2)
 
 pub overflow_add-counts-in-loop-i-3 : goal.overflow_add-counts-in-loop-i-3
 overflow_add-counts-in-loop-i-3 c =
-    let few : let n = c.loop-i.counts in let m = length c.args.places.now in (n.x ≤ m) × (n.y ≤ m) × (n.z ≤ m) × (n.over ≤ m) = 
-        let g = c.args in
-        small (box_at g.entries.now) g.avg _ g.places.now _ _ c.loop-i.invariant in
+    let few : let n = c.loop-i.counts in let m = length c.args.places.now in (n.x ≤ m) × (n.y ≤ m) × (n.z ≤ m) × (n.over ≤ m) =
+    let g = c.args in
+    small (box_at g.entries.now) g.avg _ g.places.now _ _ c.loop-i.invariant in
     omega (arith, c.one_if_below-in-loop-i-3.ensures.1, few.3)
 
 pub loop-i-preserved : goal.loop-i-preserved

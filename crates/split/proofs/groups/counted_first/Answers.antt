@@ -1,5 +1,4 @@
 -- `groups::counted_first` meets its contract: on x as many are above as stand before the others.
-use borrow.Author.Rules.{rules}
 use native.Mathlib.Omega.{arith}
 use mathlib.Core.Path.{ap, sym, ◌∙◌}
 use mathlib.Core.Bool.{false≢true}

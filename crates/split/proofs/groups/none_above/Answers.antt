@@ -1,11 +1,10 @@
 -- `groups::none_above` meets its contract: none before i passes.
 use borrow.Author.Count.{below_more}
-use borrow.Author.Rules.{rules}
 use native.Mathlib.Omega.{arith}
-use Prim.Native.Nat.{ℕ, ◌-◌, ◌≤◌, ◌<◌}
-use mathlib.Core.Path.{◌≡◌, refl, subst}
-use mathlib.Core.Bool.{Bool, true, false, false≢true}
-use lib.ListN.{length, get_or}
+use Prim.Native.Nat.{ℕ}
+use mathlib.Core.Path.{◌≡◌, subst}
+use mathlib.Core.Bool.{Bool, false, false≢true}
+use lib.ListN.{get_or}
 use Rattle.base.proofs.WithinLaws.{within_at}
 use Rattle.split.specs.Steps.Groups.{passes}
 use Rattle.split.proofs.Counted.{none_if}

@@ -1,6 +1,5 @@
 -- `groups::part` meets its contract: where none is above all are in the second group, else the groups are parted and united.
 use native.Mathlib.Omega.{arith}
-use borrow.Author.Rules.{rules}
 use Prim.Native.Nat.{ℕ}
 use mathlib.Core.Bool.{Bool, not}
 use mathlib.Core.List.{List}
@@ -13,8 +12,7 @@ use Rattle.split.proofs.groups.part.Goals as goal
 
 pub returns-then-seen_none_above : goal.returns-then-seen_none_above
 returns-then-seen_none_above c =
-    let test_of : ℕ → Bool = above (box_at c.args.entries.now) c.args.avg c.args.axis in
-    (
+    let test_of : ℕ → Bool = above (box_at c.args.entries.now) c.args.avg c.args.axis in (
       nowhere_united _ c.args.places.now test_of c.requires.0 (c.seen_none_above.ensures c.if-seen_none_above.true),
       none_same c.args.places.now _ _,
     )

@@ -1,15 +1,13 @@
 -- `groups::partition` meets its contract. The loop's invariant: what is stored so far, followed by what the rest gives, is the whole of each group.
 use native.Mathlib.Omega.{arith}
-use borrow.Author.Rules.{rules}
-use Prim.Native.Nat.{ℕ, ◌-◌}
+use Prim.Native.Nat.{ℕ}
 use mathlib.Core.Bool.{Bool}
 use mathlib.Core.Path.{subst, sym}
 use lib.ListN.{get_or}
 use Rattle.base.proofs.WithinLaws.{within_at}
 use Rattle.base.proofs.ListLaws.{one_or_none}
-use Rattle.split.specs.Rule.{above}
 use Rattle.split.specs.Steps.Groups.{passes, Leading}
-use Rattle.split.proofs.Parting.{Parting, begin, next_same, turn, parted, passes_above, step_small}
+use Rattle.split.proofs.Parting.{begin, next_same, turn, parted, passes_above, step_small}
 use Rattle.split.proofs.groups.partition.Goals as goal
 
 pub loop-i-init : goal.loop-i-init

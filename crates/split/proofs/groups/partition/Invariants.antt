@@ -1,15 +1,7 @@
 -- `groups::partition` meets its contract. The loop's invariant: what is stored so far, followed by what the rest gives, is the whole of each group.
-use native.Mathlib.Omega.{arith}
-use borrow.Author.Rules.{rules}
-use Prim.Native.Nat.{ℕ, ◌-◌}
-use mathlib.Core.Bool.{Bool}
-use mathlib.Core.Path.{subst, sym}
-use lib.ListN.{get_or}
-use Rattle.base.proofs.WithinLaws.{within_at}
-use Rattle.base.proofs.ListLaws.{one_or_none}
-use Rattle.split.specs.Rule.{above}
-use Rattle.split.specs.Steps.Groups.{passes, Leading}
-use Rattle.split.proofs.Parting.{Parting, begin, next_same, turn, parted, passes_above, step_small}
+use Prim.Native.Nat.{◌-◌}
+use Rattle.split.specs.Steps.Groups.{passes}
+use Rattle.split.proofs.Parting.{Parting}
 use Rattle.split.proofs.groups.partition.Given as goal
 
 abbrev pub invariant-loop-i : goal.invariant-loop-i

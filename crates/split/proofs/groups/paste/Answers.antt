@@ -1,10 +1,9 @@
 -- `groups::paste` meets its contract. The loop's invariant: the first j places are copied.
 use native.Mathlib.Omega.{arith}
-use Prim.Native.Nat.{◌-◌, ◌≤◌}
 use native.Mathlib.Numerals.{add-one}
 use mathlib.Core.Path.{◌≡◌, refl}
-use lib.ListN.{length, length-set}
-use lib.Seq.{paste, paste-zero, paste-suc}
+use lib.ListN.{length-set}
+use lib.Seq.{paste-zero, paste-suc}
 use Rattle.split.proofs.groups.paste.Goals as goal
 
 pub loop-j-init : goal.loop-j-init

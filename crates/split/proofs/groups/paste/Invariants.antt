@@ -1,10 +1,8 @@
 -- `groups::paste` meets its contract. The loop's invariant: the first j places are copied.
-use native.Mathlib.Omega.{arith}
 use Prim.Native.Nat.{◌-◌, ◌≤◌}
-use native.Mathlib.Numerals.{add-one}
-use mathlib.Core.Path.{◌≡◌, refl}
-use lib.ListN.{length, length-set}
-use lib.Seq.{paste, paste-zero, paste-suc}
+use mathlib.Core.Path.{◌≡◌}
+use lib.ListN.{length}
+use lib.Seq.{paste}
 use Rattle.split.proofs.groups.paste.Given as goal
 
 abbrev pub invariant-loop-j : goal.invariant-loop-j

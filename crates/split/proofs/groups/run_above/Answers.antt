@@ -1,11 +1,10 @@
 -- `groups::run_above` meets its contract: all before i pass.
 use borrow.Author.Count.{below_more}
-use borrow.Author.Rules.{rules}
 use native.Mathlib.Omega.{arith}
-use Prim.Native.Nat.{ℕ, ◌-◌}
+use Prim.Native.Nat.{ℕ}
 use mathlib.Core.Path.{subst}
 use mathlib.Core.Bool.{Bool}
-use lib.ListN.{length, get_or}
+use lib.ListN.{get_or}
 use Rattle.base.proofs.WithinLaws.{within_at}
 use Rattle.entries.specs.Boxes.{box_at}
 use Rattle.split.specs.Rule.{above}
@@ -28,12 +27,12 @@ one_if_above-requires c =
 
 pub returns-then-one_if_above-lt1 : goal.returns-then-one_if_above-lt1
 returns-then-one_if_above-lt1 c =
-    let leading : (r : ℕ) → let g = c.args in Leading (passes g.entries.now c.step_of-step.result c.coordinate-cut.result) g.places.now r → Leading (above (box_at g.entries.now) g.avg g.axis) g.places.now r = λ r w. 
-        let g = c.args in
-        let step = c.step_of-step in
-        let cut = c.coordinate-cut in
-        let e = passes_above g.entries.now g.avg g.axis step.result cut.result step.ensures cut.ensures in
-        subst (λ (test : ℕ → Bool). Leading test g.places.now r) e w in
+    let leading : (r : ℕ) → let g = c.args in Leading (passes g.entries.now c.step_of-step.result c.coordinate-cut.result) g.places.now r → Leading (above (box_at g.entries.now) g.avg g.axis) g.places.now r = λ r w.
+    let g = c.args in
+    let step = c.step_of-step in
+    let cut = c.coordinate-cut in
+    let e = passes_above g.entries.now g.avg g.axis step.result cut.result step.ensures cut.ensures in
+    subst (λ (test : ℕ → Bool). Leading test g.places.now r) e w in
     leading c.loop-i.i c.loop-i.invariant
 
 pub loop-i-preserved : goal.loop-i-preserved
@@ -48,10 +47,10 @@ loop-i-preserved c =
 
 pub returns : goal.returns
 returns c =
-    let leading : (r : ℕ) → let g = c.args in Leading (passes g.entries.now c.step_of-step.result c.coordinate-cut.result) g.places.now r → Leading (above (box_at g.entries.now) g.avg g.axis) g.places.now r = λ r w. 
-        let g = c.args in
-        let step = c.step_of-step in
-        let cut = c.coordinate-cut in
-        let e = passes_above g.entries.now g.avg g.axis step.result cut.result step.ensures cut.ensures in
-        subst (λ (test : ℕ → Bool). Leading test g.places.now r) e w in
+    let leading : (r : ℕ) → let g = c.args in Leading (passes g.entries.now c.step_of-step.result c.coordinate-cut.result) g.places.now r → Leading (above (box_at g.entries.now) g.avg g.axis) g.places.now r = λ r w.
+    let g = c.args in
+    let step = c.step_of-step in
+    let cut = c.coordinate-cut in
+    let e = passes_above g.entries.now g.avg g.axis step.result cut.result step.ensures cut.ensures in
+    subst (λ (test : ℕ → Bool). Leading test g.places.now r) e w in
     leading c.loop-i.i c.loop-i.invariant

@@ -1,5 +1,4 @@
 -- `groups::seen_above` meets its contract: by the count, else by a look at the first places; none is claimed where nobody looks.
-use borrow.Author.Rules.{rules}
 use native.Mathlib.Omega.{arith}
 use Rattle.split.proofs.groups.seen_above.Goals as goal
 

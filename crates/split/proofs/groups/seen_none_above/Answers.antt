@@ -1,6 +1,4 @@
 -- `groups::seen_none_above` meets its contract: on x by the count, else it says so only where `none_above` does.
-use borrow.Author.Rules.{rules}
-use native.Mathlib.Omega.{arith}
 use borrow.Author.Tests.{eqb-true}
 use mathlib.Core.Path.{ap, sym, ◌∙◌}
 use mathlib.Core.Bool.{false≢true}

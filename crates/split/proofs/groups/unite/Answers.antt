@@ -1,5 +1,4 @@
 -- `groups::unite` meets its contract: what the copies ensure, by whether group two leads.
-use borrow.Author.Rules.{rules}
 use native.Mathlib.Omega.{arith}
 use Prim.Native.Nat.{ℕ, ◌-◌}
 use mathlib.Core.Path.{◌≡◌, sym, ◌∙◌}
@@ -17,7 +16,7 @@ returns-then-two_leads c at =
     let group-two : List ℕ = take (length c.args.places.now - c.args.k) c.args.temp.now in
     let size-one : length group-one ≡ c.args.k = length-take-le c.args.k c.args.places.now c.requires.1 in
     let size-two : length group-two ≡ length c.args.places.now - c.args.k = length-take-le (length c.args.places.now - c.args.k) c.args.temp.now (omega (arith, c.requires.0)) in
-    let test-is : (at : ℕ → BoxWords) → c.two_leads.result ≡ two_leads at group-one group-two = λ at.     c.two_leads.ensures at group-one group-two (sym size-one) (sym size-two) in
+    let test-is : (at : ℕ → BoxWords) → c.two_leads.result ≡ two_leads at group-one group-two = λ at. c.two_leads.ensures at group-one group-two (sym size-one) (sym size-two) in
     let s = c.args in
     let e = sym (test-is at) ∙ c.if-two_leads.true in
     record {
@@ -33,7 +32,7 @@ returns c at =
     let group-two : List ℕ = take (length c.args.places.now - c.args.k) c.args.temp.now in
     let size-one : length group-one ≡ c.args.k = length-take-le c.args.k c.args.places.now c.requires.1 in
     let size-two : length group-two ≡ length c.args.places.now - c.args.k = length-take-le (length c.args.places.now - c.args.k) c.args.temp.now (omega (arith, c.requires.0)) in
-    let test-is : (at : ℕ → BoxWords) → c.two_leads.result ≡ two_leads at group-one group-two = λ at.     c.two_leads.ensures at group-one group-two (sym size-one) (sym size-two) in
+    let test-is : (at : ℕ → BoxWords) → c.two_leads.result ≡ two_leads at group-one group-two = λ at. c.two_leads.ensures at group-one group-two (sym size-one) (sym size-two) in
     let s = c.args in
     let e = sym (test-is at) ∙ c.if-two_leads.false in
     record {

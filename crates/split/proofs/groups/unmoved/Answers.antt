@@ -1,5 +1,4 @@
 -- `groups::unmoved` meets its contract: each arm by whether group two leads.
-use borrow.Author.Rules.{rules}
 use Prim.Native.Nat.{ℕ}
 use mathlib.Core.Bool.{Bool, cond}
 use mathlib.Core.Path.{sym, ap, ◌∙◌}
