@@ -12,7 +12,7 @@ use borrow.Author.Tests.{lt-ltb, le-ltb, ltb-false}
 use Rattle.base.specs.Lists.{over}
 use Rattle.base.proofs.StoreLaws.{over_next}
 use Rattle.base.proofs.Truth.{neither}
-use Rattle.corners.specs.Corners.{in_turn, kinds_known}
+use Rattle.corners.specs.Corners.{kinds_known}
 use Rattle.corners.proofs.CornerLaws.{length_in_turn}
 use Rattle.polygon.specs.Polygons.{polygon_at}
 use Rattle.polygon.specs.Polygons.{triangle_of}

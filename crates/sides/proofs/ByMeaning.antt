@@ -11,7 +11,6 @@ use lib.ListN.{length, get_or}
 use borrow.Author.Tests.{eqb-true, eqb-false}
 use Rattle.base.proofs.EveryLaws.{every_sift}
 use Rattle.base.proofs.ListLaws.{among_head, among_tail, among_cases}
-use Rattle.base.specs.Every.{Every}
 use Rattle.base.specs.Lists.{Among, up_from}
 use Rattle.corners.proofs.CornerLaws.{length_corners}
 use Rattle.corners.proofs.LinkLaws.{corners_hold}

@@ -1,5 +1,4 @@
 -- `box_of_three`: what its calls ensure, one after the other.
-use borrow.Author.Rules.{rules}
 use mathlib.Core.Path.{ap, ap₂, ◌∙◌}
 use Rattle.float_boxes.specs.Floats.{lesser_of, greater_of, told_box}
 use Rattle.float_boxes.specs.declared.Floats4.{Floats4}

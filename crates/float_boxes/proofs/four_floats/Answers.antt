@@ -1,5 +1,4 @@
 -- `four_floats`: the four are there.
-use borrow.Author.Rules.{rules}
 use mathlib.Core.Path.{refl}
 use Rattle.float_boxes.specs.Floats.{four_floats}
 use Rattle.float_boxes.proofs.four_floats.Goals as goal

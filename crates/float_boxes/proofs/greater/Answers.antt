@@ -1,5 +1,4 @@
 -- `greater`: what its calls ensure.
-use borrow.Author.Rules.{rules}
 use Rattle.float_boxes.specs.Floats.{greater_of}
 use Rattle.float_boxes.proofs.greater.Goals as goal
 

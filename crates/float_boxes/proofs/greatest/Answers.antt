@@ -1,5 +1,4 @@
 -- `greatest`: what its calls ensure, one after the other.
-use borrow.Author.Rules.{rules}
 use Rattle.float_boxes.specs.Floats.{greater_of}
 use Rattle.float_boxes.proofs.FoldLaws.{corner}
 use Rattle.float_boxes.proofs.greatest.Goals as goal

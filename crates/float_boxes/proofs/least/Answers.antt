@@ -1,5 +1,4 @@
 -- `least`: what its calls ensure, one after the other.
-use borrow.Author.Rules.{rules}
 use Rattle.float_boxes.specs.Floats.{lesser_of}
 use Rattle.float_boxes.proofs.FoldLaws.{corner}
 use Rattle.float_boxes.proofs.least.Goals as goal

@@ -1,5 +1,4 @@
 -- `lesser`: what its calls ensure.
-use borrow.Author.Rules.{rules}
 use Rattle.float_boxes.specs.Floats.{lesser_of}
 use Rattle.float_boxes.proofs.lesser.Goals as goal
 

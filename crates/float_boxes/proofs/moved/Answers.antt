@@ -1,5 +1,4 @@
 -- `moved`: what its call ensures, and the sum behind it.
-use borrow.Author.Rules.{rules}
 use Rattle.math.specs.Vec3s.{◌⊕◌}
 use Rattle.float_boxes.specs.Floats.{moved_of}
 use Rattle.float_boxes.proofs.moved.Goals as goal

@@ -1,5 +1,4 @@
 -- `moved_box`: what its calls ensure.
-use borrow.Author.Rules.{rules}
 use mathlib.Core.Path.{ap₂, ◌∙◌}
 use Rattle.float_boxes.specs.Floats.{told_box}
 use Rattle.float_boxes.proofs.moved_box.Goals as goal

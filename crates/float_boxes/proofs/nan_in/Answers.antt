@@ -1,5 +1,4 @@
 -- `nan_in`: what its tests say, lane by lane.
-use borrow.Author.Rules.{rules}
 use mathlib.Core.Path.{ap₂}
 use mathlib.Core.Bool.{◌||◌}
 use Rattle.float_boxes.specs.Floats.{nan_in}

@@ -1,5 +1,4 @@
 -- `nan_in_sums`: what its calls ensure.
-use borrow.Author.Rules.{rules}
 use mathlib.Core.Path.{ap₂, ◌∙◌}
 use Rattle.float_boxes.specs.Floats.{nan_in, plus_of}
 use Rattle.float_boxes.proofs.nan_in_sums.Goals as goal

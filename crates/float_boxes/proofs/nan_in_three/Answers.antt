@@ -1,5 +1,4 @@
 -- `nan_in_three`: what its tests say.
-use borrow.Author.Rules.{rules}
 use mathlib.Core.Path.{ap₂}
 use mathlib.Core.Bool.{◌||◌}
 use Rattle.float_boxes.proofs.nan_in_three.Goals as goal

@@ -1,5 +1,4 @@
 -- `vertices_at`: what its calls ensure.
-use borrow.Author.Rules.{rules}
 use Rattle.float_boxes.proofs.vertices_at.Goals as goal
 
 pub returns : goal.returns

@@ -1,5 +1,4 @@
 -- `within`: none of the four is above the highest, which is one of them.
-use borrow.Author.Rules.{rules}
 use Prim.Native.Nat.{ℕ, ◌+◌, ◌<◌}
 use mathlib.Core.Path.{◌≡◌}
 use mathlib.Core.Logic.{◌⊎◌, ⊎_elim, ⊎_map}

@@ -3,7 +3,6 @@ use mathlib.Core.Path.{◌≡◌}
 use Prim.Native.Nat.{suc, ◌+◌, ◌*◌}
 use native.Mathlib.Omega.{arith}
 use lib.ListN.{length-set, set}
-use borrow.Author.Rules.{rules}
 use Rattle.points.proofs.put_point.Goals as goal
 
 pub bounds-points-at-2 : goal.bounds-points-at-2

@@ -1,17 +1,14 @@
 -- `put_positions` meets its contract. The loop's invariant: the positions of the vertices before i are written, and nothing else.
-use mathlib.Core.Path.{◌≡◌, refl, sym, ap, ◌∙◌}
-use Prim.Native.Nat.{ℕ, ◌+◌, ◌-◌, ◌*◌, ◌≤◌}
+use mathlib.Core.Path.{◌≡◌, refl, ap, ◌∙◌}
+use Prim.Native.Nat.{ℕ, ◌*◌}
 use mathlib.Core.List.{List}
-use lib.ListN.{length}
 use lib.Seq.{sets}
 use Rattle.base.specs.Lists.{over}
 use Rattle.corners.specs.Corners.{in_turn}
 use Rattle.math.specs.declared.vec3.Vec3.{Vec3}
-use Rattle.math.specs.declared.mat4.Mat4.{Mat4}
 use Rattle.points.specs.Points.{words_of, pos_of, positions_of}
 use Rattle.points.proofs.PointLaws.{points_next}
 use native.Mathlib.Omega.{arith}
-use borrow.Author.Rules.{rules}
 use Rattle.points.proofs.put_positions.Goals as goal
 
 pub loop-i-init : goal.loop-i-init

@@ -1,5 +1,4 @@
 -- `vertex_pos` meets its contract: the vertex, brought to its place.
-use borrow.Author.Rules.{rules}
 use mathlib.Core.Path.{ap, ◌∙◌}
 use Rattle.math.specs.Transform.{xyz, point_of}
 use Rattle.math.specs.Vec3s.{add_of}

@@ -1,6 +1,4 @@
 -- `polygon_items`: the checks in their order, and then the entries. Nothing is said of the vertices.
-use borrow.Author.Rules.{rules}
-use borrow.Author.Tests.{not-true, not-false}
 use mathlib.Core.Path.{sym, ◌∙◌}
 use Rattle.polygon_items.proofs.ItemLaws.{room, too_many, too_small, unknown, served}
 use Rattle.polygon_items.proofs.polygon_items.Goals as goal

@@ -1,5 +1,4 @@
 -- `put_item`: seven stores in a row are one run of stores.
-use borrow.Author.Rules.{rules}
 use lib.ListN.{length-set}
 use Rattle.polygon_items.specs.Items.{item_words}
 use Rattle.polygon_items.proofs.ItemLaws.{seven_stores}

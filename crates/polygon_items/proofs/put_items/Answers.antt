@@ -1,7 +1,6 @@
 -- `put_items`: the entries of i records are written, and the rest is as it was.
 use mathlib.Core.Path.{◌≡◌, refl, ap, ◌∙◌}
-use Prim.Native.Nat.{ℕ, ◌-◌, ◌*◌, ◌≤◌}
-use lib.ListN.{length}
+use Prim.Native.Nat.{ℕ}
 use Rattle.base.specs.Lists.{over}
 use Rattle.polygon_items.specs.Items.{items_of}
 use Rattle.polygon_items.proofs.ItemLaws.{items_next}

@@ -1,6 +1,5 @@
 -- `put_one`: a triangle whose vertices are there and have no NaN on the short way, else by its box.
-use borrow.Author.Rules.{rules}
-use mathlib.Core.Path.{◌≡◌, sym, ap, ◌∙◌}
+use mathlib.Core.Path.{sym, ap, ◌∙◌}
 use Prim.Native.Nat.{ℕ, ◌%◌}
 use lib.Seq.{sets}
 use Rattle.polygon_boxes.specs.Boxes.{bbox_of}

@@ -1,5 +1,4 @@
 -- `put_three`: seven stores in a row are one run of stores, of the box's words.
-use borrow.Author.Rules.{rules}
 use lib.ListN.{length-set}
 use mathlib.Core.Path.{◌∙◌}
 use Rattle.polygon_items.proofs.ItemLaws.{seven_stores, three_words}

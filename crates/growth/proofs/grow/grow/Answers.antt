@@ -1,20 +1,18 @@
 -- `grow::grow` meets its contract. The loop's invariant is `Going`: the rows that are laid, followed by those of the segments that wait, are
 -- the whole tree's. And what is begun is what the segment at the top of the stack begins with.
-use borrow.Author.Rules.{rules}
 use Rattle.base.proofs.WithinLaws.{within_take, within_drop}
 use Rattle.base.specs.Lists.{Within}
-use Prim.Native.Nat.{ℕ, ◌+◌, ◌-◌, ◌*◌}
+use Prim.Native.Nat.{ℕ, ◌+◌, ◌-◌}
 use mathlib.Core.List.{List}
 use native.Mathlib.Omega.{arith}
 use mathlib.Core.Path.{◌≡◌, refl, ◌∙◌}
 use lib.ListN.{length, get_or, set, take, drop, length-set}
 use Rattle.entries.specs.Boxes.{box_at}
-use Rattle.entries.specs.Steps.Begun.{Begins}
 use Rattle.growth.specs.Grow.{builder}
 use Rattle.growth.specs.Steps.Laid.{Room}
 use Rattle.growth.proofs.Lawful.{Lawful, lawful}
-use Rattle.growth.proofs.grow.Beginning.{first_segment, none_begun, turn_begun, inner_begun}
-use Rattle.growth.proofs.grow.Going.{Slices, Going, Top, top, start, ended, leaf_turn, inner_turn, segment_length, room_set}
+use Rattle.growth.proofs.grow.Beginning.{none_begun, turn_begun, inner_begun}
+use Rattle.growth.proofs.grow.Going.{Slices, Top, top, start, ended, leaf_turn, inner_turn, segment_length, room_set}
 use Rattle.growth.proofs.grow.grow.Goals as goal
 
 pub overflow_sub-sp : goal.overflow_sub-sp
@@ -25,13 +23,12 @@ overflow_cast-stack c = omega (arith, c.requires.1.few)
 
 pub loop-lo-init : goal.loop-lo-init
 loop-lo-init c =
-    let before : Slices = 
-        let a = c.args in
-        let stack = set a.stack.now (length a.stack.now - 1) (length a.places.now) in
-        record { places = a.places.now; temp = a.temp.now; stack = stack; rows = a.rows.now } in
+    let before : Slices =
+    let a = c.args in
+    let stack = set a.stack.now (length a.stack.now - 1) (length a.places.now) in
+    record { places = a.places.now; temp = a.temp.now; stack = stack; rows = a.rows.now } in
     let law : Lawful (builder (box_at c.args.entries.now)) = lawful (box_at c.args.entries.now) in
-    let room : Room c.args.threshold before.places before.temp c.args.entries.now before.stack before.rows = room_set _ _ c.requires.1 in
-    (
+    let room : Room c.args.threshold before.places before.temp c.args.entries.now before.stack before.rows = room_set _ _ c.requires.1 in (
       start _ law _ _ before room c.args.stack.now refl c.requires.0,
       refl,
       none_begun _ _ _ c.not_begun-begun.ensures,
@@ -39,13 +36,13 @@ loop-lo-init c =
 
 pub offset_bounds-stack-sp-in-loop-lo : goal.offset_bounds-stack-sp-in-loop-lo
 offset_bounds-stack-sp-in-loop-lo c =
-    let before : Slices = 
-        let a = c.args in
-        let stack = set a.stack.now (length a.stack.now - 1) (length a.places.now) in
-        record { places = a.places.now; temp = a.temp.now; stack = stack; rows = a.rows.now } in
-    let here : Slices = 
-        let l = c.loop-lo in
-        record { places = l.places; temp = l.temp; stack = l.stack; rows = l.rows } in
+    let before : Slices =
+    let a = c.args in
+    let stack = set a.stack.now (length a.stack.now - 1) (length a.places.now) in
+    record { places = a.places.now; temp = a.temp.now; stack = stack; rows = a.rows.now } in
+    let here : Slices =
+    let l = c.loop-lo in
+    record { places = l.places; temp = l.temp; stack = l.stack; rows = l.rows } in
     let top-length : ℕ = get_or c.loop-lo.stack c.loop-lo.sp 0 in
     let law : Lawful (builder (box_at c.args.entries.now)) = lawful (box_at c.args.entries.now) in
     let room : Room c.args.threshold before.places before.temp c.args.entries.now before.stack before.rows = room_set _ _ c.requires.1 in
@@ -57,13 +54,13 @@ offset_bounds-stack-sp-in-loop-lo c =
 
 pub bounds-stack-sp-in-loop-lo : goal.bounds-stack-sp-in-loop-lo
 bounds-stack-sp-in-loop-lo c =
-    let before : Slices = 
-        let a = c.args in
-        let stack = set a.stack.now (length a.stack.now - 1) (length a.places.now) in
-        record { places = a.places.now; temp = a.temp.now; stack = stack; rows = a.rows.now } in
-    let here : Slices = 
-        let l = c.loop-lo in
-        record { places = l.places; temp = l.temp; stack = l.stack; rows = l.rows } in
+    let before : Slices =
+    let a = c.args in
+    let stack = set a.stack.now (length a.stack.now - 1) (length a.places.now) in
+    record { places = a.places.now; temp = a.temp.now; stack = stack; rows = a.rows.now } in
+    let here : Slices =
+    let l = c.loop-lo in
+    record { places = l.places; temp = l.temp; stack = l.stack; rows = l.rows } in
     let top-length : ℕ = get_or c.loop-lo.stack c.loop-lo.sp 0 in
     let law : Lawful (builder (box_at c.args.entries.now)) = lawful (box_at c.args.entries.now) in
     let room : Room c.args.threshold before.places before.temp c.args.entries.now before.stack before.rows = room_set _ _ c.requires.1 in
@@ -72,13 +69,13 @@ bounds-stack-sp-in-loop-lo c =
 
 pub overflow_cast-k : goal.overflow_cast-k
 overflow_cast-k c =
-    let before : Slices = 
-        let a = c.args in
-        let stack = set a.stack.now (length a.stack.now - 1) (length a.places.now) in
-        record { places = a.places.now; temp = a.temp.now; stack = stack; rows = a.rows.now } in
-    let here : Slices = 
-        let l = c.loop-lo in
-        record { places = l.places; temp = l.temp; stack = l.stack; rows = l.rows } in
+    let before : Slices =
+    let a = c.args in
+    let stack = set a.stack.now (length a.stack.now - 1) (length a.places.now) in
+    record { places = a.places.now; temp = a.temp.now; stack = stack; rows = a.rows.now } in
+    let here : Slices =
+    let l = c.loop-lo in
+    record { places = l.places; temp = l.temp; stack = l.stack; rows = l.rows } in
     let top-length : ℕ = get_or c.loop-lo.stack c.loop-lo.sp 0 in
     let law : Lawful (builder (box_at c.args.entries.now)) = lawful (box_at c.args.entries.now) in
     let room : Room c.args.threshold before.places before.temp c.args.entries.now before.stack before.rows = room_set _ _ c.requires.1 in
@@ -88,13 +85,13 @@ overflow_cast-k c =
 
 pub overflow_add-hi : goal.overflow_add-hi
 overflow_add-hi c =
-    let before : Slices = 
-        let a = c.args in
-        let stack = set a.stack.now (length a.stack.now - 1) (length a.places.now) in
-        record { places = a.places.now; temp = a.temp.now; stack = stack; rows = a.rows.now } in
-    let here : Slices = 
-        let l = c.loop-lo in
-        record { places = l.places; temp = l.temp; stack = l.stack; rows = l.rows } in
+    let before : Slices =
+    let a = c.args in
+    let stack = set a.stack.now (length a.stack.now - 1) (length a.places.now) in
+    record { places = a.places.now; temp = a.temp.now; stack = stack; rows = a.rows.now } in
+    let here : Slices =
+    let l = c.loop-lo in
+    record { places = l.places; temp = l.temp; stack = l.stack; rows = l.rows } in
     let top-length : ℕ = get_or c.loop-lo.stack c.loop-lo.sp 0 in
     let law : Lawful (builder (box_at c.args.entries.now)) = lawful (box_at c.args.entries.now) in
     let room : Room c.args.threshold before.places before.temp c.args.entries.now before.stack before.rows = room_set _ _ c.requires.1 in
@@ -104,13 +101,13 @@ overflow_add-hi c =
 
 pub slice_bounds-put_leaf-end : goal.slice_bounds-put_leaf-end
 slice_bounds-put_leaf-end c =
-    let before : Slices = 
-        let a = c.args in
-        let stack = set a.stack.now (length a.stack.now - 1) (length a.places.now) in
-        record { places = a.places.now; temp = a.temp.now; stack = stack; rows = a.rows.now } in
-    let here : Slices = 
-        let l = c.loop-lo in
-        record { places = l.places; temp = l.temp; stack = l.stack; rows = l.rows } in
+    let before : Slices =
+    let a = c.args in
+    let stack = set a.stack.now (length a.stack.now - 1) (length a.places.now) in
+    record { places = a.places.now; temp = a.temp.now; stack = stack; rows = a.rows.now } in
+    let here : Slices =
+    let l = c.loop-lo in
+    record { places = l.places; temp = l.temp; stack = l.stack; rows = l.rows } in
     let top-length : ℕ = get_or c.loop-lo.stack c.loop-lo.sp 0 in
     let law : Lawful (builder (box_at c.args.entries.now)) = lawful (box_at c.args.entries.now) in
     let room : Room c.args.threshold before.places before.temp c.args.entries.now before.stack before.rows = room_set _ _ c.requires.1 in
@@ -119,13 +116,13 @@ slice_bounds-put_leaf-end c =
 
 pub overflow_cast-lo : goal.overflow_cast-lo
 overflow_cast-lo c =
-    let before : Slices = 
-        let a = c.args in
-        let stack = set a.stack.now (length a.stack.now - 1) (length a.places.now) in
-        record { places = a.places.now; temp = a.temp.now; stack = stack; rows = a.rows.now } in
-    let here : Slices = 
-        let l = c.loop-lo in
-        record { places = l.places; temp = l.temp; stack = l.stack; rows = l.rows } in
+    let before : Slices =
+    let a = c.args in
+    let stack = set a.stack.now (length a.stack.now - 1) (length a.places.now) in
+    record { places = a.places.now; temp = a.temp.now; stack = stack; rows = a.rows.now } in
+    let here : Slices =
+    let l = c.loop-lo in
+    record { places = l.places; temp = l.temp; stack = l.stack; rows = l.rows } in
     let top-length : ℕ = get_or c.loop-lo.stack c.loop-lo.sp 0 in
     let law : Lawful (builder (box_at c.args.entries.now)) = lawful (box_at c.args.entries.now) in
     let room : Room c.args.threshold before.places before.temp c.args.entries.now before.stack before.rows = room_set _ _ c.requires.1 in
@@ -135,13 +132,13 @@ overflow_cast-lo c =
 
 pub put_leaf-requires : goal.put_leaf-requires
 put_leaf-requires c =
-    let before : Slices = 
-        let a = c.args in
-        let stack = set a.stack.now (length a.stack.now - 1) (length a.places.now) in
-        record { places = a.places.now; temp = a.temp.now; stack = stack; rows = a.rows.now } in
-    let here : Slices = 
-        let l = c.loop-lo in
-        record { places = l.places; temp = l.temp; stack = l.stack; rows = l.rows } in
+    let before : Slices =
+    let a = c.args in
+    let stack = set a.stack.now (length a.stack.now - 1) (length a.places.now) in
+    record { places = a.places.now; temp = a.temp.now; stack = stack; rows = a.rows.now } in
+    let here : Slices =
+    let l = c.loop-lo in
+    record { places = l.places; temp = l.temp; stack = l.stack; rows = l.rows } in
     let top-length : ℕ = get_or c.loop-lo.stack c.loop-lo.sp 0 in
     let width : ℕ = c.loop-lo.lo + top-length - c.loop-lo.lo in
     let segment : List ℕ = take width (drop c.loop-lo.lo c.loop-lo.places) in
@@ -149,23 +146,23 @@ put_leaf-requires c =
     let room : Room c.args.threshold before.places before.temp c.args.entries.now before.stack before.rows = room_set _ _ c.requires.1 in
     let turn : Top c.args.threshold before here c.loop-lo.sp c.loop-lo.lo c.loop-lo.m top-length = top _ law _ _ before room here _ _ _ c.loop-lo.invariant.0 (omega arith) in
     let segment-long : length segment ≡ top-length = segment_length c.loop-lo.places c.loop-lo.lo top-length turn.in_places in
-    let segment-within : Within (length c.args.entries.now) segment = 
-        let size = length c.args.entries.now in
-        let l = c.loop-lo in
-        within_take size width (drop l.lo l.places) (within_drop size l.lo l.places l.invariant.0.within) in
+    let segment-within : Within (length c.args.entries.now) segment =
+    let size = length c.args.entries.now in
+    let l = c.loop-lo in
+    within_take size width (drop l.lo l.places) (within_drop size l.lo l.places l.invariant.0.within) in
     let t = turn in
     let l = segment-long in
     (t.in_rows, segment-within, omega (arith, t.few), omega (arith, t.few), c.requires.2)
 
 pub overflow_add-sp : goal.overflow_add-sp
 overflow_add-sp c =
-    let before : Slices = 
-        let a = c.args in
-        let stack = set a.stack.now (length a.stack.now - 1) (length a.places.now) in
-        record { places = a.places.now; temp = a.temp.now; stack = stack; rows = a.rows.now } in
-    let here : Slices = 
-        let l = c.loop-lo in
-        record { places = l.places; temp = l.temp; stack = l.stack; rows = l.rows } in
+    let before : Slices =
+    let a = c.args in
+    let stack = set a.stack.now (length a.stack.now - 1) (length a.places.now) in
+    record { places = a.places.now; temp = a.temp.now; stack = stack; rows = a.rows.now } in
+    let here : Slices =
+    let l = c.loop-lo in
+    record { places = l.places; temp = l.temp; stack = l.stack; rows = l.rows } in
     let top-length : ℕ = get_or c.loop-lo.stack c.loop-lo.sp 0 in
     let law : Lawful (builder (box_at c.args.entries.now)) = lawful (box_at c.args.entries.now) in
     let room : Room c.args.threshold before.places before.temp c.args.entries.now before.stack before.rows = room_set _ _ c.requires.1 in
@@ -177,13 +174,13 @@ overflow_add-sp c =
 
 pub overflow_add-m : goal.overflow_add-m
 overflow_add-m c =
-    let before : Slices = 
-        let a = c.args in
-        let stack = set a.stack.now (length a.stack.now - 1) (length a.places.now) in
-        record { places = a.places.now; temp = a.temp.now; stack = stack; rows = a.rows.now } in
-    let here : Slices = 
-        let l = c.loop-lo in
-        record { places = l.places; temp = l.temp; stack = l.stack; rows = l.rows } in
+    let before : Slices =
+    let a = c.args in
+    let stack = set a.stack.now (length a.stack.now - 1) (length a.places.now) in
+    record { places = a.places.now; temp = a.temp.now; stack = stack; rows = a.rows.now } in
+    let here : Slices =
+    let l = c.loop-lo in
+    record { places = l.places; temp = l.temp; stack = l.stack; rows = l.rows } in
     let top-length : ℕ = get_or c.loop-lo.stack c.loop-lo.sp 0 in
     let law : Lawful (builder (box_at c.args.entries.now)) = lawful (box_at c.args.entries.now) in
     let room : Room c.args.threshold before.places before.temp c.args.entries.now before.stack before.rows = room_set _ _ c.requires.1 in
@@ -193,13 +190,13 @@ overflow_add-m c =
 
 pub loop-lo-smaller-then-k-threshold : goal.loop-lo-smaller-then-k-threshold
 loop-lo-smaller-then-k-threshold c =
-    let before : Slices = 
-        let a = c.args in
-        let stack = set a.stack.now (length a.stack.now - 1) (length a.places.now) in
-        record { places = a.places.now; temp = a.temp.now; stack = stack; rows = a.rows.now } in
-    let here : Slices = 
-        let l = c.loop-lo in
-        record { places = l.places; temp = l.temp; stack = l.stack; rows = l.rows } in
+    let before : Slices =
+    let a = c.args in
+    let stack = set a.stack.now (length a.stack.now - 1) (length a.places.now) in
+    record { places = a.places.now; temp = a.temp.now; stack = stack; rows = a.rows.now } in
+    let here : Slices =
+    let l = c.loop-lo in
+    record { places = l.places; temp = l.temp; stack = l.stack; rows = l.rows } in
     let top-length : ℕ = get_or c.loop-lo.stack c.loop-lo.sp 0 in
     let law : Lawful (builder (box_at c.args.entries.now)) = lawful (box_at c.args.entries.now) in
     let room : Room c.args.threshold before.places before.temp c.args.entries.now before.stack before.rows = room_set _ _ c.requires.1 in
@@ -209,13 +206,13 @@ loop-lo-smaller-then-k-threshold c =
 
 pub loop-lo-preserved-then-k-threshold : goal.loop-lo-preserved-then-k-threshold
 loop-lo-preserved-then-k-threshold c =
-    let before : Slices = 
-        let a = c.args in
-        let stack = set a.stack.now (length a.stack.now - 1) (length a.places.now) in
-        record { places = a.places.now; temp = a.temp.now; stack = stack; rows = a.rows.now } in
-    let here : Slices = 
-        let l = c.loop-lo in
-        record { places = l.places; temp = l.temp; stack = l.stack; rows = l.rows } in
+    let before : Slices =
+    let a = c.args in
+    let stack = set a.stack.now (length a.stack.now - 1) (length a.places.now) in
+    record { places = a.places.now; temp = a.temp.now; stack = stack; rows = a.rows.now } in
+    let here : Slices =
+    let l = c.loop-lo in
+    record { places = l.places; temp = l.temp; stack = l.stack; rows = l.rows } in
     let top-length : ℕ = get_or c.loop-lo.stack c.loop-lo.sp 0 in
     let width : ℕ = c.loop-lo.lo + top-length - c.loop-lo.lo in
     let law : Lawful (builder (box_at c.args.entries.now)) = lawful (box_at c.args.entries.now) in
@@ -231,13 +228,13 @@ loop-lo-preserved-then-k-threshold c =
 
 pub slice_bounds-put_inner-end : goal.slice_bounds-put_inner-end
 slice_bounds-put_inner-end c =
-    let before : Slices = 
-        let a = c.args in
-        let stack = set a.stack.now (length a.stack.now - 1) (length a.places.now) in
-        record { places = a.places.now; temp = a.temp.now; stack = stack; rows = a.rows.now } in
-    let here : Slices = 
-        let l = c.loop-lo in
-        record { places = l.places; temp = l.temp; stack = l.stack; rows = l.rows } in
+    let before : Slices =
+    let a = c.args in
+    let stack = set a.stack.now (length a.stack.now - 1) (length a.places.now) in
+    record { places = a.places.now; temp = a.temp.now; stack = stack; rows = a.rows.now } in
+    let here : Slices =
+    let l = c.loop-lo in
+    record { places = l.places; temp = l.temp; stack = l.stack; rows = l.rows } in
     let top-length : ℕ = get_or c.loop-lo.stack c.loop-lo.sp 0 in
     let law : Lawful (builder (box_at c.args.entries.now)) = lawful (box_at c.args.entries.now) in
     let room : Room c.args.threshold before.places before.temp c.args.entries.now before.stack before.rows = room_set _ _ c.requires.1 in
@@ -246,13 +243,13 @@ slice_bounds-put_inner-end c =
 
 pub put_inner-inner-requires : goal.put_inner-inner-requires
 put_inner-inner-requires c =
-    let before : Slices = 
-        let a = c.args in
-        let stack = set a.stack.now (length a.stack.now - 1) (length a.places.now) in
-        record { places = a.places.now; temp = a.temp.now; stack = stack; rows = a.rows.now } in
-    let here : Slices = 
-        let l = c.loop-lo in
-        record { places = l.places; temp = l.temp; stack = l.stack; rows = l.rows } in
+    let before : Slices =
+    let a = c.args in
+    let stack = set a.stack.now (length a.stack.now - 1) (length a.places.now) in
+    record { places = a.places.now; temp = a.temp.now; stack = stack; rows = a.rows.now } in
+    let here : Slices =
+    let l = c.loop-lo in
+    record { places = l.places; temp = l.temp; stack = l.stack; rows = l.rows } in
     let top-length : ℕ = get_or c.loop-lo.stack c.loop-lo.sp 0 in
     let width : ℕ = c.loop-lo.lo + top-length - c.loop-lo.lo in
     let segment : List ℕ = take width (drop c.loop-lo.lo c.loop-lo.places) in
@@ -260,10 +257,10 @@ put_inner-inner-requires c =
     let room : Room c.args.threshold before.places before.temp c.args.entries.now before.stack before.rows = room_set _ _ c.requires.1 in
     let turn : Top c.args.threshold before here c.loop-lo.sp c.loop-lo.lo c.loop-lo.m top-length = top _ law _ _ before room here _ _ _ c.loop-lo.invariant.0 (omega arith) in
     let segment-long : length segment ≡ top-length = segment_length c.loop-lo.places c.loop-lo.lo top-length turn.in_places in
-    let segment-within : Within (length c.args.entries.now) segment = 
-        let size = length c.args.entries.now in
-        let l = c.loop-lo in
-        within_take size width (drop l.lo l.places) (within_drop size l.lo l.places l.invariant.0.within) in
+    let segment-within : Within (length c.args.entries.now) segment =
+    let size = length c.args.entries.now in
+    let l = c.loop-lo in
+    within_take size width (drop l.lo l.places) (within_drop size l.lo l.places l.invariant.0.within) in
     let s = c.loop-lo in
     let t = turn in
     let l = segment-long in (
@@ -279,13 +276,13 @@ put_inner-inner-requires c =
 
 pub overflow_sub-k : goal.overflow_sub-k
 overflow_sub-k c =
-    let before : Slices = 
-        let a = c.args in
-        let stack = set a.stack.now (length a.stack.now - 1) (length a.places.now) in
-        record { places = a.places.now; temp = a.temp.now; stack = stack; rows = a.rows.now } in
-    let here : Slices = 
-        let l = c.loop-lo in
-        record { places = l.places; temp = l.temp; stack = l.stack; rows = l.rows } in
+    let before : Slices =
+    let a = c.args in
+    let stack = set a.stack.now (length a.stack.now - 1) (length a.places.now) in
+    record { places = a.places.now; temp = a.temp.now; stack = stack; rows = a.rows.now } in
+    let here : Slices =
+    let l = c.loop-lo in
+    record { places = l.places; temp = l.temp; stack = l.stack; rows = l.rows } in
     let top-length : ℕ = get_or c.loop-lo.stack c.loop-lo.sp 0 in
     let width : ℕ = c.loop-lo.lo + top-length - c.loop-lo.lo in
     let segment : List ℕ = take width (drop c.loop-lo.lo c.loop-lo.places) in
@@ -298,13 +295,13 @@ overflow_sub-k c =
 
 pub push_two-requires : goal.push_two-requires
 push_two-requires c =
-    let before : Slices = 
-        let a = c.args in
-        let stack = set a.stack.now (length a.stack.now - 1) (length a.places.now) in
-        record { places = a.places.now; temp = a.temp.now; stack = stack; rows = a.rows.now } in
-    let here : Slices = 
-        let l = c.loop-lo in
-        record { places = l.places; temp = l.temp; stack = l.stack; rows = l.rows } in
+    let before : Slices =
+    let a = c.args in
+    let stack = set a.stack.now (length a.stack.now - 1) (length a.places.now) in
+    record { places = a.places.now; temp = a.temp.now; stack = stack; rows = a.rows.now } in
+    let here : Slices =
+    let l = c.loop-lo in
+    record { places = l.places; temp = l.temp; stack = l.stack; rows = l.rows } in
     let top-length : ℕ = get_or c.loop-lo.stack c.loop-lo.sp 0 in
     let width : ℕ = c.loop-lo.lo + top-length - c.loop-lo.lo in
     let segment : List ℕ = take width (drop c.loop-lo.lo c.loop-lo.places) in
@@ -319,13 +316,13 @@ push_two-requires c =
 
 pub overflow_sub-sp-else-k-threshold : goal.overflow_sub-sp-else-k-threshold
 overflow_sub-sp-else-k-threshold c =
-    let before : Slices = 
-        let a = c.args in
-        let stack = set a.stack.now (length a.stack.now - 1) (length a.places.now) in
-        record { places = a.places.now; temp = a.temp.now; stack = stack; rows = a.rows.now } in
-    let here : Slices = 
-        let l = c.loop-lo in
-        record { places = l.places; temp = l.temp; stack = l.stack; rows = l.rows } in
+    let before : Slices =
+    let a = c.args in
+    let stack = set a.stack.now (length a.stack.now - 1) (length a.places.now) in
+    record { places = a.places.now; temp = a.temp.now; stack = stack; rows = a.rows.now } in
+    let here : Slices =
+    let l = c.loop-lo in
+    record { places = l.places; temp = l.temp; stack = l.stack; rows = l.rows } in
     let top-length : ℕ = get_or c.loop-lo.stack c.loop-lo.sp 0 in
     let law : Lawful (builder (box_at c.args.entries.now)) = lawful (box_at c.args.entries.now) in
     let room : Room c.args.threshold before.places before.temp c.args.entries.now before.stack before.rows = room_set _ _ c.requires.1 in
@@ -334,13 +331,13 @@ overflow_sub-sp-else-k-threshold c =
 
 pub overflow_add-m-else-k-threshold : goal.overflow_add-m-else-k-threshold
 overflow_add-m-else-k-threshold c =
-    let before : Slices = 
-        let a = c.args in
-        let stack = set a.stack.now (length a.stack.now - 1) (length a.places.now) in
-        record { places = a.places.now; temp = a.temp.now; stack = stack; rows = a.rows.now } in
-    let here : Slices = 
-        let l = c.loop-lo in
-        record { places = l.places; temp = l.temp; stack = l.stack; rows = l.rows } in
+    let before : Slices =
+    let a = c.args in
+    let stack = set a.stack.now (length a.stack.now - 1) (length a.places.now) in
+    record { places = a.places.now; temp = a.temp.now; stack = stack; rows = a.rows.now } in
+    let here : Slices =
+    let l = c.loop-lo in
+    record { places = l.places; temp = l.temp; stack = l.stack; rows = l.rows } in
     let top-length : ℕ = get_or c.loop-lo.stack c.loop-lo.sp 0 in
     let law : Lawful (builder (box_at c.args.entries.now)) = lawful (box_at c.args.entries.now) in
     let room : Room c.args.threshold before.places before.temp c.args.entries.now before.stack before.rows = room_set _ _ c.requires.1 in
@@ -351,13 +348,13 @@ overflow_add-m-else-k-threshold c =
 
 pub loop-lo-smaller : goal.loop-lo-smaller
 loop-lo-smaller c =
-    let before : Slices = 
-        let a = c.args in
-        let stack = set a.stack.now (length a.stack.now - 1) (length a.places.now) in
-        record { places = a.places.now; temp = a.temp.now; stack = stack; rows = a.rows.now } in
-    let here : Slices = 
-        let l = c.loop-lo in
-        record { places = l.places; temp = l.temp; stack = l.stack; rows = l.rows } in
+    let before : Slices =
+    let a = c.args in
+    let stack = set a.stack.now (length a.stack.now - 1) (length a.places.now) in
+    record { places = a.places.now; temp = a.temp.now; stack = stack; rows = a.rows.now } in
+    let here : Slices =
+    let l = c.loop-lo in
+    record { places = l.places; temp = l.temp; stack = l.stack; rows = l.rows } in
     let top-length : ℕ = get_or c.loop-lo.stack c.loop-lo.sp 0 in
     let law : Lawful (builder (box_at c.args.entries.now)) = lawful (box_at c.args.entries.now) in
     let room : Room c.args.threshold before.places before.temp c.args.entries.now before.stack before.rows = room_set _ _ c.requires.1 in
@@ -367,13 +364,13 @@ loop-lo-smaller c =
 
 pub loop-lo-preserved : goal.loop-lo-preserved
 loop-lo-preserved c =
-    let before : Slices = 
-        let a = c.args in
-        let stack = set a.stack.now (length a.stack.now - 1) (length a.places.now) in
-        record { places = a.places.now; temp = a.temp.now; stack = stack; rows = a.rows.now } in
-    let here : Slices = 
-        let l = c.loop-lo in
-        record { places = l.places; temp = l.temp; stack = l.stack; rows = l.rows } in
+    let before : Slices =
+    let a = c.args in
+    let stack = set a.stack.now (length a.stack.now - 1) (length a.places.now) in
+    record { places = a.places.now; temp = a.temp.now; stack = stack; rows = a.rows.now } in
+    let here : Slices =
+    let l = c.loop-lo in
+    record { places = l.places; temp = l.temp; stack = l.stack; rows = l.rows } in
     let top-length : ℕ = get_or c.loop-lo.stack c.loop-lo.sp 0 in
     let width : ℕ = c.loop-lo.lo + top-length - c.loop-lo.lo in
     let law : Lawful (builder (box_at c.args.entries.now)) = lawful (box_at c.args.entries.now) in
@@ -395,10 +392,10 @@ loop-lo-preserved c =
 
 pub returns : goal.returns
 returns c =
-    let before : Slices = 
-        let a = c.args in
-        let stack = set a.stack.now (length a.stack.now - 1) (length a.places.now) in
-        record { places = a.places.now; temp = a.temp.now; stack = stack; rows = a.rows.now } in
+    let before : Slices =
+    let a = c.args in
+    let stack = set a.stack.now (length a.stack.now - 1) (length a.places.now) in
+    record { places = a.places.now; temp = a.temp.now; stack = stack; rows = a.rows.now } in
     let law : Lawful (builder (box_at c.args.entries.now)) = lawful (box_at c.args.entries.now) in
     let room : Room c.args.threshold before.places before.temp c.args.entries.now before.stack before.rows = room_set _ _ c.requires.1 in
     ended _ law _ _ before room _ _ _ _ c.loop-lo.invariant.0 (omega arith)

@@ -1,5 +1,4 @@
 -- `grow::grow_tree` meets its contract: without places one empty leaf, else the laid rows with their sizes. The centres are kept once for all.
-use borrow.Author.Rules.{rules}
 use Prim.Native.Nat.{◌*◌, ◌≤◌, ◌<◌}
 use lib.ListN.{length}
 use Rattle.entries.specs.Boxes.{box_at}

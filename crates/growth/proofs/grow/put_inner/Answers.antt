@@ -1,5 +1,4 @@
 -- `grow::put_inner` meets its contract: what the split and the row ensure.
-use borrow.Author.Rules.{rules}
 use Rattle.growth.proofs.grow.put_inner.Goals as goal
 
 pub returns : goal.returns

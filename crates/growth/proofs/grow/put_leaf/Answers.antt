@@ -1,5 +1,4 @@
 -- `grow::put_leaf` meets its contract: the row with the folded box.
-use borrow.Author.Rules.{rules}
 use Rattle.growth.proofs.grow.put_leaf.Goals as goal
 
 pub returns : goal.returns

@@ -1,5 +1,5 @@
 -- `fill_lookup` meets its contract: the positions of the first i places of the order are stored (LookupLaws, `Filling`).
-use Prim.Native.Nat.{ℕ, ◌-◌}
+use Prim.Native.Nat.{ℕ}
 use mathlib.Core.Path.{◌≡◌, refl, subst, ap, ◌∙◌}
 use lib.ListN.{set}
 use Rattle.reorder.proofs.LookupLaws.{Filling, place_below, fill_next, fill_done}

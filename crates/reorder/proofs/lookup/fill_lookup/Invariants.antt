@@ -1,9 +1,6 @@
 -- `fill_lookup` meets its contract: the positions of the first i places of the order are stored (LookupLaws, `Filling`).
-use Prim.Native.Nat.{ℕ, ◌-◌}
-use mathlib.Core.Path.{◌≡◌, refl, subst, ap, ◌∙◌}
-use lib.ListN.{set}
-use Rattle.reorder.proofs.LookupLaws.{Filling, place_below, fill_next, fill_done}
-use native.Mathlib.Omega.{arith}
+use Prim.Native.Nat.{◌-◌}
+use Rattle.reorder.proofs.LookupLaws.{Filling}
 use Rattle.reorder.proofs.lookup.fill_lookup.Given as goal
 
 abbrev pub invariant-loop-i : goal.invariant-loop-i

@@ -1,5 +1,4 @@
 -- `move_record` meets its contract: what its calls ensure, one after the other.
-use borrow.Author.Rules.{rules}
 use Prim.Native.Nat.{◌*◌}
 use mathlib.Core.Path.{ap, ◌∙◌}
 use lib.Seq.{sets}

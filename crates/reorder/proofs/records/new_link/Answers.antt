@@ -1,5 +1,4 @@
 -- `new_link` meets its contract: what its calls ensure, one after the other.
-use borrow.Author.Rules.{rules}
 use mathlib.Core.Path.{ap, ◌∙◌}
 use Rattle.base.proofs.ShortLaws.{same_short}
 use Rattle.float32.specs.Casts.{low16bits, signed16}

@@ -1,5 +1,4 @@
 -- `rebuild_records` meets its contract: the lookup that is made is the order's, and by it the records are written.
-use borrow.Author.Rules.{rules}
 use mathlib.Core.Path.{sym, ap, ◌∙◌}
 use mathlib.Core.List.{List}
 use Prim.Native.Nat.{ℕ}

@@ -1,5 +1,4 @@
 -- `relinked_triangle` meets its contract: field by field what the calls ensure.
-use borrow.Author.Rules.{rules}
 use mathlib.Core.Path.{ap, ◌∙◌}
 use Rattle.base.proofs.ShortLaws.{same_short}
 use Rattle.polygon.specs.declared.Polygon.TheVariants.{Triangle}

@@ -1,6 +1,5 @@
 -- `renumbered` meets its contract: by whether the link leads past the polygons.
 -- `renumbered` meets its contract: by whether the link leads past the polygons.
-use borrow.Author.Rules.{rules}
 use mathlib.Core.Path.{sym, ◌∙◌}
 use Rattle.base.proofs.NumberLaws.{below_at}
 use Rattle.reorder.proofs.RecordLaws.{renumbered_there, renumbered_past}

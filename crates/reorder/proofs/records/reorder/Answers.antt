@@ -1,7 +1,7 @@
 -- `reorder` meets its contract: the records of the first i positions are written, and the rest is as it was.
-use Prim.Native.Nat.{ℕ, ◌-◌, ◌≤◌}
+use Prim.Native.Nat.{ℕ}
 use mathlib.Core.Path.{◌≡◌, refl, sym, ap, ◌∙◌}
-use lib.ListN.{length, take}
+use lib.ListN.{take}
 use lib.Seq.{get_or-take}
 use Rattle.base.specs.Lists.{over}
 use Rattle.reorder.specs.Reordering.{rebuilt_records}

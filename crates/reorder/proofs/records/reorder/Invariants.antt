@@ -1,12 +1,9 @@
 -- `reorder` meets its contract: the records of the first i positions are written, and the rest is as it was.
-use Prim.Native.Nat.{ℕ, ◌-◌, ◌≤◌}
-use mathlib.Core.Path.{◌≡◌, refl, sym, ap, ◌∙◌}
+use Prim.Native.Nat.{◌-◌, ◌≤◌}
+use mathlib.Core.Path.{◌≡◌}
 use lib.ListN.{length, take}
-use lib.Seq.{get_or-take}
 use Rattle.base.specs.Lists.{over}
 use Rattle.reorder.specs.Reordering.{rebuilt_records}
-use Rattle.reorder.proofs.RecordLaws.{records_next, order_at}
-use native.Mathlib.Omega.{arith}
 use Rattle.reorder.proofs.records.reorder.Given as goal
 
 abbrev pub invariant-loop-i : goal.invariant-loop-i

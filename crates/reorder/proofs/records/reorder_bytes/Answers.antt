@@ -1,7 +1,7 @@
 -- `reorder_bytes` meets its contract: the numbers of the first i positions are written, and the rest is as it was.
-use Prim.Native.Nat.{ℕ, ◌-◌, ◌≤◌}
+use Prim.Native.Nat.{ℕ}
 use mathlib.Core.Path.{◌≡◌, refl, ap, ◌∙◌}
-use lib.ListN.{length, take, get_or, length-set}
+use lib.ListN.{take, get_or, length-set}
 use Rattle.base.specs.Lists.{over}
 use Rattle.reorder.specs.Reordering.{in_order}
 use Rattle.reorder.proofs.RecordLaws.{numbers_next, order_at}

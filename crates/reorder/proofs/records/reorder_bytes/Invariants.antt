@@ -1,11 +1,9 @@
 -- `reorder_bytes` meets its contract: the numbers of the first i positions are written, and the rest is as it was.
-use Prim.Native.Nat.{ℕ, ◌-◌, ◌≤◌}
-use mathlib.Core.Path.{◌≡◌, refl, ap, ◌∙◌}
-use lib.ListN.{length, take, get_or, length-set}
+use Prim.Native.Nat.{◌-◌, ◌≤◌}
+use mathlib.Core.Path.{◌≡◌}
+use lib.ListN.{length, take}
 use Rattle.base.specs.Lists.{over}
 use Rattle.reorder.specs.Reordering.{in_order}
-use Rattle.reorder.proofs.RecordLaws.{numbers_next, order_at}
-use native.Mathlib.Omega.{arith}
 use Rattle.reorder.proofs.records.reorder_bytes.Given as goal
 
 abbrev pub invariant-loop-i : goal.invariant-loop-i
