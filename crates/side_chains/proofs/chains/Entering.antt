@@ -1,8 +1,7 @@
 -- The highest corner so far, and the sides that are entered from the last on.
-use Prim.Native.Nat.{ℕ, zero, suc, ◌+◌, ◌-◌, ◌*◌, ◌/◌, ◌%◌, ◌≤◌, ◌<◌}
+use Prim.Native.Nat.{ℕ, suc, ◌+◌, ◌-◌, ◌*◌, ◌/◌, ◌%◌, ◌≤◌, ◌<◌}
 use native.Mathlib.Omega.{arith}
-use native.Mathlib.Numerals.{add-one}
-use mathlib.Core.Path.{◌≡◌, refl, sym, ap, ap₂, subst, ◌∙◌}
+use mathlib.Core.Path.{◌≡◌, refl, sym, ap, subst, ◌∙◌}
 use mathlib.Core.Bool.{Bool, true, false, not, cond, true≢false}
 use mathlib.Core.List.{List, [], ◌∷◌}
 use lib.Dec.{eqb, ltb}
@@ -14,7 +13,7 @@ use Rattle.base.proofs.EveryLaws.{every_sift}
 use Rattle.corners.specs.Corners.{none, next_of, there, Corners}
 use Rattle.sides.specs.Lists.{with_key}
 use Rattle.sides.specs.Sides.{pair_of, key_of}
-use Rattle.side_chains.specs.Steps.Chains.{low_of, high_of, Chain, Chained, Enterable, CornersBelow, past_of, sides_from}
+use Rattle.side_chains.specs.Steps.Chains.{low_of, high_of, Chained, Enterable, past_of, sides_from}
 use Rattle.sides.proofs.EveryOf.{every_map}
 use Rattle.sides.proofs.SiftLaws.{sift_front, sift_past}
 use Rattle.sides.proofs.SideLaws.{leads_within, leads_back, leads_on}

@@ -1,16 +1,16 @@
 -- The loop of `link_chains`: the sides whose lower corner is below a are linked. Of a chain, those with one higher corner have one key.
-use Prim.Native.Nat.{ℕ, zero, suc, ◌+◌, ◌*◌, ◌/◌, ◌%◌, ◌≤◌, ◌<◌}
+use Prim.Native.Nat.{ℕ, zero, suc, ◌+◌, ◌*◌, ◌≤◌, ◌<◌}
 use native.Mathlib.Omega.{arith}
 use mathlib.Core.Path.{◌≡◌, refl, sym, ap, subst, ◌∙◌}
 use mathlib.Core.Bool.{Bool, true, false, cond, true≢false}
 use mathlib.Core.List.{List, [], ◌∷◌}
 use lib.Dec.{eqb}
 use lib.ListN.{length, get_or}
-use borrow.Author.Tests.{eqb-true, eqb-false, eq-eqb, ne_eqb}
+use borrow.Author.Tests.{eqb-true, eqb-false}
 use Rattle.base.specs.Every.{Every}
-use Rattle.base.specs.Lists.{sift, occurrences, Among}
+use Rattle.base.specs.Lists.{occurrences, Among}
 use Rattle.base.proofs.EveryLaws.{every_sift}
-use Rattle.sides.specs.Lists.{with_key, RisingBy}
+use Rattle.sides.specs.Lists.{with_key}
 use Rattle.sides.specs.Links.{link_among}
 use Rattle.sides.specs.Steps.Linked.{Linked}
 use Rattle.side_chains.specs.Steps.Chains.{low_of, high_of, high_in, Chain, Chained, Fit, Walkable, Linkable}

@@ -4,7 +4,6 @@ use Rattle.base.specs.Every.{Every}
 use Rattle.base.specs.Lists.{sift, up_from}
 use Rattle.corners.specs.Corners.{none, there, Corners}
 use Rattle.sides.specs.Lists.{with_key, RisingBy}
-use Rattle.sides.specs.Sides.{key_of}
 use Rattle.sides.specs.Steps.Linked.{Linked}
 
 -- a side's lower and its higher corner, by its key

@@ -1,9 +1,6 @@
 -- `fill` meets its contract, by the invariant `Filling`.
-use Prim.Native.Nat.{ℕ, ◌-◌, ◌≤◌}
 use native.Mathlib.Omega.{arith}
-use mathlib.Core.Path.{◌≡◌}
-use lib.ListN.{length}
-use Rattle.finishing.proofs.FilledLaws.{Filling, start, one_more, whole}
+use Rattle.finishing.proofs.FilledLaws.{start, one_more, whole}
 use Rattle.finishing.proofs.listing.fill.Goals as goal
 
 pub loop-at-init : goal.loop-at-init

@@ -1,9 +1,6 @@
 -- `fill` meets its contract, by the invariant `Filling`.
-use Prim.Native.Nat.{ℕ, ◌-◌, ◌≤◌}
-use native.Mathlib.Omega.{arith}
-use mathlib.Core.Path.{◌≡◌}
-use lib.ListN.{length}
-use Rattle.finishing.proofs.FilledLaws.{Filling, start, one_more, whole}
+use Prim.Native.Nat.{◌-◌}
+use Rattle.finishing.proofs.FilledLaws.{Filling}
 use Rattle.finishing.proofs.listing.fill.Given as goal
 
 abbrev pub invariant-loop-at : goal.invariant-loop-at

@@ -5,7 +5,6 @@ use mathlib.Core.List.{List}
 use Rattle.base.specs.Lists.{over}
 use Rattle.materials.specs.Materials.{materials_bytes}
 use Rattle.finishing.specs.Filled.{filled, list_bytes}
-use borrow.Author.Rules.{rules}
 use Rattle.finishing.proofs.listing.list_materials.Goals as goal
 
 pub returns : goal.returns

@@ -8,7 +8,6 @@ use Rattle.records.specs.declared.BoundVertex.{BoundVertex}
 use Rattle.records.specs.Records.{vertex_bytes}
 use Rattle.vertices.specs.Vertices.{stored_of, read_back_of}
 use Rattle.finishing.specs.Stored.{stored_at, back_at}
-use borrow.Author.Rules.{rules}
 use Rattle.finishing.proofs.storing.put_one.Goals as goal
 
 pub returns : goal.returns

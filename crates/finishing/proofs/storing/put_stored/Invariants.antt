@@ -1,19 +1,14 @@
 -- `put_stored` meets its contract. The loop's invariant: the vertices before i are stored and read back, and nothing else is changed.
-use Prim.Native.Nat.{ℕ, ◌+◌, ◌-◌, ◌*◌, ◌≤◌}
-use native.Mathlib.Omega.{arith}
-use mathlib.Core.Path.{◌≡◌, refl, sym, ap, ◌∙◌}
+use Prim.Native.Nat.{ℕ, ◌-◌, ◌≤◌}
+use mathlib.Core.Path.{◌≡◌}
 use mathlib.Core.List.{List}
 use lib.ListN.{length}
-use lib.Seq.{sets}
 use Rattle.base.specs.Lists.{over}
 use Rattle.corners.specs.Corners.{in_turn}
 use Rattle.math.specs.declared.vec3.Vec3.{Vec3}
 use Rattle.points.specs.Points.{words_of}
-use Rattle.points.proofs.PointLaws.{points_next}
 use Rattle.records.specs.Records.{vertex_bytes}
-use Rattle.finishing.specs.Stored.{stored_at, back_at, stored_bytes, floats_of}
-use Rattle.finishing.specs.Steps.Finishing.{Stored}
-use Rattle.finishing.proofs.StoredLaws.{stored_next}
+use Rattle.finishing.specs.Stored.{stored_at, back_at}
 use Rattle.finishing.proofs.storing.put_stored.Given as goal
 
 pub record Storing (ws : List ℕ) (v : ℕ) (quantum : Vec3) (stored₀ floats₀ stored floats : List ℕ) (i : ℕ) : Type 0 where

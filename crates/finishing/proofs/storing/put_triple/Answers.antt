@@ -7,7 +7,6 @@ use Rattle.records.specs.Records.{vertex_bytes}
 use Rattle.records.specs.Shorts.{short_bytes}
 use Rattle.records.proofs.Fields.{same_stored}
 use Rattle.records.proofs.Sizes.{short_bytes_lem}
-use borrow.Author.Rules.{rules}
 use Rattle.finishing.proofs.storing.put_triple.Goals as goal
 
 pub returns : goal.returns

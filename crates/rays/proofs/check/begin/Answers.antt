@@ -1,5 +1,4 @@
 -- `check::begin` meets its contract: with a corner missing no rows are asked; else they are filled.
-use borrow.Author.Rules.{rules}
 use mathlib.Core.Path.{sym, ◌∙◌}
 use mathlib.Core.Bool.{true≢false}
 use Rattle.rays.proofs.CheckLaws.{fillable}

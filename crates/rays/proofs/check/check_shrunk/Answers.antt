@@ -1,5 +1,4 @@
 -- `check::check_shrunk` meets its contract: the rows of the shrunk triangles are filled, then the vertices are gone through.
-use borrow.Author.Rules.{rules}
 use mathlib.Core.Path.{refl, sym, ◌∙◌}
 use Rattle.rays.proofs.SomeLaws.{passes_by_rows}
 use Rattle.rays.proofs.CheckLaws.{fillable, refilled}

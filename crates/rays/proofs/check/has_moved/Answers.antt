@@ -1,5 +1,4 @@
 -- `check::has_moved` meets its contract: the way back has the length that the definition says.
-use borrow.Author.Rules.{rules}
 use mathlib.Core.Path.{ap}
 use mathlib.Core.Bool.{not}
 use lib.Ieee.{eq}

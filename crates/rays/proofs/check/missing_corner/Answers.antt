@@ -1,7 +1,7 @@
 -- `check::missing_corner` meets its contract. The loop's invariant: none of the corners before k is missing.
 use mathlib.Core.Path.{◌≡◌, refl, sym, ap, ◌∙◌}
-use Prim.Native.Nat.{ℕ, ◌-◌, ◌*◌, ◌≤◌}
-use mathlib.Core.Bool.{true, not}
+use Prim.Native.Nat.{ℕ, ◌*◌}
+use mathlib.Core.Bool.{not}
 use lib.Dec.{leb}
 use lib.ListN.{get_or}
 use native.Mathlib.Omega.{arith}

@@ -1,14 +1,10 @@
 -- `check::missing_corner` meets its contract. The loop's invariant: none of the corners before k is missing.
-use mathlib.Core.Path.{◌≡◌, refl, sym, ap, ◌∙◌}
-use Prim.Native.Nat.{ℕ, ◌-◌, ◌*◌, ◌≤◌}
-use mathlib.Core.Bool.{true, not}
+use mathlib.Core.Path.{◌≡◌}
+use Prim.Native.Nat.{◌-◌, ◌*◌, ◌≤◌}
+use mathlib.Core.Bool.{true}
 use lib.Dec.{leb}
 use lib.ListN.{get_or}
-use native.Mathlib.Omega.{arith}
-use borrow.Author.Tests.{le-leb, lt-leb}
 use Rattle.rays.specs.Steps.Counting.{none_to}
-use Rattle.rays.proofs.CountLaws.{none_next, some_at}
-use borrow.Author.Rules.{rules}
 use Rattle.rays.proofs.check.missing_corner.Given as goal
 
 abbrev pub invariant-loop-k : goal.invariant-loop-k

@@ -1,13 +1,9 @@
 -- `check::none_fails` meets its contract. The loop's invariant: none of the vertices whose turn was before k fails.
-use mathlib.Core.Path.{◌≡◌, refl, sym, ap, ◌∙◌}
-use Prim.Native.Nat.{ℕ, ◌-◌, ◌≤◌}
+use mathlib.Core.Path.{◌≡◌}
+use Prim.Native.Nat.{◌-◌, ◌≤◌}
 use mathlib.Core.Bool.{true}
 use Rattle.rays.specs.Steps.Counting.{none_to}
 use Rattle.rays.specs.Steps.Checking.{fails_in, turn_of}
-use Rattle.rays.proofs.CountLaws.{none_next, some_at}
-use Rattle.rays.proofs.TurnLaws.{all_turns}
-use native.Mathlib.Omega.{arith}
-use borrow.Author.Rules.{rules}
 use Rattle.rays.proofs.check.none_fails.Given as goal
 
 abbrev pub invariant-loop-k : goal.invariant-loop-k

@@ -1,5 +1,4 @@
 -- `check::stopped` meets its contract: the vertex did not move, or the hits decide.
-use borrow.Author.Rules.{rules}
 use mathlib.Core.Path.{◌∙◌}
 use Rattle.rays.specs.Checks.{way_back}
 use Rattle.points.specs.Points.{vertex_at}

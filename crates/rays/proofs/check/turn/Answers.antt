@@ -1,5 +1,4 @@
 -- `check::turn` meets its contract, case by case.
-use borrow.Author.Rules.{rules}
 use Rattle.rays.proofs.TurnLaws.{no_hint, hint_first, others_before, others_behind}
 use native.Mathlib.Omega.{arith}
 use Rattle.rays.proofs.check.turn.Goals as goal

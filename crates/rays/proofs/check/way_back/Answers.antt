@@ -2,7 +2,6 @@
 use mathlib.Core.Path.{ap, ◌∙◌}
 use Rattle.math.specs.Vec3s.{◌⊘◌, one, length_of, scale_of}
 use Rattle.rays.specs.Checks.{way_back}
-use borrow.Author.Rules.{rules}
 use Rattle.rays.proofs.check.way_back.Goals as goal
 
 pub returns : goal.returns

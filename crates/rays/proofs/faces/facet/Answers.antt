@@ -1,5 +1,4 @@
 -- `faces::facet` meets its contract: what the differences ensure, put together.
-use borrow.Author.Rules.{rules}
 use Rattle.rays.proofs.faces.facet.Goals as goal
 
 pub returns : goal.returns

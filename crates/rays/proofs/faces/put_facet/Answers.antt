@@ -4,7 +4,6 @@ use Prim.Native.Nat.{◌+◌, ◌*◌}
 use mathlib.Core.List.{List}
 use lib.Ieee.{Float}
 use Rattle.rays.specs.Steps.Rows.{put_column, put_facet}
-use borrow.Author.Rules.{rules}
 use Rattle.rays.proofs.faces.put_facet.Goals as goal
 
 pub returns : goal.returns

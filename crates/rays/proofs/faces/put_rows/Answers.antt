@@ -1,6 +1,6 @@
 -- `faces::put_rows` meets its contract. The loop's invariant: the rows hold the triangles before k, and are as many as at entry.
 use mathlib.Core.Path.{◌≡◌, refl, subst, sym, ap, ◌∙◌}
-use Prim.Native.Nat.{ℕ, ◌+◌, ◌*◌, ◌-◌, ◌≤◌, ◌<◌}
+use Prim.Native.Nat.{ℕ, ◌+◌, ◌*◌, ◌≤◌, ◌<◌}
 use mathlib.Core.List.{List}
 use lib.ListN.{length}
 use lib.Ieee.{Float}
@@ -8,7 +8,6 @@ use native.Mathlib.Omega.{arith}
 use Rattle.rays.specs.Rays.{facet_of}
 use Rattle.rays.specs.Steps.Rows.{Filled}
 use Rattle.rays.proofs.RowLaws.{filled_more, length_facet}
-use borrow.Author.Rules.{rules}
 use Rattle.rays.proofs.faces.put_rows.Goals as goal
 
 pub loop-k-init : goal.loop-k-init
@@ -44,11 +43,10 @@ vertex_at-c-requires c =
     omega (arith, c.requires.vertices_in, c.requires.inside (2 * c.args.t + c.loop-k.k) (omega arith))
 
 pub put_facet-requires : goal.put_facet-requires
-put_facet-requires c =
-    (
-      omega (arith, c.requires.rows_in.coordinates, c.loop-k.invariant.same_length),
-      omega arith,
-    )
+put_facet-requires c = (
+  omega (arith, c.requires.rows_in.coordinates, c.loop-k.invariant.same_length),
+  omega arith,
+)
 
 pub overflow_add-k : goal.overflow_add-k
 overflow_add-k c =

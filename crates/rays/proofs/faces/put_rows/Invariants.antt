@@ -1,14 +1,10 @@
 -- `faces::put_rows` meets its contract. The loop's invariant: the rows hold the triangles before k, and are as many as at entry.
-use mathlib.Core.Path.{◌≡◌, refl, subst, sym, ap, ◌∙◌}
-use Prim.Native.Nat.{ℕ, ◌+◌, ◌*◌, ◌-◌, ◌≤◌, ◌<◌}
+use mathlib.Core.Path.{◌≡◌}
+use Prim.Native.Nat.{ℕ, ◌-◌, ◌≤◌}
 use mathlib.Core.List.{List}
 use lib.ListN.{length}
 use lib.Ieee.{Float}
-use native.Mathlib.Omega.{arith}
-use Rattle.rays.specs.Rays.{facet_of}
 use Rattle.rays.specs.Steps.Rows.{Filled}
-use Rattle.rays.proofs.RowLaws.{filled_more, length_facet}
-use borrow.Author.Rules.{rules}
 use Rattle.rays.proofs.faces.put_rows.Given as goal
 
 pub record Filling (tri : List ℕ) (t : ℕ) (points : List ℕ) (before rows : List Float) (k : ℕ) : Type 0 where

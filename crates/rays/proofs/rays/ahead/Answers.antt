@@ -1,6 +1,5 @@
 -- `rays::ahead` meets its contract: four tests together.
 use Rattle.rays.proofs.CountLaws.{together}
-use borrow.Author.Rules.{rules}
 use Rattle.rays.proofs.rays.ahead.Goals as goal
 
 pub returns : goal.returns

@@ -3,7 +3,6 @@ use mathlib.Core.Path.{ap, ap₂, ◌∙◌}
 use Rattle.math.specs.declared.vec3.Vec3.{Vec3}
 use Rattle.math.specs.Vec3s.{◌⊗◌, ◌⊘◌, one, dot_of, cross_of}
 use Rattle.rays.specs.Rays.{meeting_of}
-use borrow.Author.Rules.{rules}
 use Rattle.rays.proofs.rays.meet.Goals as goal
 
 pub returns : goal.returns

@@ -5,7 +5,6 @@ use Rattle.rays.specs.declared.rays.Meeting.{Meeting}
 use Rattle.rays.specs.Steps.Counting.{Failed}
 use Rattle.rays.specs.Rays.{strikes, hits}
 use Rattle.rays.proofs.CountLaws.{together}
-use borrow.Author.Rules.{rules}
 use Rattle.rays.proofs.rays.misses.Goals as goal
 
 pub returns : goal.returns

@@ -5,7 +5,6 @@ use lib.Ieee.{lt, neg}
 use Rattle.math.specs.Vec3s.{tolerance}
 use native.Mathlib.Omega.{arith}
 use Rattle.rays.proofs.RayLaws.{flat_by_two, both_failed, one_passed}
-use borrow.Author.Rules.{rules}
 use Rattle.rays.proofs.rays.not_flat.Goals as goal
 
 pub returns-then-low-high-eq2 : goal.returns-then-low-high-eq2

@@ -1,6 +1,5 @@
 -- `rays::within` meets its contract: two tests together.
 use Rattle.rays.proofs.CountLaws.{together}
-use borrow.Author.Rules.{rules}
 use Rattle.rays.proofs.rays.within.Goals as goal
 
 pub returns : goal.returns

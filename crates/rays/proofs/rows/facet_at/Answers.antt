@@ -1,5 +1,4 @@
 -- `rows::facet_at` meets its contract: what the three columns ensure, put together.
-use borrow.Author.Rules.{rules}
 use Rattle.rays.proofs.rows.facet_at.Goals as goal
 
 pub returns : goal.returns

@@ -1,6 +1,6 @@
 -- `rows::hits_in` meets its contract. The loop's invariant: `hits` counts the triangles before k that are struck. The measure is what is left of the triangles.
 use mathlib.Core.Path.{◌≡◌, sym, ap, ap₂, subst, ◌∙◌}
-use Prim.Native.Nat.{ℕ, ◌≤◌, ◌+◌, ◌-◌}
+use Prim.Native.Nat.{ℕ, ◌+◌}
 use lib.Dec.{eqb}
 use native.Mathlib.Omega.{arith}
 use Rattle.rays.specs.declared.rays.Facet.{Facet}
@@ -10,7 +10,6 @@ use Rattle.rays.specs.Rays.{hits}
 use Rattle.rays.specs.Steps.Rows.{struck}
 use Rattle.rays.proofs.CountLaws.{together, count_more_lem, count_few}
 use Rattle.base.proofs.ListLaws.{one_or_none}
-use borrow.Author.Rules.{rules}
 use Rattle.rays.proofs.rows.hits_in.Goals as goal
 
 pub overflow_add-hits : goal.overflow_add-hits

@@ -5,7 +5,6 @@ use mathlib.Core.Bool.{Bool}
 use Prim.Native.Nat.{◌+◌}
 use Rattle.rays.specs.Steps.Counting.{Failed}
 use Rattle.rays.proofs.CountLaws.{together, none_of_three}
-use borrow.Author.Rules.{rules}
 use Rattle.rays.proofs.rows.none_of.Goals as goal
 
 pub returns : goal.returns

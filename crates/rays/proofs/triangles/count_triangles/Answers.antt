@@ -1,5 +1,5 @@
 -- `triangles::count_triangles` meets its contract. The loop's invariant: t counts the triangles before p.
-use Prim.Native.Nat.{ℕ, ◌+◌, ◌-◌, ◌*◌, ◌≤◌}
+use Prim.Native.Nat.{ℕ, ◌+◌, ◌*◌}
 use mathlib.Core.Path.{◌≡◌, refl, sym, ap, ap₂, ◌∙◌}
 use lib.ListN.{length}
 use Rattle.base.proofs.ListLaws.{one_or_none}
@@ -7,7 +7,6 @@ use Rattle.corners.specs.Corners.{there}
 use Rattle.rays.proofs.TriangleLaws.{count_more_lem}
 use Rattle.rays.specs.Checks.{triangles_of}
 use native.Mathlib.Omega.{arith}
-use borrow.Author.Rules.{rules}
 use Rattle.rays.proofs.triangles.count_triangles.Goals as goal
 
 pub loop-p-init : goal.loop-p-init

@@ -1,5 +1,4 @@
 -- `triangles::put_triangle` meets its contract: three stores.
-use borrow.Author.Rules.{rules}
 use lib.ListN.{length-set}
 use native.Mathlib.Omega.{arith}
 use Rattle.rays.proofs.triangles.put_triangle.Goals as goal

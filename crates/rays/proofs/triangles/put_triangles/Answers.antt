@@ -3,11 +3,10 @@ use Prim.Native.Nat.{ℕ, ◌+◌, ◌-◌, ◌≤◌, ◌<◌}
 use mathlib.Core.List.{List, [], ◌∷◌, ◌++◌}
 use mathlib.Core.Path.{◌≡◌, refl, sym, ap, subst, ◌∙◌}
 use lib.ListN.{length, length-append}
-use Rattle.rays.proofs.TriangleLaws.{Standing, Laying, no_triangle, a_triangle, count_grows, stands_more, length_triangle}
+use Rattle.rays.proofs.TriangleLaws.{Standing, no_triangle, a_triangle, count_grows, stands_more, length_triangle}
 use Rattle.rays.specs.Checks.{triangles_of}
 use Rattle.rays.specs.Steps.Rows.{put_triangle}
 use native.Mathlib.Omega.{arith}
-use borrow.Author.Rules.{rules}
 use Rattle.rays.proofs.triangles.put_triangles.Goals as goal
 
 -- a triangle before n leaves room in its row

@@ -1,7 +1,6 @@
 -- `clear`: the words before b are zero.
-use Prim.Native.Nat.{ℕ, ◌-◌, ◌≤◌, ◌<◌}
-use mathlib.Core.Path.{◌≡◌, refl}
-use lib.ListN.{length, get_or, length-set}
+use mathlib.Core.Path.{refl}
+use lib.ListN.{length-set}
 use Rattle.sides.proofs.SideLaws.{stored_one}
 use native.Mathlib.Omega.{arith}
 use Rattle.side_chains.proofs.chains.clear.Goals as goal

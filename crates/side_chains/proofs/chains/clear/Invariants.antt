@@ -1,9 +1,7 @@
 -- `clear`: the words before b are zero.
 use Prim.Native.Nat.{ℕ, ◌-◌, ◌≤◌, ◌<◌}
-use mathlib.Core.Path.{◌≡◌, refl}
-use lib.ListN.{length, get_or, length-set}
-use Rattle.sides.proofs.SideLaws.{stored_one}
-use native.Mathlib.Omega.{arith}
+use mathlib.Core.Path.{◌≡◌}
+use lib.ListN.{length, get_or}
 use Rattle.side_chains.proofs.chains.clear.Given as goal
 
 abbrev pub invariant-loop-b : goal.invariant-loop-b

@@ -1,6 +1,4 @@
 -- `enter_side`: a side that is there goes before those behind it that have its lower corner.
-use borrow.Author.Rules.{rules}
-use mathlib.Core.Path.{sym}
 use Rattle.side_chains.proofs.chains.Entering.{skipped, to_in, both_small, low_as, packed_fits, entered_as}
 use native.Mathlib.Omega.{arith}
 use Rattle.side_chains.proofs.chains.enter_side.Goals as goal

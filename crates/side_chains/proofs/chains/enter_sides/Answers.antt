@@ -1,9 +1,5 @@
 -- `enter_sides`: the sides from s on are entered.
-use Prim.Native.Nat.{ℕ, ◌+◌, ◌-◌, ◌%◌, ◌≤◌, ◌<◌}
-use mathlib.Core.Path.{◌≡◌, refl, sym, ap, subst, ◌∙◌}
-use lib.ListN.{length}
-use Rattle.sides.specs.Sides.{key_of}
-use Rattle.side_chains.specs.Steps.Chains.{Chained, Enterable, sides_from}
+use mathlib.Core.Path.{refl, ◌∙◌}
 use Rattle.side_chains.proofs.chains.Entering.{none_entered, still_enterable, third_leads, second_leads, first_leads, from_as}
 use native.Mathlib.Omega.{arith}
 use Rattle.side_chains.proofs.chains.enter_sides.Goals as goal

@@ -1,5 +1,4 @@
 -- `past_corner`, by its cases.
-use borrow.Author.Rules.{rules}
 use Rattle.side_chains.specs.Steps.Chains.{past_of}
 use borrow.Author.Tests.{eq-eqb, ne_eqb, lt-ltb, le-ltb}
 use Rattle.side_chains.proofs.chains.past_corner.Goals as goal

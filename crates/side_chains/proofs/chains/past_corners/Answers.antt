@@ -1,9 +1,4 @@
 -- `past_corners`: the corners before s are below `past`.
-use Prim.Native.Nat.{ℕ, ◌-◌, ◌≤◌, ◌<◌}
-use mathlib.Core.Path.{◌≡◌}
-use mathlib.Core.Bool.{true}
-use lib.ListN.{length, get_or}
-use Rattle.corners.specs.Corners.{there, Corners}
 use Rattle.side_chains.proofs.chains.Entering.{past_small, past_more}
 use native.Mathlib.Omega.{arith}
 use Rattle.side_chains.proofs.chains.past_corners.Goals as goal

@@ -4,8 +4,6 @@ use mathlib.Core.Path.{◌≡◌}
 use mathlib.Core.Bool.{true}
 use lib.ListN.{length, get_or}
 use Rattle.corners.specs.Corners.{there, Corners}
-use Rattle.side_chains.proofs.chains.Entering.{past_small, past_more}
-use native.Mathlib.Omega.{arith}
 use Rattle.side_chains.proofs.chains.past_corners.Given as goal
 
 abbrev pub invariant-loop-s : goal.invariant-loop-s

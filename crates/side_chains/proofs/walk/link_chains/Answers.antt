@@ -1,10 +1,6 @@
 -- `link_chains`: the sides whose lower corner is below a are linked, whatever the sides are that the chains are of.
-use Prim.Native.Nat.{ℕ, ◌+◌, ◌-◌, ◌*◌, ◌≤◌, ◌<◌}
-use mathlib.Core.Path.{◌≡◌, refl, ◌∙◌}
-use mathlib.Core.List.{List}
-use lib.ListN.{length, get_or}
-use Rattle.side_chains.specs.Steps.Chains.{Chained, Linkable}
-use Rattle.side_chains.proofs.walk.Linking.{Linking, start, walkable, one_chain, ended}
+use mathlib.Core.Path.{refl, ◌∙◌}
+use Rattle.side_chains.proofs.walk.Linking.{start, walkable, one_chain, ended}
 use native.Mathlib.Omega.{arith}
 use Rattle.side_chains.proofs.walk.link_chains.Goals as goal
 

@@ -1,5 +1,4 @@
 -- `link_later`: the later side is stored, and the first's where it has none.
-use borrow.Author.Rules.{rules}
 use Rattle.side_chains.proofs.walk.Joining.{as_second, as_third}
 use Rattle.side_chains.proofs.walk.link_later.Goals as goal
 

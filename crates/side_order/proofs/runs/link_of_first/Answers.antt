@@ -1,6 +1,5 @@
 -- `link_of_first`: the next side's polygon, if there is a next side and it has the same key.
 use native.Mathlib.Omega.{arith}
-use borrow.Author.Rules.{rules}
 use Prim.Native.Nat.{◌+◌}
 use mathlib.Core.Path.{sym, ◌∙◌}
 use Rattle.sides.specs.Steps.Grouped.{key_in}

@@ -1,11 +1,10 @@
 -- `link_runs` links each side, by the invariant `Running`.
 use native.Mathlib.Omega.{arith}
-use Prim.Native.Nat.{◌+◌, ◌-◌, ◌<◌}
+use Prim.Native.Nat.{◌+◌, ◌<◌}
 use mathlib.Core.Path.{sym, ap, ◌∙◌}
 use lib.ListN.{length, get_or}
-use Rattle.sides.specs.Steps.Grouped.{key_in, Sides}
 use Rattle.sides.proofs.KeyedLaws.{keyed_at, numbers}
-use Rattle.side_order.proofs.runs.Running.{Running, start, room, goes_on, begins, ended}
+use Rattle.side_order.proofs.runs.Running.{start, room, goes_on, begins, ended}
 use Rattle.side_order.proofs.runs.link_runs.Goals as goal
 
 pub loop-i-init : goal.loop-i-init
