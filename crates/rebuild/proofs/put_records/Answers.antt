@@ -1,9 +1,9 @@
 -- `put_records` meets its contract: the records where there is a tree, else nothing.
 use borrow.Author.Rules.{rules}
 use mathlib.Core.Path.{sym, ap, ◌∙◌}
-use Rattle.core.specs.Prelude.{take}
+use Rattle.std.specs.Prelude.{take}
 use Rattle.bvh.specs.Build.{kept}
-use Rattle.bvh.specs.declared.core.Build.{Build}
+use Rattle.bvh.specs.declared.slices.Build.{Build}
 use Rattle.reorder.specs.Reordering.{rebuilt_of}
 use Rattle.rebuild.proofs.put_records.Goals as goal
 

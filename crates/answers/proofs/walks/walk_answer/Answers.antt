@@ -1,5 +1,5 @@
 -- `walks::walk_answer` meets its contract: a case of the enum each, told by the match.
-use Rattle.core.specs.Prelude.{ℕ}
+use Rattle.std.specs.Prelude.{ℕ}
 use mathlib.Core.Path.{ap, ◌∙◌}
 use Rattle.answers.specs.WalkAnswers.{counted}
 use borrow.Author.Rules.{rules}

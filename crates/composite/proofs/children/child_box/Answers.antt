@@ -1,7 +1,7 @@
 -- `child_box` meets its contract: by the two tests. The words of child k are those of the first child from k on (`first-of-rest`).
 use borrow.Author.Rules.{rules}
 use mathlib.Core.Bool.{and_false}
-use Rattle.core.specs.Prelude.{◌≡◌, ℕ, ◌+◌, ◌-◌, ◌*◌, ◌/◌, ◌<◌, ◌≤◌, List, length, get_or, take, drop}
+use Rattle.std.specs.Prelude.{◌≡◌, ℕ, ◌+◌, ◌-◌, ◌*◌, ◌/◌, ◌<◌, ◌≤◌, List, length, get_or, take, drop}
 use mathlib.Core.Path.{ap, ◌∙◌}
 use lib.Ieee.{binary32, of_bits}
 use lib.Seq.{get_or-take, get_or-drop}

@@ -1,6 +1,6 @@
 -- `list::put_children` meets its contract: the entries hold the child boxes, their build is not refused, and what it writes is listed.
 use borrow.Author.Rules.{rules}
-use Rattle.core.specs.Prelude.{◌/◌, length, replicate}
+use Rattle.std.specs.Prelude.{◌/◌, length, replicate}
 use mathlib.Core.Path.{ap, ◌∙◌}
 use Rattle.bvh.specs.Entry.{entries_in, Outputs, outputs}
 use Rattle.listing.specs.Listing.{children_of}
