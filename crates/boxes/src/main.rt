@@ -1,6 +1,10 @@
 // Reads child box records and prints the tree over them.
 #![tactic(auto)]
 
+const STDIN: i32 = 0;
+
+const STDOUT: i32 = 1;
+
 fn main() {
-    listing::run::run(libc::STDIN_FILENO, libc::STDOUT_FILENO);
+    listing::run::run(STDIN, STDOUT);
 }

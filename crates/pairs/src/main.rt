@@ -18,6 +18,8 @@ use std::num::wrapping_add_u64;
 use tree::pair::Found;
 use walk::slices::{Counts, Walk};
 
+const STDOUT: i32 = 1;
+
 // What the answer to a query comes to. It fails where an item that meets is missed, an item comes twice or is not present, or more
 // records are read than there are.
 fn verdict(
@@ -143,5 +145,5 @@ fn run(to: i32) {
 }
 
 fn main() {
-    run(libc::STDOUT_FILENO);
+    run(STDOUT);
 }

@@ -1,6 +1,10 @@
 // Reads a mesh and prints it prepared.
 #![tactic(auto)]
 
+const STDIN: i32 = 0;
+
+const STDOUT: i32 = 1;
+
 fn main() {
-    prepare_run::run(libc::STDIN_FILENO, libc::STDOUT_FILENO);
+    prepare_run::run(STDIN, STDOUT);
 }

@@ -1,28 +1,28 @@
 // Runs what `prepare` runs on each file that an argument names, after a line with the name.
 #![tactic(auto)]
 
-use libc::STDOUT_FILENO;
+use std::env;
+use std::fs::File;
+use std::os::fd::AsRawFd;
+use std::rt::Files;
 
-fn run_case(number: usize) {
-    let mut name = io::buffer();
-    let n = os::arg(number, &mut name);
-    io::write_all(STDOUT_FILENO, b"case ");
-    io::write_all(STDOUT_FILENO, &name[..n]);
-    io::write_all(STDOUT_FILENO, b"\n");
-    let file = os::open_read(&name[..n]);
-    if file < 0 {
-        os::fail(&name[..n]);
-        return;
+const STDOUT: i32 = 1;
+
+fn run_case(rt: &(impl Files<File = File> + Eprint), name: &str) {
+    io::write_all(STDOUT, b"case ");
+    io::write_all(STDOUT, name.as_bytes());
+    io::write_all(STDOUT, b"\n");
+    match File::open(rt, name) {
+        Ok(file) => prepare_run::run(file.as_raw_fd(), STDOUT),
+        Err(error) => {
+            let _ = eprintln!(rt; "{name}: {error}");
+        }
     }
-    prepare_run::run(file, STDOUT_FILENO);
-    libc::close(file);
 }
 
-fn main() {
-    let count = os::arg_count();
-    let mut i = 1;
-    while i < count {
-        run_case(i);
-        i += 1;
+fn main(rt: HostRuntime) -> std::io::Result<()> {
+    for name in env::args(&rt)?.skip(1) {
+        run_case(&rt, &name);
     }
+    Ok(())
 }

@@ -3,7 +3,9 @@
 
 ghost use Rattle.std.specs.Prelude.{◌<◌};
 
-use libc::{STDIN_FILENO, STDOUT_FILENO};
+const STDIN: i32 = 0;
+
+const STDOUT: i32 = 1;
 
 // The turns that are left after one: none where there is no more to read.
 fn after(turns: u64, more: bool) -> u64
@@ -17,7 +19,7 @@ fn after(turns: u64, more: bool) -> u64
 fn main() {
     let mut turns = u64::MAX;
     while turns > 0 {
-        let more = prepare_run::run_next(STDIN_FILENO, STDOUT_FILENO);
+        let more = prepare_run::run_next(STDIN, STDOUT);
         turns = after(turns, more);
     }
 }

@@ -11,7 +11,9 @@ mod words;
 
 ghost use Rattle.std.specs.Prelude.{◌≡◌, ◌<◌, ◌≤◌, length};
 
-use libc::{STDIN_FILENO, STDOUT_FILENO};
+const STDIN: i32 = 0;
+
+const STDOUT: i32 = 1;
 
 #[derive(Clone, Copy)]
 struct Progress {
@@ -25,7 +27,7 @@ fn turn(line: &mut [u8], at: usize, cases: &mut [u64], misses: &mut [u64]) -> Pr
     ensures { result.at ≤ 256 }
 {
     let mut buf = io::large_buffer();
-    let n = io::read_full(STDIN_FILENO, &mut buf);
+    let n = io::read_full(STDIN, &mut buf);
     let left = tally::feed(&buf[..n], line, at, cases, misses);
     Progress {
         at: left,
@@ -57,22 +59,22 @@ fn replay(cases: &mut [u64], misses: &mut [u64])
 }
 
 fn print_operation(number: usize, cases: u64, misses: u64) {
-    io::print_hex(STDOUT_FILENO, number as u64, 2);
-    io::write_all(STDOUT_FILENO, b" ");
-    io::print_decimal(STDOUT_FILENO, cases);
-    io::write_all(STDOUT_FILENO, b" ");
-    io::print_decimal(STDOUT_FILENO, misses);
-    io::write_all(STDOUT_FILENO, b"\n");
+    io::print_hex(STDOUT, number as u64, 2);
+    io::write_all(STDOUT, b" ");
+    io::print_decimal(STDOUT, cases);
+    io::write_all(STDOUT, b" ");
+    io::print_decimal(STDOUT, misses);
+    io::write_all(STDOUT, b"\n");
 }
 
 fn print_total(cases: u64, misses: u64, bad: u64) {
-    io::write_all(STDOUT_FILENO, b"lines ");
-    io::print_decimal(STDOUT_FILENO, cases);
-    io::write_all(STDOUT_FILENO, b" mismatches ");
-    io::print_decimal(STDOUT_FILENO, misses);
-    io::write_all(STDOUT_FILENO, b" bad ");
-    io::print_decimal(STDOUT_FILENO, bad);
-    io::write_all(STDOUT_FILENO, b"\n");
+    io::write_all(STDOUT, b"lines ");
+    io::print_decimal(STDOUT, cases);
+    io::write_all(STDOUT, b" mismatches ");
+    io::print_decimal(STDOUT, misses);
+    io::write_all(STDOUT, b" bad ");
+    io::print_decimal(STDOUT, bad);
+    io::write_all(STDOUT, b"\n");
 }
 
 fn report(cases: &[u64], misses: &[u64])

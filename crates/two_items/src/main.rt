@@ -3,6 +3,8 @@
 
 mod two;
 
+const STDOUT: i32 = 1;
+
 fn main() {
-    two::run(libc::STDOUT_FILENO);
+    two::run(STDOUT);
 }

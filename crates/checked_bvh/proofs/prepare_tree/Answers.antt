@@ -32,7 +32,7 @@ finish_tree-requires c =
     let work : BvhWork = 
         let a = c.args in
         bvh_work a.entries.now a.places.now a.temp.now a.stack.now a.rows.now a.points.now a.sorted.now a.centres.now in
-    tree_rooms mesh before trees work c.args.others c.requires.passed _ c.shape_bvh-built.kept.1.1.1.1.1.1.1.1.1.1.1.1.1.1.1.0
+    tree_rooms mesh before trees work c.args.others c.requires.passed _ c.shape_bvh-built.auto.sorted
 
 pub returns : goal.returns
 returns c =

@@ -25,7 +25,7 @@ pub polygon_at-requires : goal.polygon_at-requires
 polygon_at-requires c = omega (arith, c.requires.1, c.loop-i-test.true)
 
 pub put_polygon-requires : goal.put_polygon-requires
-put_polygon-requires c =     omega (arith, c.requires.2, c.loop-i-test.true, c.loop-i.invariant.long)
+put_polygon-requires c = omega (arith, c.requires.2, c.loop-i-test.true, c.loop-i.invariant.long)
 
 pub overflow_add-i : goal.overflow_add-i
 overflow_add-i c = omega (arith, c.requires.0)

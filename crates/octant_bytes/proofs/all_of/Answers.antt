@@ -1,5 +1,4 @@
 -- `all_of`: eight lengths of at most 32,768 each.
-use borrow.Author.Rules.{rules}
 use native.Mathlib.Omega.{arith}
 use Rattle.octant_bytes.proofs.all_of.Goals as goal
 

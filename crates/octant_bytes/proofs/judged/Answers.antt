@@ -1,5 +1,4 @@
 -- `judged`: the checks in their order; what is left of 2^64 − 1 is below the address where the sum passes it.
-use borrow.Author.Rules.{rules}
 use mathlib.Core.Path.{sym, ◌∙◌}
 use Rattle.octant_bytes.proofs.Judging.{few, too_many, too_short, too_high, written}
 use Rattle.octant_bytes.specs.Steps.Counts.{listed}

@@ -1,5 +1,4 @@
 -- `put_four`: four runs of `size` stores, each from where the last one ended, are one run.
-use borrow.Author.Rules.{rules}
 use Prim.Native.Nat.{◌+◌, ◌*◌}
 use mathlib.Core.Path.{◌≡◌, ◌∙◌}
 use Rattle.base.specs.LittleEndian.{little_endian}

@@ -1,5 +1,4 @@
 -- `put_head`: four runs of stores are one, and each pointer is the one before and the length of its list.
-use borrow.Author.Rules.{rules}
 use Rattle.octant_bytes.proofs.Laying.{head_stored}
 use Rattle.octant_bytes.proofs.put_head.Goals as goal
 

@@ -1,7 +1,5 @@
 -- `put_list`, by the invariant `Putting`.
-use Prim.Native.Nat.{◌-◌, ◌≤◌}
-use lib.ListN.{length}
-use Rattle.octant_bytes.proofs.Laying.{Putting, start, one_more, all_put}
+use Rattle.octant_bytes.proofs.Laying.{start, one_more, all_put}
 use native.Mathlib.Omega.{arith}
 use Rattle.octant_bytes.proofs.put_list.Goals as goal
 

@@ -1,8 +1,7 @@
 -- `put_list`, by the invariant `Putting`.
 use Prim.Native.Nat.{◌-◌, ◌≤◌}
 use lib.ListN.{length}
-use Rattle.octant_bytes.proofs.Laying.{Putting, start, one_more, all_put}
-use native.Mathlib.Omega.{arith}
+use Rattle.octant_bytes.proofs.Laying.{Putting}
 use Rattle.octant_bytes.proofs.put_list.Given as goal
 
 abbrev pub invariant-loop-i : goal.invariant-loop-i

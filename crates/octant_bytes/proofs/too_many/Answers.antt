@@ -1,6 +1,6 @@
 -- `too_many`: the tests are the definition's, in its order.
 use mathlib.Core.Path.{sym}
-use mathlib.Core.Bool.{or_false}
+use mathlib.Core.Bool.{or-false}
 use borrow.Author.Tests.{lt-ltb, le-ltb}
 use Rattle.octant_bytes.proofs.too_many.Goals as goal
 
@@ -59,4 +59,4 @@ returns c =
       le-ltb
           _ _ c.if-c-gt32768-6.false,
       le-ltb _ _ c.if-c-gt32768-7.false,
-    ) (sym (or_false _))
+    ) (sym (or-false _))

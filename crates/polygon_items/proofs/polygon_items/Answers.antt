@@ -18,7 +18,7 @@ kinds_known-requires c =
 pub returns-then-not-kinds_known : goal.returns-then-not-kinds_known
 returns-then-not-kinds_known c =
     unknown _ _ _ _ c.if-n-gt32767.false (sym c.too_short.ensures ∙ c.if-too_short.false)
-    (sym c.kinds_known.ensures ∙ not-true _ c.if-not-kinds_known.true)
+    (sym c.kinds_known.ensures ∙ c.if-not-kinds_known.true)
 
 pub put_items-requires : goal.put_items-requires
 put_items-requires c =
@@ -28,5 +28,5 @@ put_items-requires c =
 
 pub returns : goal.returns
 returns c =
-    served _ _ _ _ _ c.if-n-gt32767.false (sym c.too_short.ensures ∙ c.if-too_short.false) (sym c.kinds_known.ensures ∙ not-false _ c.if-not-kinds_known.false)
+    served _ _ _ _ _ c.if-n-gt32767.false (sym c.too_short.ensures ∙ c.if-too_short.false) (sym c.kinds_known.ensures ∙ c.if-not-kinds_known.false)
     c.put_items.ensures

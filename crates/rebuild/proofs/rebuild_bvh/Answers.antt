@@ -13,7 +13,7 @@ put_records-requires c =
     rebuildable _ _ _ _ m.few _ _ _ _ c.requires.1
     (over_boxes _ _ _ _ m.few a.entries.now _ a.places.now a.temp.now a.stack.now a.rows.now a.centres.now _ _ _
     c.requires.1.entries_room c.put_entries.ensures w.ensures)
-    _ _ _ (omega (arith, w.kept.1.1.1.1.1.1.1.1.0, c.requires.1.temp_room)) m.records m.room
+    _ _ _ (omega (arith, w.auto.temp, c.requires.1.temp_room)) m.records m.room
 
 pub returns : goal.returns
 returns c =

@@ -29,7 +29,7 @@ pub vertex_at-requires : goal.vertex_at-requires
 vertex_at-requires c = omega (arith, c.requires.0, c.loop-i-test.true)
 
 pub put_point-requires : goal.put_point-requires
-put_point-requires c =     omega (arith, c.loop-i.invariant.size, c.loop-i-test.true)
+put_point-requires c = omega (arith, c.loop-i.invariant.size, c.loop-i-test.true)
 
 pub overflow_add-i : goal.overflow_add-i
 overflow_add-i c =

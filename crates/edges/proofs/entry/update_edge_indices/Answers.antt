@@ -17,7 +17,7 @@ kinds_known-requires c = (room _ _ (sym c.too_short.ensures ∙ c.if-too_short.f
 pub returns-then-not-kinds_known : goal.returns-then-not-kinds_known
 returns-then-not-kinds_known c =
     let short = sym c.too_short.ensures ∙ c.if-too_short.false in
-    unknown _ _ _ c.if-n-gt32767.false short (sym c.kinds_known.ensures ∙ not-true _ c.if-not-kinds_known.true)
+    unknown _ _ _ c.if-n-gt32767.false short (sym c.kinds_known.ensures ∙ c.if-not-kinds_known.true)
 
 pub link_polygons-requires : goal.link_polygons-requires
 link_polygons-requires c =
@@ -36,5 +36,5 @@ link_polygons-requires c =
 pub returns : goal.returns
 returns c =
     let short = sym c.too_short.ensures ∙ c.if-too_short.false in
-    let known = sym c.kinds_known.ensures ∙ not-false _ c.if-not-kinds_known.false in
+    let known = sym c.kinds_known.ensures ∙ c.if-not-kinds_known.false in
     served _ _ _ _ c.if-n-gt32767.false short known c.link_polygons.ensures

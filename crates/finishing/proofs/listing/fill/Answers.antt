@@ -16,7 +16,7 @@ pub bounds-list-at : goal.bounds-list-at
 bounds-list-at c = omega (arith, c.requires.0, c.loop-at.invariant.long)
 
 pub loop-at-preserved : goal.loop-at-preserved
-loop-at-preserved c =     one_more _ _ _ _ c.loop-at.invariant c.loop-at-test.true (omega (arith, c.requires.0, c.loop-at.invariant.long))
+loop-at-preserved c = one_more _ _ _ _ c.loop-at.invariant c.loop-at-test.true (omega (arith, c.requires.0, c.loop-at.invariant.long))
 
 pub returns : goal.returns
 returns c =

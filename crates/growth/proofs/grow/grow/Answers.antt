@@ -173,7 +173,7 @@ overflow_add-sp c =
     let depth : length c.loop-lo.stack ≡ length c.args.stack.now = c.loop-lo.invariant.0.same.stack_same ∙ simp length-set in
     let t = turn in
     let d = depth in
-    omega (arith, c.good.1.1.1.0)
+    omega (arith, c.requires.1.few)
 
 pub overflow_add-m : goal.overflow_add-m
 overflow_add-m c =
@@ -346,7 +346,7 @@ overflow_add-m-else-k-threshold c =
     let room : Room c.args.threshold before.places before.temp c.args.entries.now before.stack before.rows = room_set _ _ c.requires.1 in
     let turn : Top c.args.threshold before here c.loop-lo.sp c.loop-lo.lo c.loop-lo.m top-length = top _ law _ _ before room here _ _ _ c.loop-lo.invariant.0 (omega arith) in
     let i = c in
-    let t = turn i in
+    let t = turn in
     omega (arith, c.requires.1.few)
 
 pub loop-lo-smaller : goal.loop-lo-smaller
@@ -362,7 +362,7 @@ loop-lo-smaller c =
     let law : Lawful (builder (box_at c.args.entries.now)) = lawful (box_at c.args.entries.now) in
     let room : Room c.args.threshold before.places before.temp c.args.entries.now before.stack before.rows = room_set _ _ c.requires.1 in
     let turn : Top c.args.threshold before here c.loop-lo.sp c.loop-lo.lo c.loop-lo.m top-length = top _ law _ _ before room here _ _ _ c.loop-lo.invariant.0 (omega arith) in
-    let t = turn c in
+    let t = turn in
     omega arith
 
 pub loop-lo-preserved : goal.loop-lo-preserved
@@ -385,11 +385,11 @@ loop-lo-preserved c =
     let large = c.if-k-threshold.false in
     let pushed = c.push_two in (
       inner_turn _ law _ _ before room here _ _ _ l.invariant.0 (omega arith) large width
-          p.result.first p.last.0 p.last.1.0 pushed.new.stack p.last.1.1.1.0 (omega arith) p.ensures.0 p.kept.0
-          p.kept.1.0 p.kept.1.1.1.0 pushed.ensures,
+          p.result.first p.new.places p.new.temp pushed.new.stack p.new.rows (omega arith) p.ensures.0 p.auto.places
+          p.auto.temp p.auto.rows pushed.ensures,
       l.invariant.1,
-      inner_begun _ p.result.begun l.places p.last.0 l.stack pushed.new.stack l.lo width l.sp p.result.first
-          (top-length - p.result.first) (omega (arith, t.in_places)) (omega (arith, p.ensures.0.rest, p.kept.0)) (t.more large)
+      inner_begun _ p.result.begun l.places p.new.places l.stack pushed.new.stack l.lo width l.sp p.result.first
+          (top-length - p.result.first) (omega (arith, t.in_places)) (omega (arith, p.ensures.0.rest, p.auto.places)) (t.more large)
           t.in_stack pushed.ensures p.ensures.1,
     )
 

@@ -1,5 +1,4 @@
 -- `hex::digit`: the test is the definition's.
-use borrow.Author.Rules.{rules}
 use borrow.Author.Tests.{lt-ltb, le-ltb}
 use Rattle.hex_lines.proofs.hex.digit.Goals as goal
 

@@ -1,5 +1,4 @@
 -- `hex::put_byte`: two stores are one run of stores.
-use borrow.Author.Rules.{rules}
 use native.Mathlib.Numerals.{add-one}
 use lib.ListN.{length-set}
 use Rattle.hex_lines.specs.Hex.{byte_text}

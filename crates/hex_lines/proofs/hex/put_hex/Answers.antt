@@ -1,7 +1,5 @@
 -- `hex::put_hex`: the first i are put.
-use Prim.Native.Nat.{ℕ, ◌-◌}
-use lib.ListN.{length}
-use Rattle.hex_lines.proofs.Each.{Putting, none_put, next_put, all_put, byte_size}
+use Rattle.hex_lines.proofs.Each.{none_put, next_put, all_put, byte_size}
 use Rattle.hex_lines.specs.Hex.{byte_text}
 use native.Mathlib.Omega.{arith}
 use Rattle.hex_lines.proofs.hex.put_hex.Goals as goal

@@ -1,9 +1,8 @@
 -- `hex::put_hex`: the first i are put.
-use Prim.Native.Nat.{ℕ, ◌-◌}
+use Prim.Native.Nat.{◌-◌}
 use lib.ListN.{length}
-use Rattle.hex_lines.proofs.Each.{Putting, none_put, next_put, all_put, byte_size}
+use Rattle.hex_lines.proofs.Each.{Putting}
 use Rattle.hex_lines.specs.Hex.{byte_text}
-use native.Mathlib.Omega.{arith}
 use Rattle.hex_lines.proofs.hex.put_hex.Given as goal
 
 abbrev pub invariant-loop-i : goal.invariant-loop-i

@@ -1,10 +1,8 @@
 -- `hex::put_places`: the first i are put.
-use Prim.Native.Nat.{ℕ, ◌-◌}
+use Prim.Native.Nat.{◌-◌}
 use lib.ListN.{length}
-use Rattle.hex_lines.proofs.Each.{Putting, none_put, next_put, all_put}
+use Rattle.hex_lines.proofs.Each.{Putting}
 use Rattle.base.specs.LittleEndian.{little_endian}
-use Rattle.base.proofs.LittleEndian.{number_bytes}
-use native.Mathlib.Omega.{arith}
 use Rattle.hex_lines.proofs.hex.put_places.Given as goal
 
 abbrev pub invariant-loop-i : goal.invariant-loop-i

@@ -1,7 +1,5 @@
 -- `hex::put_words`: the first i are put.
-use Prim.Native.Nat.{ℕ, ◌-◌}
-use lib.ListN.{length}
-use Rattle.hex_lines.proofs.Each.{Putting, none_put, next_put, all_put}
+use Rattle.hex_lines.proofs.Each.{none_put, next_put, all_put}
 use Rattle.base.specs.LittleEndian.{little_endian}
 use Rattle.base.proofs.LittleEndian.{number_bytes}
 use native.Mathlib.Omega.{arith}

@@ -1,5 +1,4 @@
 -- `build_materials`: the checks in their order, and then the list.
-use borrow.Author.Rules.{rules}
 use mathlib.Core.Path.{sym, ◌∙◌}
 use Rattle.materials.proofs.building.Answering.{few, room, too_many, too_small, served}
 use Rattle.materials.proofs.building.build_materials.Goals as goal

@@ -1,5 +1,4 @@
 -- `write_materials`: the list's words, and then its bytes.
-use borrow.Author.Rules.{rules}
 use mathlib.Core.Path.{ap, ◌∙◌}
 use Rattle.base.specs.Lists.{over}
 use Rattle.materials.specs.Materials.{materials_bytes}

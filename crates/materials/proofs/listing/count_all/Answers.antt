@@ -1,11 +1,11 @@
 -- `count_all`, by the invariant `Counting`.
 use native.Mathlib.Omega.{arith}
-use Prim.Native.Nat.{ℕ, ◌+◌, ◌-◌, ◌≤◌, ◌<◌}
-use mathlib.Core.Path.{◌≡◌, sym, ap, ◌∙◌}
-use lib.ListN.{length, get_or, take}
+use Prim.Native.Nat.{ℕ, ◌<◌}
+use mathlib.Core.Path.{◌≡◌, ap, ◌∙◌}
+use lib.ListN.{length, take}
 use Rattle.materials.specs.Materials.{value_at, values_of, list_of}
 use Rattle.materials.specs.Steps.Listing.{Entered}
-use Rattle.materials.proofs.listing.Indexing.{Counting, fits, marks, entry, count_start, count_more_lem}
+use Rattle.materials.proofs.listing.Indexing.{fits, marks, entry, count_start, count_more_lem}
 use Rattle.materials.proofs.listing.count_all.Goals as goal
 
 pub loop-p-init : goal.loop-p-init

@@ -1,11 +1,7 @@
 -- `count_all`, by the invariant `Counting`.
-use native.Mathlib.Omega.{arith}
-use Prim.Native.Nat.{ℕ, ◌+◌, ◌-◌, ◌≤◌, ◌<◌}
-use mathlib.Core.Path.{◌≡◌, sym, ap, ◌∙◌}
-use lib.ListN.{length, get_or, take}
-use Rattle.materials.specs.Materials.{value_at, values_of, list_of}
-use Rattle.materials.specs.Steps.Listing.{Entered}
-use Rattle.materials.proofs.listing.Indexing.{Counting, fits, marks, entry, count_start, count_more_lem}
+use Prim.Native.Nat.{◌-◌, ◌≤◌}
+use Rattle.materials.specs.Materials.{value_at}
+use Rattle.materials.proofs.listing.Indexing.{Counting}
 use Rattle.materials.proofs.listing.count_all.Given as goal
 
 abbrev pub invariant-loop-p : goal.invariant-loop-p

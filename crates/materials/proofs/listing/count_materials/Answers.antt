@@ -1,5 +1,4 @@
 -- `count_materials`: a table of zeros has no place yet.
-use borrow.Author.Rules.{rules}
 use native.Mathlib.Omega.{arith}
 use Prim.Native.Nat.{ℕ}
 use lib.ListN.{length-replicate, get_or-replicate}

@@ -1,5 +1,4 @@
 -- `enter`: the three ways through it.
-use borrow.Author.Rules.{rules}
 use lib.ListN.{length-set}
 use Rattle.materials.proofs.listing.Entering.{already, found, new}
 use native.Mathlib.Omega.{arith}

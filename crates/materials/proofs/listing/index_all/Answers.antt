@@ -1,11 +1,11 @@
 -- `index_all`, by the invariant `Indexing`.
 use native.Mathlib.Omega.{arith}
-use Prim.Native.Nat.{ℕ, ◌+◌, ◌-◌, ◌≤◌, ◌<◌}
-use mathlib.Core.Path.{◌≡◌, sym, ◌∙◌}
+use Prim.Native.Nat.{ℕ, ◌+◌, ◌≤◌, ◌<◌}
+use mathlib.Core.Path.{◌≡◌}
 use lib.ListN.{length, get_or, take}
 use Rattle.materials.specs.Materials.{value_at}
-use Rattle.materials.specs.Steps.Listing.{Entered, Given}
-use Rattle.materials.proofs.listing.Indexing.{Indexing, start, fits, marks, entry, index_small, set_there, one_more, ended}
+use Rattle.materials.specs.Steps.Listing.{Entered}
+use Rattle.materials.proofs.listing.Indexing.{start, fits, marks, entry, index_small, set_there, one_more, ended}
 use Rattle.materials.proofs.listing.index_all.Goals as goal
 
 pub loop-p-init : goal.loop-p-init
@@ -49,14 +49,14 @@ overflow_sub-table c =
     let number : ℕ = c.wide-b.result in
     let entered : Entered number (value_at c.args.m c.args.mats.now number) c.loop-p.table c.enter-count.new.table (take c.loop-p.count c.loop-p.list) c.enter-count.new.list c.enter-count.result = rw c.value_at.ensures at c.enter-count.ensures in
     let in-numbers : c.loop-p.p < length c.args.numbers.now = omega (arith, c.loop-p.invariant.2.numbered) in
-    let index-bounds : (1 ≤ get_or c.enter-count.new.table number 0) × (get_or c.enter-count.new.table number 0 ≤ 256) = 
-        let l = c.loop-p in
-        let w = c.wide-b.ensures in
-        let t = c.enter-count.auto.table in
-        let k = c.enter-count.auto.list in (
-          set_there _ _ _ _ _ _ _ _ l.invariant.0 in-numbers _ w.0 w.1 _ _ _ t k entered,
-          index_small _ _ _ _ _ _ _ _ l.invariant.0 in-numbers _ w.0 w.1 _ _ _ t k entered,
-        ) in
+    let index-bounds : (1 ≤ get_or c.enter-count.new.table number 0) × (get_or c.enter-count.new.table number 0 ≤ 256) =
+    let l = c.loop-p in
+    let w = c.wide-b.ensures in
+    let t = c.enter-count.auto.table in
+    let k = c.enter-count.auto.list in (
+      set_there _ _ _ _ _ _ _ _ l.invariant.0 in-numbers _ w.0 w.1 _ _ _ t k entered,
+      index_small _ _ _ _ _ _ _ _ l.invariant.0 in-numbers _ w.0 w.1 _ _ _ t k entered,
+    ) in
     index-bounds.0
 
 pub narrow-requires : goal.narrow-requires
@@ -64,14 +64,14 @@ narrow-requires c =
     let number : ℕ = c.wide-b.result in
     let entered : Entered number (value_at c.args.m c.args.mats.now number) c.loop-p.table c.enter-count.new.table (take c.loop-p.count c.loop-p.list) c.enter-count.new.list c.enter-count.result = rw c.value_at.ensures at c.enter-count.ensures in
     let in-numbers : c.loop-p.p < length c.args.numbers.now = omega (arith, c.loop-p.invariant.2.numbered) in
-    let index-bounds : (1 ≤ get_or c.enter-count.new.table number 0) × (get_or c.enter-count.new.table number 0 ≤ 256) = 
-        let l = c.loop-p in
-        let w = c.wide-b.ensures in
-        let t = c.enter-count.auto.table in
-        let k = c.enter-count.auto.list in (
-          set_there _ _ _ _ _ _ _ _ l.invariant.0 in-numbers _ w.0 w.1 _ _ _ t k entered,
-          index_small _ _ _ _ _ _ _ _ l.invariant.0 in-numbers _ w.0 w.1 _ _ _ t k entered,
-        ) in
+    let index-bounds : (1 ≤ get_or c.enter-count.new.table number 0) × (get_or c.enter-count.new.table number 0 ≤ 256) =
+    let l = c.loop-p in
+    let w = c.wide-b.ensures in
+    let t = c.enter-count.auto.table in
+    let k = c.enter-count.auto.list in (
+      set_there _ _ _ _ _ _ _ _ l.invariant.0 in-numbers _ w.0 w.1 _ _ _ t k entered,
+      index_small _ _ _ _ _ _ _ _ l.invariant.0 in-numbers _ w.0 w.1 _ _ _ t k entered,
+    ) in
     omega (arith, index-bounds)
 
 pub bounds-indices-p : goal.bounds-indices-p
@@ -83,14 +83,14 @@ loop-p-preserved c =
     let number : ℕ = c.wide-b.result in
     let entered : Entered number (value_at c.args.m c.args.mats.now number) c.loop-p.table c.enter-count.new.table (take c.loop-p.count c.loop-p.list) c.enter-count.new.list c.enter-count.result = rw c.value_at.ensures at c.enter-count.ensures in
     let in-numbers : c.loop-p.p < length c.args.numbers.now = omega (arith, c.loop-p.invariant.2.numbered) in
-    let index-bounds : (1 ≤ get_or c.enter-count.new.table number 0) × (get_or c.enter-count.new.table number 0 ≤ 256) = 
-        let l = c.loop-p in
-        let w = c.wide-b.ensures in
-        let t = c.enter-count.auto.table in
-        let k = c.enter-count.auto.list in (
-          set_there _ _ _ _ _ _ _ _ l.invariant.0 in-numbers _ w.0 w.1 _ _ _ t k entered,
-          index_small _ _ _ _ _ _ _ _ l.invariant.0 in-numbers _ w.0 w.1 _ _ _ t k entered,
-        ) in
+    let index-bounds : (1 ≤ get_or c.enter-count.new.table number 0) × (get_or c.enter-count.new.table number 0 ≤ 256) =
+    let l = c.loop-p in
+    let w = c.wide-b.ensures in
+    let t = c.enter-count.auto.table in
+    let k = c.enter-count.auto.list in (
+      set_there _ _ _ _ _ _ _ _ l.invariant.0 in-numbers _ w.0 w.1 _ _ _ t k entered,
+      index_small _ _ _ _ _ _ _ _ l.invariant.0 in-numbers _ w.0 w.1 _ _ _ t k entered,
+    ) in
     let l = c.loop-p in
     let w = c.wide-b.ensures in
     let n = c.enter-count in

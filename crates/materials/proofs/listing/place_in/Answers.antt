@@ -1,7 +1,5 @@
 -- `place_in`, by the invariant `Seeking`.
-use native.Mathlib.Omega.{arith}
-use Prim.Native.Nat.{◌-◌}
-use Rattle.materials.proofs.listing.Seeking.{Seeking, start, found, passed, missing}
+use Rattle.materials.proofs.listing.Seeking.{start, found, passed, missing}
 use Rattle.materials.proofs.listing.place_in.Goals as goal
 
 pub loop-i-init : goal.loop-i-init

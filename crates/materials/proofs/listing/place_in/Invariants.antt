@@ -1,7 +1,6 @@
 -- `place_in`, by the invariant `Seeking`.
-use native.Mathlib.Omega.{arith}
 use Prim.Native.Nat.{◌-◌}
-use Rattle.materials.proofs.listing.Seeking.{Seeking, start, found, passed, missing}
+use Rattle.materials.proofs.listing.Seeking.{Seeking}
 use Rattle.materials.proofs.listing.place_in.Given as goal
 
 abbrev pub invariant-loop-i : goal.invariant-loop-i

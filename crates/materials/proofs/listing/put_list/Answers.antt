@@ -1,8 +1,7 @@
 -- `put_list`, by the invariant `Putting`.
 use native.Mathlib.Omega.{arith}
-use Prim.Native.Nat.{◌-◌, ◌≤◌}
 use mathlib.Core.Path.{◌≡◌}
-use Rattle.materials.proofs.listing.Putting.{Putting, start, one_more}
+use Rattle.materials.proofs.listing.Putting.{start, one_more}
 use Rattle.materials.proofs.listing.put_list.Goals as goal
 
 pub loop-i-init : goal.loop-i-init

@@ -1,8 +1,6 @@
 -- `put_list`, by the invariant `Putting`.
-use native.Mathlib.Omega.{arith}
 use Prim.Native.Nat.{◌-◌, ◌≤◌}
-use mathlib.Core.Path.{◌≡◌}
-use Rattle.materials.proofs.listing.Putting.{Putting, start, one_more}
+use Rattle.materials.proofs.listing.Putting.{Putting}
 use Rattle.materials.proofs.listing.put_list.Given as goal
 
 abbrev pub invariant-loop-i : goal.invariant-loop-i

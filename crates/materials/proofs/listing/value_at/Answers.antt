@@ -1,5 +1,4 @@
 -- `value_at`: the number's two words, where it is below m.
-use borrow.Author.Rules.{rules}
 use borrow.Author.Tests.{lt-ltb, le-ltb}
 use Rattle.materials.specs.Materials.{value_at}
 use Rattle.materials.proofs.listing.value_at.Goals as goal

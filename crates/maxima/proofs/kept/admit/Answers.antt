@@ -1,5 +1,4 @@
 -- `admit` meets its contract: by the two ways of the definition.
-use borrow.Author.Rules.{rules}
 use mathlib.Core.Path.{sym, ◌∙◌}
 use lib.Seq.{length-take-le}
 use Rattle.far_order.specs.Rows.{shadowed_at}

@@ -1,5 +1,4 @@
 -- `first_shadows` says so only where one of the list shadows.
-use borrow.Author.Rules.{rules}
 use mathlib.Core.Path.{sym, ◌∙◌}
 use Prim.Native.Nat.{◌<◌}
 use Rattle.base.proofs.EveryLaws.{every_at}
@@ -9,9 +8,6 @@ use Rattle.maxima.proofs.kept.first_shadows.Goals as goal
 
 pub returns-then-kept-first : goal.returns-then-kept-first
 returns-then-kept-first c = λ e. cc
-
-pub overflow_cast-kept : goal.overflow_cast-kept
-overflow_cast-kept c = omega (arith, c.shared_slice_known-3-1.given c.args.first)
 
 pub shadowed-requires : goal.shadowed-requires
 shadowed-requires c =

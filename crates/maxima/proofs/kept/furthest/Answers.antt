@@ -1,13 +1,7 @@
 -- `furthest` reads rows that are there; what it answers is free.
-use Prim.Native.Nat.{◌-◌, ◌<◌, ◌≤◌}
-use lib.ListN.{length}
+use Prim.Native.Nat.{◌<◌}
 use Rattle.base.proofs.EveryLaws.{every_at}
-use native.Mathlib.Omega.{arith}
-use borrow.Author.Rules.{rules}
 use Rattle.maxima.proofs.kept.furthest.Goals as goal
-
-pub overflow_cast-kept : goal.overflow_cast-kept
-overflow_cast-kept c = omega (arith, c.shared_slice_known-in-loop-k-1.given c.loop-k.k)
 
 pub nearest-near-requires : goal.nearest-near-requires
 nearest-near-requires c =

@@ -1,9 +1,6 @@
 -- `furthest` reads rows that are there; what it answers is free.
-use Prim.Native.Nat.{◌-◌, ◌<◌, ◌≤◌}
+use Prim.Native.Nat.{◌-◌, ◌≤◌}
 use lib.ListN.{length}
-use Rattle.base.proofs.EveryLaws.{every_at}
-use native.Mathlib.Omega.{arith}
-use borrow.Author.Rules.{rules}
 use Rattle.maxima.proofs.kept.furthest.Given as goal
 
 abbrev pub invariant-loop-k : goal.invariant-loop-k

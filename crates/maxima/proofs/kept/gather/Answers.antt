@@ -1,9 +1,7 @@
 -- `gather` meets its contract. The invariant is `Gathering`: what is kept of the vertices passed stands at the start.
-use Prim.Native.Nat.{◌-◌}
 use mathlib.Core.Path.{refl}
-use Rattle.maxima.proofs.Keeping.{Gathering, admissible, one_more, gathered}
+use Rattle.maxima.proofs.Keeping.{admissible, one_more, gathered}
 use native.Mathlib.Omega.{arith}
-use borrow.Author.Rules.{rules}
 use Rattle.maxima.proofs.kept.gather.Goals as goal
 
 pub loop-i-init : goal.loop-i-init

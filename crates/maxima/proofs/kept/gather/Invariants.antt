@@ -1,9 +1,6 @@
 -- `gather` meets its contract. The invariant is `Gathering`: what is kept of the vertices passed stands at the start.
 use Prim.Native.Nat.{◌-◌}
-use mathlib.Core.Path.{refl}
-use Rattle.maxima.proofs.Keeping.{Gathering, admissible, one_more, gathered}
-use native.Mathlib.Omega.{arith}
-use borrow.Author.Rules.{rules}
+use Rattle.maxima.proofs.Keeping.{Gathering}
 use Rattle.maxima.proofs.kept.gather.Given as goal
 
 abbrev pub invariant-loop-i : goal.invariant-loop-i

@@ -1,25 +1,18 @@
 -- `retain` meets its contract. The invariant is `Thinning`: what stands, followed by what the rest gives, is the whole.
-use Prim.Native.Nat.{◌-◌, ◌<◌}
+use Prim.Native.Nat.{◌<◌}
 use mathlib.Core.Path.{sym, ap, ◌∙◌}
 use mathlib.Core.Bool.{not}
-use lib.ListN.{length}
 use Rattle.base.proofs.EveryLaws.{every_at}
-use Rattle.far_order.specs.Rows.{shadowed_at}
-use Rattle.maxima.proofs.Keeping.{Thinning, unthinned, same_here, taken_out, left_in, thinned}
+use Rattle.maxima.proofs.Keeping.{unthinned, same_here, taken_out, left_in, thinned}
 use native.Mathlib.Omega.{arith}
-use borrow.Author.Rules.{rules}
 use Rattle.maxima.proofs.kept.retain.Goals as goal
 
 pub loop-k-init : goal.loop-k-init
 loop-k-init c = unthinned _ _
 
-pub overflow_cast-p : goal.overflow_cast-p
-overflow_cast-p c = omega (arith, c.slice_known-in-loop-k-1.given c.loop-k.k)
-
 pub shadowed-requires : goal.shadowed-requires
 shadowed-requires c =
-    let l = c.loop-k in
-    (
+    let l = c.loop-k in (
       c.requires.size,
       rw (same_here _ _ _ _ _ l.invariant (omega (arith, l.invariant.len)))
           (every_at (λ p. p < c.args.n) c.args.kept.now l.k c.requires.below (omega (arith, l.invariant.len))),

@@ -1,13 +1,9 @@
 -- `retain` meets its contract. The invariant is `Thinning`: what stands, followed by what the rest gives, is the whole.
-use Prim.Native.Nat.{◌-◌, ◌<◌}
-use mathlib.Core.Path.{sym, ap, ◌∙◌}
+use Prim.Native.Nat.{◌-◌}
 use mathlib.Core.Bool.{not}
 use lib.ListN.{length}
-use Rattle.base.proofs.EveryLaws.{every_at}
 use Rattle.far_order.specs.Rows.{shadowed_at}
-use Rattle.maxima.proofs.Keeping.{Thinning, unthinned, same_here, taken_out, left_in, thinned}
-use native.Mathlib.Omega.{arith}
-use borrow.Author.Rules.{rules}
+use Rattle.maxima.proofs.Keeping.{Thinning}
 use Rattle.maxima.proofs.kept.retain.Given as goal
 
 abbrev pub invariant-loop-k : goal.invariant-loop-k

@@ -1,5 +1,4 @@
 -- `shadowed` says what `shadowed_at` does, by the first comparison that fails.
-use borrow.Author.Rules.{rules}
 use borrow.Author.Tests.{lt-leb, le-leb}
 use Rattle.far_order.specs.Rows.{x_at, y_at, shadowed_at}
 use Rattle.maxima.proofs.kept.shadowed.Goals as goal

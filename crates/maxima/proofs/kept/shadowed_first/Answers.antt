@@ -1,5 +1,4 @@
 -- `shadowed_first` says what `some_shadows` does.
-use borrow.Author.Rules.{rules}
 use mathlib.Core.Path.{sym}
 use Rattle.maxima.proofs.kept.shadowed_first.Goals as goal
 

@@ -1,28 +1,21 @@
 -- `some_shadows` meets its contract. The invariant is `Searching`: what is left of the list decides.
-use Prim.Native.Nat.{◌-◌, ◌<◌}
+use Prim.Native.Nat.{◌<◌}
 use mathlib.Core.Path.{refl, sym, ◌∙◌}
-use lib.ListN.{length}
 use Rattle.base.proofs.EveryLaws.{every_at}
-use Rattle.far_order.specs.Rows.{shadowed_at}
-use Rattle.maxima.proofs.Keeping.{Searching, found, sought, missed}
+use Rattle.maxima.proofs.Keeping.{found, sought, missed}
 use native.Mathlib.Omega.{arith}
-use borrow.Author.Rules.{rules}
 use Rattle.maxima.proofs.kept.some_shadows.Goals as goal
 
 pub loop-k-init : goal.loop-k-init
 loop-k-init c = record { upto = omega arith; rest = refl }
 
-pub overflow_cast-kept : goal.overflow_cast-kept
-overflow_cast-kept c = omega (arith, c.shared_slice_known-in-loop-k-1.given c.loop-k.k)
-
 pub shadowed-requires : goal.shadowed-requires
-shadowed-requires c =
-    (
-      c.requires.size,
-      c.requires.vertex,
-      every_at (λ p. p < c.args.n) c.args.kept.now c.loop-k.k c.requires.below
-          c.loop-k-test.true,
-    )
+shadowed-requires c = (
+  c.requires.size,
+  c.requires.vertex,
+  every_at (λ p. p < c.args.n) c.args.kept.now c.loop-k.k c.requires.below
+      c.loop-k-test.true,
+)
 
 pub returns-then-shadowed : goal.returns-then-shadowed
 returns-then-shadowed c =

@@ -1,12 +1,8 @@
 -- `some_shadows` meets its contract. The invariant is `Searching`: what is left of the list decides.
-use Prim.Native.Nat.{◌-◌, ◌<◌}
-use mathlib.Core.Path.{refl, sym, ◌∙◌}
+use Prim.Native.Nat.{◌-◌}
 use lib.ListN.{length}
-use Rattle.base.proofs.EveryLaws.{every_at}
 use Rattle.far_order.specs.Rows.{shadowed_at}
-use Rattle.maxima.proofs.Keeping.{Searching, found, sought, missed}
-use native.Mathlib.Omega.{arith}
-use borrow.Author.Rules.{rules}
+use Rattle.maxima.proofs.Keeping.{Searching}
 use Rattle.maxima.proofs.kept.some_shadows.Given as goal
 
 abbrev pub invariant-loop-k : goal.invariant-loop-k

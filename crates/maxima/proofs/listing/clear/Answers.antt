@@ -1,9 +1,7 @@
 -- `clear` meets its contract. The invariant is `Clearing`: what is passed is zeros.
-use Prim.Native.Nat.{◌-◌}
 use mathlib.Core.Path.{refl}
-use Rattle.maxima.proofs.ListingLaws.{Clearing, clear_more, cleared}
+use Rattle.maxima.proofs.ListingLaws.{clear_more, cleared}
 use native.Mathlib.Omega.{arith}
-use borrow.Author.Rules.{rules}
 use Rattle.maxima.proofs.listing.clear.Goals as goal
 
 pub loop-i-init : goal.loop-i-init

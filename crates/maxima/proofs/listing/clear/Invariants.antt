@@ -1,9 +1,6 @@
 -- `clear` meets its contract. The invariant is `Clearing`: what is passed is zeros.
 use Prim.Native.Nat.{◌-◌}
-use mathlib.Core.Path.{refl}
-use Rattle.maxima.proofs.ListingLaws.{Clearing, clear_more, cleared}
-use native.Mathlib.Omega.{arith}
-use borrow.Author.Rules.{rules}
+use Rattle.maxima.proofs.ListingLaws.{Clearing}
 use Rattle.maxima.proofs.listing.clear.Given as goal
 
 abbrev pub invariant-loop-i : goal.invariant-loop-i

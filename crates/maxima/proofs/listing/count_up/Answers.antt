@@ -1,10 +1,7 @@
 -- `count_up` meets its contract. The invariant is `Counting`: what is passed is the numbers from 0 on.
-use Prim.Native.Nat.{◌-◌}
 use mathlib.Core.Path.{refl}
-use lib.ListN.{length}
-use Rattle.maxima.proofs.ListingLaws.{Counting, count_more_lem, counted_up}
+use Rattle.maxima.proofs.ListingLaws.{count_more_lem, counted_up}
 use native.Mathlib.Omega.{arith}
-use borrow.Author.Rules.{rules}
 use Rattle.maxima.proofs.listing.count_up.Goals as goal
 
 pub loop-i-init : goal.loop-i-init

@@ -1,5 +1,4 @@
 -- `list_maxima` meets its contract: by the loop, where what it kept had room, else by sorting.
-use borrow.Author.Rules.{rules}
 use mathlib.Core.Path.{sym}
 use Prim.Native.Nat.{◌≤◌}
 use mathlib.Core.List.{◌++◌}

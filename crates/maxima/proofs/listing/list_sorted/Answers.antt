@@ -1,5 +1,4 @@
 -- `list_sorted` meets its contract: what each call leaves is what the next asks (ListingLaws).
-use borrow.Author.Rules.{rules}
 use mathlib.Core.Path.{sym, ap, ◌∙◌, subst}
 use Rattle.base.specs.Lists.{Below}
 use Rattle.shadows.specs.Maxima.{numbers}

@@ -1,11 +1,7 @@
 -- `list_unmarked` meets its contract. The invariant is `Listing`: the unmarked of those passed, followed by what the list had.
-use Prim.Native.Nat.{◌-◌}
 use borrow.Author.Tests.{eq-eqb, ne_eqb}
-use lib.Dec.{eqb}
-use lib.ListN.{get_or}
-use Rattle.maxima.proofs.ListingLaws.{Listing, unlisted, list_room, skip, write, all_listed, listing_length}
+use Rattle.maxima.proofs.ListingLaws.{unlisted, list_room, skip, write, all_listed}
 use native.Mathlib.Omega.{arith}
-use borrow.Author.Rules.{rules}
 use Rattle.maxima.proofs.listing.list_unmarked.Goals as goal
 
 pub loop-i-init : goal.loop-i-init

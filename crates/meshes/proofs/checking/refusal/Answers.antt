@@ -7,11 +7,11 @@ use borrow.Author.Rules.{rules}
 use Rattle.meshes.proofs.checking.refusal.Goals as goal
 
 pub returns-then-not-kind_known : goal.returns-then-not-kind_known
-returns-then-not-kind_known c = laws.unknown_kind _ _ _ _ _ (sym c.kind_known.ensures ∙ not-true _ c.if-not-kind_known.true)
+returns-then-not-kind_known c = laws.unknown_kind _ _ _ _ _ (sym c.kind_known.ensures ∙ c.if-not-kind_known.true)
 
 pub returns-then-too_many : goal.returns-then-too_many
 returns-then-too_many c =
-    laws.too_many _ _ _ _ _ (sym c.kind_known.ensures ∙ not-false _ c.if-not-kind_known.false)
+    laws.too_many _ _ _ _ _ (sym c.kind_known.ensures ∙ c.if-not-kind_known.false)
     (sym c.too_many.ensures ∙ c.if-too_many.true)
 
 pub too_short-requires : goal.too_short-requires
@@ -19,7 +19,7 @@ too_short-requires c = laws.few _ (sym c.too_many.ensures ∙ c.if-too_many.fals
 
 pub returns-then-too_short : goal.returns-then-too_short
 returns-then-too_short c =
-    laws.too_small _ _ _ _ _ (sym c.kind_known.ensures ∙ not-false _ c.if-not-kind_known.false)
+    laws.too_small _ _ _ _ _ (sym c.kind_known.ensures ∙ c.if-not-kind_known.false)
     (sym c.too_many.ensures ∙ c.if-too_many.false) (sym c.too_short.ensures ∙ c.if-too_short.true)
 
 pub refusal_within-requires : goal.refusal_within-requires
@@ -36,5 +36,5 @@ refusal_within-requires c =
 pub returns : goal.returns
 returns c =
     c.refusal_within.ensures
-    ∙ laws.rest _ _ _ _ _ (sym c.kind_known.ensures ∙ not-false _ c.if-not-kind_known.false) (sym c.too_many.ensures ∙ c.if-too_many.false)
+    ∙ laws.rest _ _ _ _ _ (sym c.kind_known.ensures ∙ c.if-not-kind_known.false) (sym c.too_many.ensures ∙ c.if-too_many.false)
     (sym c.too_short.ensures ∙ c.if-too_short.false)

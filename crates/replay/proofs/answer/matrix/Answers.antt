@@ -12,4 +12,4 @@ rows_same {x} {x'} {y} {y'} {z} {z'} {w} {w'} p q r s =
     ap₂ (λ (a b : Vec4). rows a b z w) p q ∙ ap₂ (λ (a b : Vec4). rows x' y' a b) r s
 
 pub returns : goal.returns
-returns c =     rows_same c.row.ensures c.row-2.ensures c.row-3.ensures c.row-4.ensures
+returns c = rows_same c.row.ensures c.row-2.ensures c.row-3.ensures c.row-4.ensures

@@ -5,7 +5,7 @@ use Rattle.replay.proofs.TallyLaws.{Taking, start, taken, ended}
 use Rattle.replay.proofs.tally.feed.Goals as goal
 
 pub loop-i-init : goal.loop-i-init
-loop-i-init c =     (omega arith, omega arith, omega arith, omega arith, omega arith, refl, refl, refl, start _ _)
+loop-i-init c = (omega arith, omega arith, omega arith, omega arith, omega arith, refl, refl, refl, start _ _)
 
 pub loop-i-preserved : goal.loop-i-preserved
 loop-i-preserved c =

@@ -22,13 +22,14 @@ loop-s-init c =
     }
 
 pub bounds-corners-s : goal.bounds-corners-s
-bounds-corners-s c =     omega (arith, c.requires.0, c.loop-s.invariant.end_is)
+bounds-corners-s c = omega (arith, c.requires.0, c.loop-s.invariant.end_is)
 
 pub note_side-requires : goal.note_side-requires
 note_side-requires c = (
   c.loop-s.invariant.room,
   omega
       (arith, c.requires.1, c.loop-s-test.true),
+)
 
 pub overflow_add-s : goal.overflow_add-s
 overflow_add-s c =

@@ -21,7 +21,7 @@ returns-then-g c =
     (sym c.if-g.true ∙ ap (λ (x : Float). lt x tenth) g)
 
 pub triple-found-requires : goal.triple-found-requires
-triple-found-requires c =     carried c.args.m c.reached.result c.args.best c.reached.ensures
+triple-found-requires c = carried c.args.m c.reached.result c.args.best c.reached.ensures
 
 pub returns : goal.returns
 unfolding between_of

@@ -72,11 +72,11 @@ overflow_add-count c =
     let g =
     c in
     let a = g.args in
-    let m = g.pre.0 in
+    let m = g.requires.0 in
     let mesh = mesh_of a.corners.now a.links.now a.n a.vertices.now a.v in
     let s = c.wide-side.result in
     let side =
-    c.wide-side.ensures ∙ m.firsts_are.sides a.i g.pre.1 in
+    c.wide-side.ensures ∙ m.firsts_are.sides a.i g.requires.1 in
     let here = side_in mesh a.by a.i s side c.if-side-eq4294967295.false in
     omega (arith, c.ring-count.ensures.count, ring_few a.corners.now a.links.now a.i s)
 
@@ -85,11 +85,11 @@ moved-requires c =
     let g =
     c in
     let a = g.args in
-    let m = g.pre.0 in
+    let m = g.requires.0 in
     let mesh = mesh_of a.corners.now a.links.now a.n a.vertices.now a.v in
     let s = c.wide-side.result in
     let side =
-    c.wide-side.ensures ∙ m.firsts_are.sides a.i g.pre.1 in
+    c.wide-side.ensures ∙ m.firsts_are.sides a.i g.requires.1 in
     let here = side_in mesh a.by a.i s side c.if-side-eq4294967295.false in (
       omega arith,
       omega (
@@ -107,12 +107,12 @@ returns c =
     let g =
     c in
     let a = g.args in
-    let m = g.pre.0 in
+    let m = g.requires.0 in
     let mesh = mesh_of a.corners.now a.links.now a.n a.vertices.now a.v in
     let s = c.wide-side.result in
     let side =
     c.wide-side.ensures
-    ∙ m.firsts_are.sides a.i g.pre.1 in
+    ∙ m.firsts_are.sides a.i g.requires.1 in
     let here = side_in mesh a.by a.i s side c.if-side-eq4294967295.false in
     let begins = c.ring-count.ensures in
     let got = c.gather.ensures in

@@ -22,7 +22,7 @@ returns-then-not-above c =
     let a = c.args in
     let l = c.loop-left in
     let test = passes_at (mesh_of a.corners.now a.links.now a.n a.vertices.now a.v) in
-    none_found l.points (too_small test l.margin l.left (not-true _ c.if-not-above.true) ∙ l.invariant.rest)
+    none_found l.points (too_small test l.margin l.left c.if-not-above.true ∙ l.invariant.rest)
 
 pub try_margin-tried-requires : goal.try_margin-tried-requires
 try_margin-tried-requires c =
@@ -42,10 +42,10 @@ returns-then-tried c =
     (sym tried.answer ∙ c.if-tried.true) ∙ l.invariant.rest)
 
 pub overflow_sub-left : goal.overflow_sub-left
-overflow_sub-left c =     omega (arith, c.loop-left-test.true)
+overflow_sub-left c = omega (arith, c.loop-left-test.true)
 
 pub loop-left-smaller : goal.loop-left-smaller
-loop-left-smaller c =     omega (arith, c.loop-left-test.true)
+loop-left-smaller c = omega (arith, c.loop-left-test.true)
 
 pub loop-left-preserved : goal.loop-left-preserved
 loop-left-preserved c =
@@ -60,7 +60,7 @@ loop-left-preserved c =
       news-length = kept.1.1.0 ∙ l.invariant.news-length;
       points-length = kept.1.1.1.0 ∙ l.invariant.points-length;
       rest =
-          halves test l.margin l.left c.loop-left-test.true (not-false _ c.if-not-above.false)
+          halves test l.margin l.left c.loop-left-test.true c.if-not-above.false
           (sym c.try_margin-tried.ensures.answer ∙ c.if-tried.false) ∙ l.invariant.rest;
     }
 

@@ -13,10 +13,10 @@ first_margin-found-requires c =
     c.put_normals.ensures _ c.begin-bad.ensures
 
 pub returns-in_default : goal.returns-in_default
-returns-in_default c =     none_shrunk c.args.bound c.first_margin-found.ensures c.start_margin-start.ensures _ c.enum_told-1.given.1
+returns-in_default c = none_shrunk c.args.bound c.first_margin-found.ensures c.start_margin-start.ensures _ c.enum_told-1.given.1
 
 pub clamp_points-requires : goal.clamp_points-requires
-clamp_points-requires c =     c.first_margin-found.auto.points ∙ c.requires.size
+clamp_points-requires c = c.first_margin-found.auto.points ∙ c.requires.size
 
 pub returns : goal.returns
 returns c =

@@ -15,12 +15,12 @@ pub returns-in_default : goal.returns-in_default
 returns-in_default c =
     let whole : Mesh = mesh_of c.args.corners.now c.args.links.now c.args.n c.args.vertices.now c.args.v in
     let r = c.by_margin-found in
-    let shrunk = subst (λ (b : Bound). Shrunk b whole r.last.1.1.1.1.1.1.1.1.1.1.1.0 r.result) c.bound_of.ensures r.ensures in
+    let shrunk = subst (λ (b : Bound). Shrunk b whole r.new.points r.result) c.bound_of.ensures r.ensures in
     none_passed c.args.geometry whole shrunk _ c.enum_told-1.given.1 c.by_normals.ensures
 
 pub returns : goal.returns
 returns c =
     let whole : Mesh = mesh_of c.args.corners.now c.args.links.now c.args.n c.args.vertices.now c.args.v in
     let r = c.by_margin-found in
-    let shrunk = subst (λ (b : Bound). Shrunk b whole r.last.1.1.1.1.1.1.1.1.1.1.1.0 r.result) c.bound_of.ensures r.ensures in
+    let shrunk = subst (λ (b : Bound). Shrunk b whole r.new.points r.result) c.bound_of.ensures r.ensures in
     passed c.args.geometry whole shrunk c.found-1.given.0.0 c.found-1.given.1

@@ -43,7 +43,7 @@ settle-requires c =
         subst (λ (t : ℕ → Bool). Units t) test c.part-g.ensures.0 in
     let kept = c.part-g.auto in
     let test = chosen boxes-of places_of in (
-      omega (arith, kept.0, kept.1.0, c.requires.2),
+      omega (arith, kept.places, kept.temp, c.requires.2),
       united_within boxes-of _ _ _ c.part-g.new.places c.part-g.result.first united (within_sift _ test places_of c.requires.3)
           (within_sift _ (λ q. not (test q)) places_of c.requires.3),
     )

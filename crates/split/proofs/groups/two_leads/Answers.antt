@@ -4,4 +4,4 @@ use Rattle.split.proofs.groups.two_leads.Goals as goal
 
 pub returns : goal.returns
 unfolding two_leads
-returns c = rw (e, f)
+returns c at one two e f = rw (e, f)

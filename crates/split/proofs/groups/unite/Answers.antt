@@ -12,7 +12,7 @@ use Rattle.split.proofs.Uniting.{two_first, one_first}
 use Rattle.split.proofs.groups.unite.Goals as goal
 
 pub returns-then-two_leads : goal.returns-then-two_leads
-returns-then-two_leads c =
+returns-then-two_leads c at =
     let group-one : List ℕ = take c.args.k c.args.places.now in
     let group-two : List ℕ = take (length c.args.places.now - c.args.k) c.args.temp.now in
     let size-one : length group-one ≡ c.args.k = length-take-le c.args.k c.args.places.now c.requires.1 in
@@ -28,7 +28,7 @@ returns-then-two_leads c =
     }
 
 pub returns : goal.returns
-returns c =
+returns c at =
     let group-one : List ℕ = take c.args.k c.args.places.now in
     let group-two : List ℕ = take (length c.args.places.now - c.args.k) c.args.temp.now in
     let size-one : length group-one ≡ c.args.k = length-take-le c.args.k c.args.places.now c.requires.1 in

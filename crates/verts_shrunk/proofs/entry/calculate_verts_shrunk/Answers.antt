@@ -46,7 +46,7 @@ returns-then-not-kinds_known c =
         c.args.spare.now c.args.links.now c.args.normals.now c.args.olds.now c.args.news.now in
     let a = c.args in
     unknown a.geometry a.n a.polygons.now a.v a.vertices.now sizes a.points.now c.if-n-gt32767.false c.if-v-gt32768.false
-    (sym c.too_short.ensures ∙ c.if-too_short.false) (sym c.kinds_known.ensures ∙ not-true _ c.if-not-kinds_known.true)
+    (sym c.too_short.ensures ∙ c.if-too_short.false) (sym c.kinds_known.ensures ∙ c.if-not-kinds_known.true)
 
 pub returns-then-v-eq0 : goal.returns-then-v-eq0
 returns-then-v-eq0 c =
@@ -55,7 +55,7 @@ returns-then-v-eq0 c =
         c.args.spare.now c.args.links.now c.args.normals.now c.args.olds.now c.args.news.now in
     let a = c.args in
     none_there a.geometry a.n a.polygons.now a.v a.vertices.now sizes a.points.now c.if-n-gt32767.false c.if-v-gt32768.false
-    (sym c.too_short.ensures ∙ c.if-too_short.false) (sym c.kinds_known.ensures ∙ not-false _ c.if-not-kinds_known.false) c.if-v-eq0.true
+    (sym c.too_short.ensures ∙ c.if-too_short.false) (sym c.kinds_known.ensures ∙ c.if-not-kinds_known.false) c.if-v-eq0.true
 
 pub returns-then-infinite_start : goal.returns-then-infinite_start
 returns-then-infinite_start c =
@@ -65,7 +65,7 @@ returns-then-infinite_start c =
     let a = c.args in
     infinite a.geometry a.n a.polygons.now a.v a.vertices.now sizes a.points.now c.if-n-gt32767.false c.if-v-gt32768.false
     (sym c.too_short.ensures ∙ c.if-too_short.false) (sym c.kinds_known.ensures ∙
-    not-false _ c.if-not-kinds_known.false) c.if-v-eq0.false
+    c.if-not-kinds_known.false) c.if-v-eq0.false
     (sym c.infinite_start.ensures ∙ c.if-infinite_start.true)
 
 pub slice_bounds-shrink_polygons-end : goal.slice_bounds-shrink_polygons-end
@@ -96,8 +96,8 @@ returns c =
         c.args.spare.now c.args.links.now c.args.normals.now c.args.olds.now c.args.news.now in
     let a = c.args in
     let long = sym c.too_short.ensures ∙ c.if-too_short.false in
-    let front = c.shrink_polygons.kept.1.1.1.1.1.0 ∙ length-take-le (3 * a.v) a.points.now (room a.n a.v sizes long).points in
+    let front = c.shrink_polygons.auto.points ∙ length-take-le (3 * a.v) a.points.now (room a.n a.v sizes long).points in
     served a.geometry a.n a.polygons.now a.v a.vertices.now sizes a.points.now c.if-n-gt32767.false c.if-v-gt32768.false long
-    (sym c.kinds_known.ensures ∙ not-false _ c.if-not-kinds_known.false) c.if-v-eq0.false (sym
+    (sym c.kinds_known.ensures ∙ c.if-not-kinds_known.false) c.if-v-eq0.false (sym
     c.infinite_start.ensures ∙ c.if-infinite_start.false) _
     c.shrink_polygons.result _ front c.shrink_polygons.ensures c.shrunk_by.ensures

@@ -29,4 +29,4 @@ shrunk_points-requires c =
     meshed _ _ _ _ c.unpack_corners.ensures _ t.ensures c.requires _ _ t.auto.keys t.auto.sides t.auto.links
 
 pub returns : goal.returns
-returns c =     of_records _ _ _ _ c.unpack_corners.ensures _ c.links_of.ensures _ _ _ _ _ c.shrunk_points.ensures
+returns c = of_records _ _ _ _ c.unpack_corners.ensures _ c.links_of.ensures _ _ _ _ _ c.shrunk_points.ensures
