@@ -1,6 +1,6 @@
 -- `child_box` meets its contract: by the two tests. The words of child k are those of the first child from k on (`first-of-rest`).
 use borrow.Author.Rules.{rules}
-use mathlib.Core.Bool.{and_false}
+use mathlib.Core.Bool.{and-false}
 use Rattle.std.specs.Prelude.{◌≡◌, ℕ, ◌+◌, ◌-◌, ◌*◌, ◌/◌, ◌<◌, ◌≤◌, List, length, get_or, take, drop}
 use mathlib.Core.Path.{ap, ◌∙◌}
 use lib.Ieee.{binary32, of_bits}
@@ -36,7 +36,7 @@ returns-then-k-children c =
 
 pub returns-then-children-k-eq0 : goal.returns-then-children-k-eq0
 unfolding child_box_of
-returns-then-children-k-eq0 c = rw (eq-eqb _ _ c.if-children-k-eq0.true, and_false) c.no_box-then-children-k-eq0.ensures
+returns-then-children-k-eq0 c = rw (eq-eqb _ _ c.if-children-k-eq0.true, and-false) c.no_box-then-children-k-eq0.ensures
 
 pub returns : goal.returns
 unfolding child_box_of
