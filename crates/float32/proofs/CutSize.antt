@@ -1,5 +1,5 @@
 -- The digits of a pattern, moved down as `cut_size` moves them, are its number cut to a whole one: by the exponent's field. Assumes nothing.
-use mathlib.Core.Path.{◌≡◌, refl, sym, ap, ◌∙◌}
+use mathlib.Core.Path.{◌≡◌, sym, ap, ◌∙◌}
 use mathlib.Core.Bool.{Bool, cond}
 use Prim.Native.Nat.{ℕ, ◌+◌, ◌-◌, ◌*◌, ◌/◌, ◌%◌, ◌^◌, ◌≤◌, ◌<◌, min}
 use native.Mathlib.Nat.{lt_of_lt_of_le, mul-le-mul, mul_right_comm, div-eq_of_lt, div-one, le-div_iff_mul-le}

@@ -12,7 +12,6 @@ use lib.Ieee.{Float, nan, inf, fin, Format, binary32, prec, low, up, down, round
 use lib.Ieee.Fits.{reach, down_pos}
 use lib.Ieee.Exact.{HasValue, round_exact}
 use lib.Ieee.Order.{transfer, le_of_values}
-use lib.Ieee.Positive.{num}
 use lib.Ieee.Scale.{round_same}
 use Rattle.base.proofs.Truth.{T_ext}
 use Rattle.float32.specs.Comparison.{meaning, ratio, Same}

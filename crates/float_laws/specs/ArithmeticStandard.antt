@@ -1,8 +1,8 @@
 -- What IEEE 754-2019 says of addition, subtraction, multiplication, division and convertFromInt (5.4.1): each gives its exact result, rounded (4.3.1).
 -- With infinities (6.1), NaN (6.2), the sign of a zero (6.3), operands without a result (7.2) and division by zero (7.3). Definitions only.
-use Rattle.std.specs.Prelude.{ℕ, suc, ◌+◌, ◌*◌, ◌<◌, ◌≡◌, Bool, true, false, not, ◌&&◌, cond, T, ltb, eqb, ℤ, pos, negsuc, Float}
+use Rattle.std.specs.Prelude.{ℕ, suc, ◌+◌, ◌*◌, ◌<◌, ◌≡◌, Bool, true, false, not, ◌&&◌, T, ℤ, pos, negsuc, Float}
 use Rattle.std.specs.Float.{nan, inf, fin, Format}
-use Rattle.std.specs.Float.Ieee.{up, unlike}
+use Rattle.std.specs.Float.Ieee.{unlike}
 use Rattle.std.specs.Float.Ieee.Positive.{num, den}
 use Rattle.std.specs.Float.Ieee.Scale.{finite}
 use Rattle.float32.specs.Signed.{negative, apart, over, under, sign_of}

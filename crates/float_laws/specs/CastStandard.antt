@@ -1,7 +1,7 @@
 -- What the Rust Reference says of casts (operator expressions, numeric cast). Definitions only.
 -- A float to a signed integer of h bits beside its sign: toward zero, to the end of the range that it is past, 0 for a NaN.
 -- An integer to a smaller one of two's complement: its low bits are kept.
-use Rattle.std.specs.Prelude.{ℕ, ◌+◌, ◌-◌, ◌*◌, ◌^◌, ◌≤◌, ◌<◌, ◌≡◌, true, false, T, ℤ, pos, neg_ℤ, ◌+ℤ◌, ◌*ℤ◌, Float}
+use Rattle.std.specs.Prelude.{ℕ, ◌+◌, ◌*◌, ◌^◌, ◌≤◌, ◌<◌, ◌≡◌, true, false, T, ℤ, pos, neg_ℤ, ◌+ℤ◌, ◌*ℤ◌, Float}
 use Rattle.std.specs.Int.Signed.{le_z}
 use Rattle.std.specs.Float.{nan, inf, fin}
 use Rattle.std.specs.Float.Ieee.{up, down}

@@ -1,9 +1,9 @@
 -- What IEEE 754-2019 says of rounding: roundTiesToEven (4.3.1), and the sign of a zero (6.3). Definitions only.
 -- The exact number x is the fraction ± a / c, below zero where s is true; a finite value y is ± num y / den y. Every statement is one about natural
 -- numbers: fractions are compared by cross-multiplying.
-use Rattle.std.specs.Prelude.{ℕ, suc, ◌+◌, ◌-◌, ◌*◌, ◌%◌, ◌^◌, ◌≤◌, ◌<◌, ◌≡◌, Bool, false, cond, T, Float}
+use Rattle.std.specs.Prelude.{ℕ, suc, ◌+◌, ◌-◌, ◌*◌, ◌%◌, ◌^◌, ◌≤◌, ◌<◌, ◌≡◌, Bool, cond, T, Float}
 use Rattle.std.specs.Bool.{beq}
-use Rattle.std.specs.Float.{nan, inf, fin, Format}
+use Rattle.std.specs.Float.{inf, Format}
 use Rattle.std.specs.Float.Ieee.{prec, emax, fits, to_bits}
 use Rattle.std.specs.Float.Ieee.Positive.{num, den}
 use Rattle.std.specs.Float.Ieee.Scale.{finite}

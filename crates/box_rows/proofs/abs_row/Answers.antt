@@ -1,5 +1,4 @@
 -- `abs_row` meets its contract: component by component what `float32::signs::abs` ensures.
-use borrow.Author.Rules.{rules}
 use Rattle.box_rows.proofs.abs_row.Goals as goal
 
 pub returns : goal.returns

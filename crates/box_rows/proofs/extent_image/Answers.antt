@@ -4,7 +4,6 @@ use Rattle.math.specs.Transform.{abs_row, abs_matrix, vector_of, extent_image, h
 use Rattle.math.specs.Vec3s.{scale_of, abs_of}
 use Rattle.math.specs.declared.vec3.Vec3.{Vec3}
 use Rattle.math.specs.declared.mat4.Vec4.{Vec4}
-use borrow.Author.Rules.{rules}
 use Rattle.box_rows.proofs.extent_image.Goals as goal
 
 pub returns : goal.returns

@@ -3,7 +3,6 @@ use Rattle.base.specs.LittleEndian.{little_endian}
 use Rattle.header.specs.Header.{point_bytes}
 use Rattle.base.proofs.LittleEndian.{joined, number_bytes}
 use Rattle.base.proofs.StoreLaws.{four_stores}
-use borrow.Author.Rules.{rules}
 use Rattle.header.proofs.put_point.Goals as goal
 
 pub returns : goal.returns

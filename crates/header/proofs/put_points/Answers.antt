@@ -4,7 +4,6 @@ use Rattle.header.specs.Header.{point_bytes, points_bytes}
 use Rattle.base.proofs.LittleEndian.{joined}
 use Rattle.header.proofs.Sizes.{point_bytes_lem}
 use Rattle.base.proofs.StoreLaws.{store_next, four_stores}
-use borrow.Author.Rules.{rules}
 use Rattle.header.proofs.put_points.Goals as goal
 
 pub returns : goal.returns

@@ -4,7 +4,6 @@ use Rattle.base.specs.LittleEndian.{little_endian}
 use Rattle.header.specs.Header.{tree_list_bytes}
 use Rattle.base.proofs.LittleEndian.{zeros_stored, joined, number_bytes}
 use Rattle.base.proofs.StoreLaws.{four_stores}
-use borrow.Author.Rules.{rules}
 use Rattle.header.proofs.put_tree_list.Goals as goal
 
 pub returns : goal.returns

@@ -12,7 +12,6 @@ use Rattle.base.specs.Lists.{over}
 use Rattle.base.proofs.LittleEndian.{joined}
 use Rattle.header.proofs.Sizes.{node_list_bytes_lem, points_bytes_lem, header_bytes_lem}
 use Rattle.base.proofs.StoreLaws.{store_next, sets_over}
-use borrow.Author.Rules.{rules}
 use Rattle.header.proofs.tree_header.Goals as goal
 
 -- the answer, by the outcomes of the two checks

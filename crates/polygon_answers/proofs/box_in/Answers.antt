@@ -1,5 +1,4 @@
 -- `box_in` meets its contract: field by field what `short_of` ensures.
-use borrow.Author.Rules.{rules}
 use Rattle.base.proofs.ShortLaws.{same_short}
 use Rattle.polygon_answers.specs.Geometry.{box_in}
 use Rattle.polygon_answers.proofs.box_in.Goals as goal

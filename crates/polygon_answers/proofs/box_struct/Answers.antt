@@ -1,5 +1,4 @@
 -- `box_struct` meets its contract: field by field what `half_of` ensures.
-use borrow.Author.Rules.{rules}
 use Rattle.base.proofs.ShortLaws.{same_short}
 use Rattle.polygon_answers.specs.Geometry.{box_struct}
 use Rattle.polygon_answers.proofs.box_struct.Goals as goal

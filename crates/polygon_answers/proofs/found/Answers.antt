@@ -1,5 +1,4 @@
 -- `found` meets its contract: no refusal, and the struct that the call ensures.
-use borrow.Author.Rules.{rules}
 use Rattle.polygon_answers.proofs.found.Goals as goal
 
 pub returns : goal.returns

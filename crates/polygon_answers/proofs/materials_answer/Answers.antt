@@ -1,9 +1,5 @@
 -- `materials_answer` meets its contract: a case of the enum each, told by the match.
-use borrow.Author.Rules.{rules}
 use Rattle.polygon_answers.proofs.materials_answer.Goals as goal
-
-pub returns-in-Built : goal.returns-in-Built
-returns-in-Built c = rw c.m-1.given.1 c.materials_with.ensures
 
 pub returns-in-TooMany : goal.returns-in-TooMany
 returns-in-TooMany c = cc

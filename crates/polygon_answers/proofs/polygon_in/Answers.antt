@@ -1,6 +1,5 @@
 -- `polygon_in` meets its contract: by the kind.
-use borrow.Author.Rules.{rules}
-use mathlib.Core.Path.{◌≡◌, sym, ◌∙◌}
+use mathlib.Core.Path.{sym, ◌∙◌}
 use Rattle.polygon_answers.specs.Geometry.{sphere_in, capsule_in, cylinder_in}
 use Rattle.polygon_answers.proofs.GeometryLaws.{triangle_by_kind, box_by_kind, sphere_by_kind, capsule_by_kind, cylinder_by_kind}
 use Rattle.polygon_answers.proofs.polygon_in.Goals as goal

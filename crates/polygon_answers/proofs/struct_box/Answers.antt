@@ -1,5 +1,4 @@
 -- `struct_box` meets its contract: by the kind, and then what `bbox` ensures (GeometryLaws).
-use borrow.Author.Rules.{rules}
 use Rattle.polygon_answers.proofs.GeometryLaws.{not_boxed, boxed_answer}
 use Rattle.polygon_answers.proofs.struct_box.Goals as goal
 

@@ -1,5 +1,4 @@
 -- `triangle_struct` meets its contract: field by field what the calls ensure.
-use borrow.Author.Rules.{rules}
 use Rattle.base.proofs.ShortLaws.{same_short}
 use Rattle.polygon_answers.specs.Geometry.{triangle_struct}
 use Rattle.polygon_answers.proofs.triangle_struct.Goals as goal

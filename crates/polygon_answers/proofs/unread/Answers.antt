@@ -1,5 +1,4 @@
 -- `unread` meets its contract: the number, and zeros.
-use borrow.Author.Rules.{rules}
 use Rattle.polygon_answers.specs.Geometry.{unread}
 use Rattle.polygon_answers.proofs.unread.Goals as goal
 

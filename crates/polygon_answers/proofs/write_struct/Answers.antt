@@ -1,5 +1,4 @@
 -- `write_struct` meets its contract: by the kind, and then what `write` ensures (GeometryLaws).
-use borrow.Author.Rules.{rules}
 use Rattle.polygon_answers.proofs.GeometryLaws.{not_written, written}
 use Rattle.polygon_answers.proofs.write_struct.Goals as goal
 

@@ -1,7 +1,6 @@
 -- `node_at` meets its contract: field by field what the calls ensure.
 use mathlib.Core.Path.{◌∙◌}
 use Rattle.base.proofs.ShortLaws.{same_short}
-use borrow.Author.Rules.{rules}
 use Rattle.records.proofs.node_at.Goals as goal
 
 pub returns : goal.returns

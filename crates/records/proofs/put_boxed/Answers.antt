@@ -6,7 +6,6 @@ use Rattle.records.proofs.Fields.{same_stored}
 use Rattle.base.proofs.LittleEndian.{joined}
 use Rattle.records.proofs.Sizes.{short_bytes_lem, vertex_bytes_lem}
 use Rattle.base.proofs.StoreLaws.{four_stores}
-use borrow.Author.Rules.{rules}
 use Rattle.records.proofs.put_boxed.Goals as goal
 
 pub returns : goal.returns

@@ -4,7 +4,6 @@ use lib.IntN.{ℤ}
 use lib.Seq.{sets}
 use Rattle.records.specs.Records.{boxed_bytes, node_bytes}
 use Rattle.base.proofs.ShortLaws.{same_short}
-use borrow.Author.Rules.{rules}
 use Rattle.records.proofs.put_node.Goals as goal
 
 pub returns : goal.returns

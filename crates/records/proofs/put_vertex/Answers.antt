@@ -7,7 +7,6 @@ use Rattle.records.proofs.Fields.{same_stored}
 use Rattle.base.proofs.LittleEndian.{joined}
 use Rattle.records.proofs.Sizes.{short_bytes_lem}
 use Rattle.base.proofs.StoreLaws.{store_next}
-use borrow.Author.Rules.{rules}
 use Rattle.records.proofs.put_vertex.Goals as goal
 
 pub returns : goal.returns

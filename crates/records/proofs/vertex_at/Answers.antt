@@ -1,7 +1,6 @@
 -- `vertex_at` meets its contract: axis by axis what `short_at` ensures.
 use mathlib.Core.Path.{◌∙◌}
 use Rattle.base.proofs.ShortLaws.{same_short}
-use borrow.Author.Rules.{rules}
 use Rattle.records.proofs.vertex_at.Goals as goal
 
 pub returns : goal.returns

@@ -1,9 +1,8 @@
 -- `little_endian::put_le` meets its contract. The invariant: storing what is left of n, from place i on, gives what storing all of n at entry gives.
 use mathlib.Core.Path.{◌≡◌, sym, ap, ◌∙◌}
-use mathlib.Core.List.{List}
-use Prim.Native.Nat.{ℕ, ◌+◌, ◌-◌, ◌≤◌}
+use Prim.Native.Nat.{ℕ, ◌+◌, ◌-◌}
 use native.Mathlib.Omega.{arith}
-use lib.ListN.{length, length-set}
+use lib.ListN.{length-set}
 use lib.Seq.{sets}
 use Rattle.base.specs.LittleEndian.{little_endian}
 use Rattle.base.proofs.LittleEndian.{store_lowest}

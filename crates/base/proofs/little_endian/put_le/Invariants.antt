@@ -1,12 +1,10 @@
 -- `little_endian::put_le` meets its contract. The invariant: storing what is left of n, from place i on, gives what storing all of n at entry gives.
-use mathlib.Core.Path.{◌≡◌, sym, ap, ◌∙◌}
+use mathlib.Core.Path.{◌≡◌}
 use mathlib.Core.List.{List}
 use Prim.Native.Nat.{ℕ, ◌+◌, ◌-◌, ◌≤◌}
-use native.Mathlib.Omega.{arith}
-use lib.ListN.{length, length-set}
+use lib.ListN.{length}
 use lib.Seq.{sets}
 use Rattle.base.specs.LittleEndian.{little_endian}
-use Rattle.base.proofs.LittleEndian.{store_lowest}
 use Rattle.base.proofs.little_endian.put_le.Given as goal
 
 pub record Storing (out₀ : List ℕ) (at size n : ℕ) (out : List ℕ) (rest i : ℕ) : Type 0 where

@@ -2,7 +2,6 @@
 use Prim.Native.Nat.{ℕ, ◌+◌, ◌*◌}
 use mathlib.Core.Path.{ap₂, ◌∙◌}
 use Rattle.base.proofs.LittleEndian.{le_four}
-use borrow.Author.Rules.{rules}
 use Rattle.base.proofs.little_endian.word_at.Goals as goal
 
 pub returns : goal.returns

@@ -1,5 +1,4 @@
 -- `average::average` meets its contract: the count is exact, and the factor is rounded once.
-use borrow.Author.Rules.{rules}
 use mathlib.Core.Path.{ap, ◌∙◌}
 use lib.Ieee.{Float}
 use Rattle.math.specs.Vec3s.{◌⊘◌, scale_of}

@@ -1,5 +1,4 @@
 -- `average::centre` meets its contract: what the calls ensure, put into one another.
-use borrow.Author.Rules.{rules}
 use mathlib.Core.Path.{ap, ◌∙◌}
 use Rattle.math.specs.declared.vec3.Vec3.{Vec3}
 use Rattle.math.specs.Vec3s.{scale_of}

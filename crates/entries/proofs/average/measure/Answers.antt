@@ -1,5 +1,4 @@
 -- `average::measure` meets its contract: what the calls ensure.
-use borrow.Author.Rules.{rules}
 use mathlib.Core.Path.{ap, ◌∙◌}
 use lib.ListN.{length}
 use Rattle.float32.specs.Counts.{of_count}

@@ -1,5 +1,4 @@
 -- `average::put_centre` meets its contract: its four stores.
-use borrow.Author.Rules.{rules}
 use Rattle.entries.proofs.CentreLaws.{in_a_row}
 use lib.ListN.{length-set}
 use native.Mathlib.Omega.{arith}

@@ -1,11 +1,9 @@
 -- `average::put_centres` meets its contract. The loop's invariant: the centres of the entries that are passed are stored.
-use borrow.Author.Rules.{rules}
-use Prim.Native.Nat.{◌+◌, ◌-◌, ◌*◌}
+use Prim.Native.Nat.{◌+◌}
 use mathlib.Core.List.{List}
 use lib.Ieee.{Float}
 use mathlib.Core.Path.{refl, subst, sym, ap, ◌∙◌}
 use native.Mathlib.Omega.{arith}
-use lib.ListN.{length}
 use Rattle.math.specs.Vec3s.{add_of, scale_of}
 use Rattle.math.specs.Transform.{half}
 use Rattle.entries.specs.declared.boxes.Corners.{Corners}

@@ -1,13 +1,7 @@
 -- `boxes::all_numbers` meets its contract. The loop's invariant: no word that is passed exceeds `most`, but for its sign.
-use borrow.Author.Rules.{rules}
-use native.Mathlib.Omega.{arith}
-use Prim.Native.Nat.{ℕ, ◌+◌, ◌-◌, ◌%◌, ◌≤◌, ◌<◌}
-use native.Mathlib.Decide.{dec_lt}
+use Prim.Native.Nat.{ℕ, ◌-◌, ◌%◌, ◌≤◌, ◌<◌}
 use mathlib.Core.List.{List}
-use mathlib.Core.Path.{◌≡◌, sym, subst}
-use lib.Dec.{T, leb→le}
-use lib.ListN.{length, get_or, get_or-eq_default}
-use Rattle.entries.specs.Plain.{Number}
+use lib.ListN.{length, get_or}
 use Rattle.entries.proofs.boxes.all_numbers.Given as goal
 
 pub record Passed (ws : List ℕ) (most i : ℕ) : Type 0 where

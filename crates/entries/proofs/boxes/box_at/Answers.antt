@@ -1,8 +1,5 @@
 -- `boxes::box_at` meets its contract: six reads in a row, the max three words after the min.
 use native.Mathlib.Omega.{arith}
-use borrow.Author.Rules.{rules}
-use Rattle.entries.proofs.boxes.box_at.Reads as reads
-use Rattle.entries.proofs.boxes.box_at.Lts as lts
 use Prim.Native.Nat.{◌+◌, ◌*◌}
 use mathlib.Core.Path.{◌≡◌}
 use Rattle.entries.proofs.boxes.box_at.Goals as goal

@@ -1,5 +1,4 @@
 -- `boxes::corners_at` meets its contract: the words of the box at the place, and what each stands for.
-use borrow.Author.Rules.{rules}
 use Prim.Native.Nat.{◌+◌, ◌*◌}
 use mathlib.Core.Path.{sym, subst, ap, ◌∙◌}
 use Rattle.math.specs.declared.words3.Words3.{Words3}

@@ -1,5 +1,4 @@
 -- `boxes::put_box` meets its contract: six stores in a row are one run of stores.
-use borrow.Author.Rules.{rules}
 use native.Mathlib.Omega.{arith}
 use Prim.Native.Nat.{ℕ, ◌+◌}
 use mathlib.Core.Path.{◌≡◌}

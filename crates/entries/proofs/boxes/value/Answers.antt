@@ -1,5 +1,4 @@
 -- `boxes::value` meets its contract: the bits are no NaN's by what is required, else by the test.
-use borrow.Author.Rules.{rules}
 use Rattle.float32.proofs.Patterns.{no_nan}
 use Rattle.entries.proofs.boxes.value.Goals as goal
 

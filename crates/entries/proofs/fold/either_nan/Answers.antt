@@ -1,5 +1,4 @@
 -- `fold::either_nan` meets its contract: what the two calls ensure.
-use borrow.Author.Rules.{rules}
 use mathlib.Core.Path.{sym, ◌∙◌}
 use Rattle.entries.proofs.fold.either_nan.Goals as goal
 

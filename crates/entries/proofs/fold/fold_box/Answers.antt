@@ -1,5 +1,4 @@
 -- `fold::fold_box` meets its contract: what the two calls ensure.
-use borrow.Author.Rules.{rules}
 use mathlib.Core.Path.{ap, ◌∙◌}
 use Rattle.entries.specs.Steps.Totals.{low_of, high_of}
 use Rattle.entries.proofs.fold.fold_box.Goals as goal

@@ -1,5 +1,4 @@
 -- `fold::fold_by_value` meets its contract: by the fold of the words where there is a NaN, else by the law that a number has one word.
-use borrow.Author.Rules.{rules}
 use native.Mathlib.Omega.{arith}
 use mathlib.Core.Path.{◌≡◌, sym, ◌∙◌}
 use mathlib.Core.Bool.{false}

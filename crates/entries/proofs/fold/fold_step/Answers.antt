@@ -1,5 +1,4 @@
 -- `fold::fold_step` meets its contract: what the two calls ensure.
-use borrow.Author.Rules.{rules}
 use Rattle.entries.proofs.fold.fold_step.Goals as goal
 
 pub returns : goal.returns

@@ -1,7 +1,6 @@
 -- `fold::fold_words` meets its contract. The loop's invariant: the rest folded onto the box so far is the whole fold.
 use native.Mathlib.Omega.{arith}
-use borrow.Author.Rules.{rules}
-use Prim.Native.Nat.{◌+◌, ◌-◌}
+use Prim.Native.Nat.{◌+◌}
 use mathlib.Core.Path.{ap, subst, sym, ◌∙◌}
 use lib.ListN.{length, drop}
 use Rattle.entries.specs.declared.boxes.BoxWords.{BoxWords}

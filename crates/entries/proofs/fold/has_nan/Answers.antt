@@ -1,5 +1,4 @@
 -- `fold::has_nan` meets its contract: by what is required where it is plain, else by the test.
-use borrow.Author.Rules.{rules}
 use mathlib.Core.Path.{sym}
 use Rattle.entries.proofs.fold.has_nan.Goals as goal
 

@@ -1,5 +1,4 @@
 -- `fold::number_word` meets its contract: the float is no NaN by what is required.
-use borrow.Author.Rules.{rules}
 use mathlib.Core.Path.{sym, subst}
 use mathlib.Core.Bool.{Bool, not}
 use lib.Dec.{T}

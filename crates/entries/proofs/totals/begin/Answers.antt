@@ -1,5 +1,4 @@
 -- `totals::begin` meets its contract: what was begun is given back, else the first places are added from the start.
-use borrow.Author.Rules.{rules}
 use native.Mathlib.Omega.{arith}
 use Prim.Native.Nat.{ℕ, ◌-◌, ◌/◌}
 use mathlib.Core.Path.{◌≡◌, ap, ◌∙◌}

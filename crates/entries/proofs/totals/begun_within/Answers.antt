@@ -1,5 +1,4 @@
 -- `totals::begun_within` meets its contract: what is kept is as it was.
-use borrow.Author.Rules.{rules}
 use native.Mathlib.Omega.{arith}
 use Rattle.entries.proofs.totals.begun_within.Goals as goal
 

@@ -1,5 +1,4 @@
 -- `totals::gather` meets its contract: the rest is added to what is begun.
-use borrow.Author.Rules.{rules}
 use native.Mathlib.Omega.{arith}
 use Prim.Native.Nat.{ℕ, ◌-◌}
 use mathlib.Core.Path.{◌≡◌, ap, ◌∙◌}

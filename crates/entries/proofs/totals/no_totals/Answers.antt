@@ -1,5 +1,4 @@
 -- `totals::no_totals` meets its contract: the values of the start, and +0.
-use borrow.Author.Rules.{rules}
 use mathlib.Core.Path.{ap, ◌∙◌}
 use Rattle.math.specs.Stored.{values_of}
 use Rattle.entries.specs.declared.boxes.BoxWords.{BoxWords}

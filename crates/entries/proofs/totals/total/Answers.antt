@@ -1,7 +1,6 @@
 -- `totals::total` meets its contract. The loop's invariant: the rest taken into the totals so far gives those of all.
 use native.Mathlib.Omega.{arith}
-use borrow.Author.Rules.{rules}
-use Prim.Native.Nat.{◌+◌, ◌-◌}
+use Prim.Native.Nat.{◌+◌}
 use mathlib.Core.Path.{ap, subst, sym, ◌∙◌}
 use lib.ListN.{length, drop}
 use Rattle.entries.specs.declared.totals.Totals.{Totals}

@@ -1,13 +1,12 @@
 -- `totals::total_on` meets its contract. The loop's invariant: the rest taken into the totals so far gives those of all.
 use native.Mathlib.Omega.{arith}
-use borrow.Author.Rules.{rules}
-use Prim.Native.Nat.{◌+◌, ◌-◌}
+use Prim.Native.Nat.{◌+◌}
 use mathlib.Core.Path.{ap, ◌∙◌}
-use lib.ListN.{length, drop}
+use lib.ListN.{drop}
 use Rattle.entries.specs.declared.totals.Totals.{Totals}
 use Rattle.entries.specs.Boxes.{box_at}
 use Rattle.entries.specs.Steps.Totals.{total_step, totals_from}
-use Rattle.entries.proofs.Places.{Pass, begin, taken, finished, next_within}
+use Rattle.entries.proofs.Places.{begin, taken, finished, next_within}
 use Rattle.entries.proofs.totals.total_on.Goals as goal
 
 pub loop-i-init : goal.loop-i-init

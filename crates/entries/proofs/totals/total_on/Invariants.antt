@@ -1,13 +1,9 @@
 -- `totals::total_on` meets its contract. The loop's invariant: the rest taken into the totals so far gives those of all.
-use native.Mathlib.Omega.{arith}
-use borrow.Author.Rules.{rules}
-use Prim.Native.Nat.{◌+◌, ◌-◌}
-use mathlib.Core.Path.{ap, ◌∙◌}
-use lib.ListN.{length, drop}
-use Rattle.entries.specs.declared.totals.Totals.{Totals}
+use Prim.Native.Nat.{◌-◌}
+use lib.ListN.{length}
 use Rattle.entries.specs.Boxes.{box_at}
-use Rattle.entries.specs.Steps.Totals.{total_step, totals_from}
-use Rattle.entries.proofs.Places.{Pass, begin, taken, finished, next_within}
+use Rattle.entries.specs.Steps.Totals.{totals_from}
+use Rattle.entries.proofs.Places.{Pass}
 use Rattle.entries.proofs.totals.total_on.Given as goal
 
 abbrev pub invariant-loop-i : goal.invariant-loop-i

@@ -1,5 +1,4 @@
 -- `totals::total_step` meets its contract: what the calls ensure.
-use borrow.Author.Rules.{rules}
 use mathlib.Core.Path.{ap, ◌∙◌}
 use Rattle.math.specs.declared.vec3.Vec3.{Vec3}
 use Rattle.math.specs.Vec3s.{add_of, vmin3_of, vmax3_of}

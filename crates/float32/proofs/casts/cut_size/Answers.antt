@@ -1,5 +1,4 @@
 -- `casts::cut_size` meets its contract: what it moves down is `moved`, which `CutSize` cuts at 2 ^ 31.
-use borrow.Author.Rules.{rules}
 use mathlib.Core.Path.{ap, ◌∙◌}
 use Prim.Native.Nat.{ℕ, ◌-◌, ◌*◌, ◌/◌, ◌^◌, min}
 use Rattle.float32.proofs.CutSize.{digits, in_word, cut_is}

@@ -1,5 +1,5 @@
 -- `casts::number_word` meets its contract: a NaN is what differs from itself.
-use mathlib.Core.Path.{sym, ap, ◌∙◌}
+use mathlib.Core.Path.{sym, ◌∙◌}
 use Rattle.float32.proofs.Patterns.{ne_self, no_nan_if}
 use Rattle.float32.proofs.casts.number_word.Goals as goal
 

@@ -1,4 +1,3 @@
-use borrow.Author.Rules.{rules}
 use Rattle.float32.proofs.Wrap.{back_fits, back_low, back_high}
 use Rattle.float32.proofs.casts.of_bits.Goals as goal
 

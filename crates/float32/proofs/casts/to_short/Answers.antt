@@ -7,7 +7,6 @@ use mir.Val.{SFits, to_z, of_z}
 use mir.Facts.{to_z-of_z}
 use Rattle.float32.specs.Casts.{short_of, low16, low16bits}
 use Rattle.float32.proofs.Wrap.{signed_fits}
-use borrow.Author.Rules.{rules}
 use Rattle.float32.proofs.casts.to_short.Goals as goal
 
 pub returns : goal.returns

@@ -1,5 +1,4 @@
 -- `casts::vertex_value` meets its contract: a stored vertex is truncated as a query's corner is.
-use borrow.Author.Rules.{rules}
 use mathlib.Core.Path.{◌∙◌}
 use Rattle.base.proofs.ShortLaws.{same_short}
 use Rattle.float32.specs.Casts.{vertex_of}

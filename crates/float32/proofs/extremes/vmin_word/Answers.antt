@@ -1,6 +1,5 @@
 -- `extremes::vmin_word` meets its contract: the test is on the words' floats, the answer a copy.
 use Rattle.float32.specs.Extremes.{vmin_word}
-use borrow.Author.Rules.{rules}
 use Rattle.float32.proofs.extremes.vmin_word.Goals as goal
 
 pub returns-then-value : goal.returns-then-value

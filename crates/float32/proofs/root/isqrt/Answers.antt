@@ -1,9 +1,8 @@
 -- `root::isqrt` meets its contract. The loop's invariant: the guess is not below the whole root, and its square fits. It falls, and stops where its
 -- square is at most n.
-use Prim.Native.Nat.{ℕ, ◌+◌, ◌/◌, ◌^◌, ◌≤◌, ◌<◌}
+use Prim.Native.Nat.{ℕ, ◌/◌, ◌^◌, ◌≤◌, ◌<◌}
 use native.Mathlib.Nat.{le_antisymm, mul-le-mul, div-le_self, div-lt_iff_lt-mul}
 use native.Mathlib.Omega.{arith}
-use Rattle.float32.specs.SquareRoot.{isqrt}
 use Rattle.float32.proofs.root.WholeRoot.{below_root}
 use Rattle.float32.proofs.root.Iteration.{step_above, step_falls, square_pos}
 use Rattle.float32.proofs.root.isqrt.Goals as goal

@@ -1,5 +1,4 @@
 -- `root::parts` meets its contract: each branch is a case of `Scaling`.
-use borrow.Author.Rules.{rules}
 use mathlib.Core.Path.{sym, subst}
 use Prim.Native.Nat.{ℕ, ◌-◌}
 use native.Mathlib.Nat.{mod-eq_of_lt}

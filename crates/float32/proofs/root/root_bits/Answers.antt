@@ -1,5 +1,4 @@
 -- `root::root_bits` meets its contract: by the bounds of `Radicand` nothing is lost in a word, so the code's steps are those of `root_bits`.
-use borrow.Author.Rules.{rules}
 use mathlib.Core.Path.{◌≡◌, sym, ap, ◌∙◌, subst}
 use mathlib.Core.Bool.{Bool, cond}
 use Prim.Native.Nat.{ℕ, ◌+◌, ◌-◌, ◌*◌, ◌%◌, ◌^◌, ◌≤◌, ◌<◌}
@@ -35,7 +34,7 @@ overflow_mul-root c =
     let radicand-of : ℕ = radicand c.args.significand c.args.exponent in
     let n-is : radicand-of % 2 ^ 64 ≡ radicand-of = in_word c.args.significand c.args.exponent c.requires.0 c.requires.1 in
     let q_is : c.isqrt-root.result ≡ isqrt radicand-of = c.isqrt-root.ensures ∙ ap isqrt n-is in
-    let q-le : c.isqrt-root.result ≤ 0xff_ffff =     subst (λ (q : ℕ). q ≤ 0xff_ffff) (sym q_is) (root_le c.args.significand c.args.exponent c.requires.0 c.requires.1) in
+    let q-le : c.isqrt-root.result ≤ 0xff_ffff = subst (λ (q : ℕ). q ≤ 0xff_ffff) (sym q_is) (root_le c.args.significand c.args.exponent c.requires.0 c.requires.1) in
     omega (arith, mul-le-mul q-le q-le)
 
 pub overflow_sub-n : goal.overflow_sub-n
@@ -51,7 +50,7 @@ overflow_add-result c =
     let radicand-of : ℕ = radicand c.args.significand c.args.exponent in
     let n-is : radicand-of % 2 ^ 64 ≡ radicand-of = in_word c.args.significand c.args.exponent c.requires.0 c.requires.1 in
     let q_is : c.isqrt-root.result ≡ isqrt radicand-of = c.isqrt-root.ensures ∙ ap isqrt n-is in
-    let q-le : c.isqrt-root.result ≤ 0xff_ffff =     subst (λ (q : ℕ). q ≤ 0xff_ffff) (sym q_is) (root_le c.args.significand c.args.exponent c.requires.0 c.requires.1) in
+    let q-le : c.isqrt-root.result ≤ 0xff_ffff = subst (λ (q : ℕ). q ≤ 0xff_ffff) (sym q_is) (root_le c.args.significand c.args.exponent c.requires.0 c.requires.1) in
     omega (arith, q-le)
 
 pub overflow_cast-result : goal.overflow_cast-result
@@ -59,7 +58,7 @@ overflow_cast-result c =
     let radicand-of : ℕ = radicand c.args.significand c.args.exponent in
     let n-is : radicand-of % 2 ^ 64 ≡ radicand-of = in_word c.args.significand c.args.exponent c.requires.0 c.requires.1 in
     let q_is : c.isqrt-root.result ≡ isqrt radicand-of = c.isqrt-root.ensures ∙ ap isqrt n-is in
-    let q-le : c.isqrt-root.result ≤ 0xff_ffff =     subst (λ (q : ℕ). q ≤ 0xff_ffff) (sym q_is) (root_le c.args.significand c.args.exponent c.requires.0 c.requires.1) in
+    let q-le : c.isqrt-root.result ≤ 0xff_ffff = subst (λ (q : ℕ). q ≤ 0xff_ffff) (sym q_is) (root_le c.args.significand c.args.exponent c.requires.0 c.requires.1) in
     omega (arith, q-le)
 
 pub overflow_add-result-then-n-root : goal.overflow_add-result-then-n-root
@@ -67,7 +66,7 @@ overflow_add-result-then-n-root c =
     let radicand-of : ℕ = radicand c.args.significand c.args.exponent in
     let n-is : radicand-of % 2 ^ 64 ≡ radicand-of = in_word c.args.significand c.args.exponent c.requires.0 c.requires.1 in
     let q_is : c.isqrt-root.result ≡ isqrt radicand-of = c.isqrt-root.ensures ∙ ap isqrt n-is in
-    let q-le : c.isqrt-root.result ≤ 0xff_ffff =     subst (λ (q : ℕ). q ≤ 0xff_ffff) (sym q_is) (root_le c.args.significand c.args.exponent c.requires.0 c.requires.1) in
+    let q-le : c.isqrt-root.result ≤ 0xff_ffff = subst (λ (q : ℕ). q ≤ 0xff_ffff) (sym q_is) (root_le c.args.significand c.args.exponent c.requires.0 c.requires.1) in
     omega (arith, q-le)
 
 pub overflow_cast-result-else-n-root : goal.overflow_cast-result-else-n-root
@@ -75,7 +74,7 @@ overflow_cast-result-else-n-root c =
     let radicand-of : ℕ = radicand c.args.significand c.args.exponent in
     let n-is : radicand-of % 2 ^ 64 ≡ radicand-of = in_word c.args.significand c.args.exponent c.requires.0 c.requires.1 in
     let q_is : c.isqrt-root.result ≡ isqrt radicand-of = c.isqrt-root.ensures ∙ ap isqrt n-is in
-    let q-le : c.isqrt-root.result ≤ 0xff_ffff =     subst (λ (q : ℕ). q ≤ 0xff_ffff) (sym q_is) (root_le c.args.significand c.args.exponent c.requires.0 c.requires.1) in
+    let q-le : c.isqrt-root.result ≤ 0xff_ffff = subst (λ (q : ℕ). q ≤ 0xff_ffff) (sym q_is) (root_le c.args.significand c.args.exponent c.requires.0 c.requires.1) in
     omega (arith, q-le)
 
 pub overflow_add-result-else-n-root : goal.overflow_add-result-else-n-root
@@ -83,7 +82,7 @@ overflow_add-result-else-n-root c =
     let radicand-of : ℕ = radicand c.args.significand c.args.exponent in
     let n-is : radicand-of % 2 ^ 64 ≡ radicand-of = in_word c.args.significand c.args.exponent c.requires.0 c.requires.1 in
     let q_is : c.isqrt-root.result ≡ isqrt radicand-of = c.isqrt-root.ensures ∙ ap isqrt n-is in
-    let q-le : c.isqrt-root.result ≤ 0xff_ffff =     subst (λ (q : ℕ). q ≤ 0xff_ffff) (sym q_is) (root_le c.args.significand c.args.exponent c.requires.0 c.requires.1) in
+    let q-le : c.isqrt-root.result ≤ 0xff_ffff = subst (λ (q : ℕ). q ≤ 0xff_ffff) (sym q_is) (root_le c.args.significand c.args.exponent c.requires.0 c.requires.1) in
     omega (arith, q-le)
 
 pub returns-then-n-root : goal.returns-then-n-root

@@ -1,5 +1,4 @@
 -- `root::sqrt` meets its contract: x is the number that its pattern stands for, and each branch is a case of `Cases`.
-use borrow.Author.Rules.{rules}
 use mathlib.Core.Path.{◌≡◌, sym, ap, ◌∙◌, subst}
 use Prim.Native.Nat.{ℕ, ◌<◌}
 use native.Mathlib.Omega.{arith}

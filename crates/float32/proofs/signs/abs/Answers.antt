@@ -6,7 +6,6 @@ use lib.IntN.{pos}
 use lib.Ieee.{Float, binary32, eq, lt, fin, fits, of_bits}
 use Rattle.float32.specs.Signs.{abs_of}
 use Rattle.float32.proofs.SignLaws.{below_zero, at_zero, else_clear}
-use borrow.Author.Rules.{rules}
 use Rattle.float32.proofs.signs.abs.Goals as goal
 
 cleared : (x : Float) → T (fits binary32 x) → lt x (fin false 0 (pos 0)) ≡ false → cond (eq x (fin false 0 (pos 0))) (fin false 0 (pos 0)) x ≡ abs_of x

@@ -1,7 +1,6 @@
 use mathlib.Core.Path.{sym, ap, ◌∙◌}
 use lib.Ieee.{binary32, to_bits}
 use Rattle.float32.proofs.Patterns.{nan_if, no_nan_if, nan_pattern}
-use borrow.Author.Rules.{rules}
 use Rattle.float32.proofs.words.bits.Goals as goal
 
 pub float_to_bits-result : goal.float_to_bits-result

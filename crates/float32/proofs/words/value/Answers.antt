@@ -1,4 +1,3 @@
-use borrow.Author.Rules.{rules}
 use mathlib.Core.Path.{sym, ◌∙◌}
 use Rattle.float32.proofs.Patterns.{no_nan, a_nan, zero_by_zero}
 use Rattle.float32.proofs.words.value.Goals as goal

@@ -4,7 +4,6 @@ use Rattle.math.specs.Transform.{centre_image, point_of, half, xyz}
 use Rattle.math.specs.Vec3s.{scale_of, one, ◌⊘◌}
 use Rattle.math.specs.declared.vec3.Vec3.{Vec3}
 use Rattle.math.specs.declared.mat4.Vec4.{Vec4}
-use borrow.Author.Rules.{rules}
 use Rattle.math.proofs.aabb.centre_image.Goals as goal
 
 pub returns : goal.returns

@@ -5,7 +5,6 @@ use Rattle.math.specs.Vec3s.{scale_of, abs_of}
 use Rattle.math.specs.declared.vec3.Vec3.{Vec3}
 use Rattle.math.specs.declared.mat4.Mat4.{Mat4}
 use Rattle.math.specs.Transform.{extent_image}
-use borrow.Author.Rules.{rules}
 use Rattle.math.proofs.aabb.extent_image.Goals as goal
 
 pub returns : goal.returns

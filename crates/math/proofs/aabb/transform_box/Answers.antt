@@ -1,6 +1,5 @@
 -- `aabb::transform_box` meets its contract: the two images' difference and sum.
 use Rattle.math.specs.Transform.{transform_box}
-use borrow.Author.Rules.{rules}
 use Rattle.math.proofs.aabb.transform_box.Goals as goal
 
 pub returns : goal.returns

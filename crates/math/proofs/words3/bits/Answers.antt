@@ -1,5 +1,4 @@
 -- `words3::bits` meets its contract: each word is what `bits` ensures of its axis.
-use borrow.Author.Rules.{rules}
 use Rattle.math.proofs.words3.bits.Goals as goal
 
 pub returns : goal.returns

@@ -1,5 +1,4 @@
 -- `words3::values` meets its contract: each float is what `value` ensures of its word.
-use borrow.Author.Rules.{rules}
 use Rattle.math.proofs.words3.values.Goals as goal
 
 pub returns : goal.returns

@@ -1,5 +1,4 @@
 -- `words3::vmin_words` meets its contract: axis by axis what `vmin_word` ensures.
-use borrow.Author.Rules.{rules}
 use Rattle.math.proofs.words3.vmin_words.Goals as goal
 
 pub returns : goal.returns

@@ -1,5 +1,4 @@
 -- `calculate_octants`: the checks in their order, and then the lists.
-use borrow.Author.Rules.{rules}
 use mathlib.Core.Path.{sym, ◌∙◌}
 use Rattle.octants.proofs.entry.Answering.{room, too_many, too_small, served}
 use Rattle.octants.proofs.entry.calculate_octants.Goals as goal

@@ -1,9 +1,5 @@
 -- `put_axis` meets its contract. The invariant is `Filling`.
-use Prim.Native.Nat.{◌+◌, ◌*◌, ◌-◌}
-use lib.ListN.{get_or}
-use Rattle.float32.specs.SortOrder.{key_of}
-use Rattle.octants.proofs.PartLaws.{Filling, unfilled, fill_more, filled}
-use borrow.Author.Rules.{rules}
+use Rattle.octants.proofs.PartLaws.{unfilled, fill_more, filled}
 use Rattle.octants.proofs.keys.put_axis.Goals as goal
 
 pub loop-p-init : goal.loop-p-init

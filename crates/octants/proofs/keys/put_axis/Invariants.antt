@@ -2,8 +2,7 @@
 use Prim.Native.Nat.{◌+◌, ◌*◌, ◌-◌}
 use lib.ListN.{get_or}
 use Rattle.float32.specs.SortOrder.{key_of}
-use Rattle.octants.proofs.PartLaws.{Filling, unfilled, fill_more, filled}
-use borrow.Author.Rules.{rules}
+use Rattle.octants.proofs.PartLaws.{Filling}
 use Rattle.octants.proofs.keys.put_axis.Given as goal
 
 abbrev pub invariant-loop-p : goal.invariant-loop-p

@@ -1,5 +1,4 @@
 -- `put_keys`: three parts, one after the other.
-use borrow.Author.Rules.{rules}
 use Rattle.octants.proofs.PartLaws.{keyed}
 use Rattle.octants.proofs.keys.put_keys.Goals as goal
 

@@ -1,5 +1,4 @@
 -- `cast_of` meets its contract: by how many axes fail.
-use borrow.Author.Rules.{rules}
 use Rattle.shadows.specs.Nearness.{inside_of}
 use Rattle.octants.proofs.EndLaws.{at_most_one, casts_whole, casts_none}
 use native.Mathlib.Omega.{arith}

@@ -1,5 +1,4 @@
 -- `hide_of` meets its contract: by how many axes fail.
-use borrow.Author.Rules.{rules}
 use Rattle.shadows.specs.Nearness.{inside_of}
 use Rattle.octants.proofs.EndLaws.{at_most_one, hides_whole, hides_none}
 use native.Mathlib.Omega.{arith}

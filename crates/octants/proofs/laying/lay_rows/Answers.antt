@@ -1,5 +1,4 @@
 -- `lay_rows`: four parts, one after the other.
-use borrow.Author.Rules.{rules}
 use Rattle.octants.proofs.PartLaws.{laid}
 use Rattle.octants.proofs.laying.lay_rows.Goals as goal
 

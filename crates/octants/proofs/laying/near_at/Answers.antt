@@ -1,5 +1,4 @@
 -- `near_at` reads what `near_at` says.
-use borrow.Author.Rules.{rules}
 use Rattle.octants.specs.Steps.Parts.{near_at}
 use Rattle.far_order.specs.Rows.{x_at, y_at}
 use Rattle.octants.proofs.laying.near_at.Goals as goal

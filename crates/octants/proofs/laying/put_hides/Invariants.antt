@@ -1,11 +1,8 @@
 -- `put_hides` meets its contract. The invariant is `Filling`: x and y of a row are as they were.
 use Prim.Native.Nat.{◌*◌, ◌-◌}
-use mathlib.Core.Path.{ap, ◌∙◌}
 use Rattle.shadows.specs.Ranks.{hide_of}
 use Rattle.octants.specs.Steps.Parts.{near_at}
-use Rattle.octants.proofs.PartLaws.{Filling, unfilled, fill_more, filled, near_kept}
-use native.Mathlib.Omega.{arith}
-use borrow.Author.Rules.{rules}
+use Rattle.octants.proofs.PartLaws.{Filling}
 use Rattle.octants.proofs.laying.put_hides.Given as goal
 
 abbrev pub invariant-loop-p : goal.invariant-loop-p

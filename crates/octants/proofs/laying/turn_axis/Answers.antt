@@ -1,9 +1,5 @@
 -- `turn_axis` meets its contract. The invariant is `Filling`.
-use Prim.Native.Nat.{◌+◌, ◌-◌}
-use lib.ListN.{get_or}
-use Rattle.shadows.specs.Nearness.{turned}
-use Rattle.octants.proofs.PartLaws.{Filling, unfilled, fill_more, filled}
-use borrow.Author.Rules.{rules}
+use Rattle.octants.proofs.PartLaws.{unfilled, fill_more, filled}
 use Rattle.octants.proofs.laying.turn_axis.Goals as goal
 
 pub loop-p-init : goal.loop-p-init

@@ -2,8 +2,7 @@
 use Prim.Native.Nat.{◌+◌, ◌-◌}
 use lib.ListN.{get_or}
 use Rattle.shadows.specs.Nearness.{turned}
-use Rattle.octants.proofs.PartLaws.{Filling, unfilled, fill_more, filled}
-use borrow.Author.Rules.{rules}
+use Rattle.octants.proofs.PartLaws.{Filling}
 use Rattle.octants.proofs.laying.turn_axis.Given as goal
 
 abbrev pub invariant-loop-p : goal.invariant-loop-p

@@ -1,5 +1,4 @@
 -- `turned` meets its contract: by the two tests.
-use borrow.Author.Rules.{rules}
 use borrow.Author.Tests.{eq-eqb, ne_eqb}
 use native.Mathlib.Omega.{arith}
 use Rattle.octants.proofs.laying.turned.Goals as goal

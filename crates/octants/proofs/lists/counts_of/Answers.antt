@@ -1,5 +1,4 @@
 -- `counts_of` reads the first eight numbers.
-use borrow.Author.Rules.{rules}
 use mathlib.Core.Path.{refl}
 use Rattle.octants.specs.Steps.Lists.{counts_in}
 use Rattle.octants.proofs.lists.counts_of.Goals as goal

@@ -1,9 +1,9 @@
 -- `list_each` meets its contract. The invariant is `Listing`: the lists of the octants passed stand in their parts.
 use Prim.Native.Nat.{◌+◌, ◌*◌, ◌-◌}
-use mathlib.Core.Path.{◌≡◌, refl, ◌∙◌}
+use mathlib.Core.Path.{refl, ◌∙◌}
 use lib.ListN.{length, drop, length-set, length-drop}
 use lib.Seq.{length-take-le}
-use Rattle.octants.proofs.ListLaws.{Listing, none_listed, in_range, one_listed, all_listed, written_few}
+use Rattle.octants.proofs.ListLaws.{none_listed, in_range, one_listed, all_listed, written_few}
 use native.Mathlib.Omega.{arith}
 use Rattle.octants.proofs.lists.list_each.Goals as goal
 

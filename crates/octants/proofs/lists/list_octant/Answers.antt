@@ -1,5 +1,4 @@
 -- `list_octant`: the rows, and their list.
-use borrow.Author.Rules.{rules}
 use Rattle.octants.proofs.PartLaws.{rows_of, octant_written}
 use native.Mathlib.Omega.{arith}
 use Rattle.octants.proofs.lists.list_octant.Goals as goal

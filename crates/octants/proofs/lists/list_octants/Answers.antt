@@ -1,5 +1,4 @@
 -- `list_octants`: the keys, then each list, then how many each has.
-use borrow.Author.Rules.{rules}
 use Rattle.octants.proofs.ListLaws.{wrote}
 use native.Mathlib.Omega.{arith}
 use Rattle.octants.proofs.lists.list_octants.Goals as goal

@@ -1,5 +1,4 @@
 -- `quantise::all_inside` meets its contract: each of the six is inside.
-use borrow.Author.Rules.{rules}
 use mathlib.Core.Bool.{and-eq-true_iff}
 use Rattle.records.proofs.quantise.all_inside.Goals as goal
 

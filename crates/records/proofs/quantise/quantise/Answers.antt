@@ -3,7 +3,6 @@ use mathlib.Core.Path.{ap, ◌∙◌}
 use Rattle.float32.specs.Casts.{short_of}
 use Rattle.records.specs.Quantise.{quantise_of}
 use Rattle.records.proofs.Fields.{cast_by, same_vertex}
-use borrow.Author.Rules.{rules}
 use Rattle.records.proofs.quantise.quantise.Goals as goal
 
 pub returns : goal.returns

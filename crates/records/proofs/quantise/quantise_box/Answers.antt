@@ -1,5 +1,4 @@
 -- `quantise::quantise_box` meets its contract: where no value wraps by the whole parts, else corner by corner.
-use borrow.Author.Rules.{rules}
 use mathlib.Core.Path.{ap, ◌∙◌}
 use Rattle.records.specs.Quantise.{quantise_of}
 use Rattle.records.specs.Steps.Cut.{shorts_of}

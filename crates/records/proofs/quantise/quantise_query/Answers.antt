@@ -5,7 +5,6 @@ use Rattle.math.specs.Vec3s.{vmul_of}
 use Rattle.math.specs.declared.vec3.Vec3.{Vec3}
 use Rattle.records.specs.Quantise.{quantise_query_of}
 use Rattle.records.proofs.Fields.{cast_by, same_vertex}
-use borrow.Author.Rules.{rules}
 use Rattle.records.proofs.quantise.quantise_query.Goals as goal
 
 pub returns : goal.returns

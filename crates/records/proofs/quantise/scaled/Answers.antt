@@ -1,5 +1,4 @@
 -- `quantise::scaled` meets its contract: the calls in turn.
-use borrow.Author.Rules.{rules}
 use mathlib.Core.Path.{ap, ◌∙◌}
 use Rattle.math.specs.Vec3s.{sub_of, vmul_of}
 use Rattle.math.specs.declared.vec3.Vec3.{Vec3}

@@ -1,5 +1,4 @@
 -- `quantise::shorts_inside` meets its contract: axis by axis.
-use borrow.Author.Rules.{rules}
 use Rattle.float32.specs.Casts.{short_of}
 use Rattle.records.proofs.Fields.{same_vertex}
 use Rattle.records.proofs.quantise.shorts_inside.Goals as goal

@@ -3,7 +3,6 @@ use mathlib.Core.Path.{ap, ap₂, ◌∙◌}
 use lib.Ieee.{Float}
 use Rattle.float32.specs.Extremes.{vmax_of}
 use Rattle.records.specs.Axis.{centre, quantum_of, inverse_of}
-use borrow.Author.Rules.{rules}
 use Rattle.records.proofs.scale.axis_scale.Goals as goal
 
 pub returns : goal.returns

@@ -4,7 +4,6 @@ use Rattle.math.specs.declared.vec3.Vec3.{Vec3}
 use Rattle.records.specs.Scale.{axis_scale_of, scale_of_box}
 use Rattle.records.specs.declared.scale.AxisScale.{AxisScale}
 use Rattle.records.specs.declared.scale.Scale.{Scale}
-use borrow.Author.Rules.{rules}
 use Rattle.records.proofs.scale.scale_of.Goals as goal
 
 -- the units of three axes

@@ -7,7 +7,6 @@ use Rattle.float32.specs.Casts.{low16bits}
 use Rattle.base.specs.LittleEndian.{little_endian}
 use Rattle.records.specs.Shorts.{short_bytes}
 use Rattle.records.proofs.Fields.{short_read}
-use borrow.Author.Rules.{rules}
 use Rattle.records.proofs.shorts.put_short.Goals as goal
 
 pub overflow_cast-v : goal.overflow_cast-v

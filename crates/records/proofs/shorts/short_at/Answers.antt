@@ -8,7 +8,6 @@ use Rattle.base.specs.LittleEndian.{le_at}
 use Rattle.base.proofs.ShortLaws.{same_short}
 use Rattle.float32.specs.Casts.{low16, signed16}
 use Rattle.records.specs.Shorts.{short_at}
-use borrow.Author.Rules.{rules}
 use Rattle.records.proofs.shorts.short_at.Goals as goal
 
 pub returns : goal.returns
