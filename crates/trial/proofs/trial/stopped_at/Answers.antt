@@ -14,6 +14,7 @@ stopped-requires c = (
   stoppable c.requires _ c.put_point.auto.points,
   omega
       (arith, c.if-v-hint.false),
+)
 
 pub returns : goal.returns
 returns c =
