@@ -1,10 +1,10 @@
 -- What a build works in: 30 words an entry and 8, within what 01 allows; and one buffer that is cut serves exactly where it has them. Assumes nothing.
-use Rattle.core.specs.Prelude.{◌≡◌, ℕ, ◌+◌, ◌*◌, ◌≤◌, Bool, ◌||◌, ltb}
+use Rattle.std.specs.Prelude.{◌≡◌, ℕ, ◌+◌, ◌*◌, ◌≤◌, Bool, ◌||◌, ltb}
 use native.Mathlib.Omega.{arith}
 use mathlib.Core.Path.{ap, ◌∙◌}
 use Rattle.base.specs.Cuts.{total, cut, any_short}
 use Rattle.base.proofs.CutLaws as C
-use Rattle.bvh.specs.declared.core.Lengths.{Lengths}
+use Rattle.bvh.specs.declared.slices.Lengths.{Lengths}
 use Rattle.bvh.specs.Build.{short}
 use Rattle.answers.specs.BuildWork.{build_parts, build_lent, output_short, cut_build}
 use Rattle.answers.specs.Trees.{work_len}

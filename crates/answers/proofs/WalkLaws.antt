@@ -1,5 +1,5 @@
 -- What the answer of a walk says of the C interface's. Assumes nothing.
-use Rattle.core.specs.Prelude.{◌≡◌, ℕ, List}
+use Rattle.std.specs.Prelude.{◌≡◌, ℕ, List}
 use mathlib.Core.Path.{ap, subst, ◌∙◌}
 use Rattle.walk.specs.declared.slices.Counts.{Counts}
 use Rattle.walk.specs.declared.slices.Walk.{Walk}

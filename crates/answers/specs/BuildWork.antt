@@ -1,7 +1,7 @@
 -- What a build works in, and how one buffer is cut for it. Definitions only.
-use Rattle.core.specs.Prelude.{ℕ, ◌+◌, ◌*◌, Bool, ◌||◌, List, [], ◌∷◌, nat_lt, slice_index}
+use Rattle.std.specs.Prelude.{ℕ, ◌+◌, ◌*◌, Bool, ◌||◌, List, [], ◌∷◌, nat_lt, slice_index}
 use Rattle.base.specs.Cuts.{lesser, cut}
-use Rattle.bvh.specs.declared.core.Lengths.{Lengths}
+use Rattle.bvh.specs.declared.slices.Lengths.{Lengths}
 
 -- the least lengths of the parts for n entries: entries, places, temp, stack, rows, centres
 abbrev pub build_parts : ℕ → List ℕ

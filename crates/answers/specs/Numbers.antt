@@ -1,5 +1,5 @@
 -- The numbers that stand for an enum's cases in the C interface. Definitions only.
-use Rattle.core.specs.Prelude.{ℕ, ℤ, pos, negsuc}
+use Rattle.std.specs.Prelude.{ℕ, ℤ, pos, negsuc}
 use Rattle.float32.specs.declared.compare.Relation as R
 use Rattle.float32.specs.declared.compare.Relation.TheVariants as Rel
 use Rattle.float32.specs.declared.sorting.Ordering as O

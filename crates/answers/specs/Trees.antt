@@ -1,14 +1,14 @@
 -- What the C interface answers of a build and of a header. Definitions only.
-use Rattle.core.specs.Prelude.{◌≡◌, ℕ, ◌+◌, ◌*◌, List, from_bits}
+use Rattle.std.specs.Prelude.{◌≡◌, ℕ, ◌+◌, ◌*◌, List, from_bits}
 use Rattle.std.specs.Float.{binary32}
 use Rattle.math.specs.declared.vec3.Vec3.{Vec3}
 use Rattle.math.specs.declared.words3.Words3.{Words3}
 use Rattle.header.specs.declared.Bvh.{Bvh}
 use Rattle.header.specs.Header.{header_answer, header_exit}
-use Rattle.bvh.specs.declared.core.Build.{Build}
-use Rattle.bvh.specs.declared.core.Build.TheVariants.{Built, Refused}
-use Rattle.bvh.specs.declared.core.BuiltTree.{BuiltTree}
-use Rattle.bvh.specs.declared.core.Lengths.{Lengths}
+use Rattle.bvh.specs.declared.slices.Build.{Build}
+use Rattle.bvh.specs.declared.slices.Build.TheVariants.{Built, Refused}
+use Rattle.bvh.specs.declared.slices.BuiltTree.{BuiltTree}
+use Rattle.bvh.specs.declared.slices.Lengths.{Lengths}
 use Rattle.bvh.specs.Build.{Entries, answer_of, kept, number_of, nodes_written, trees_written, order_written}
 use Rattle.bvh.specs.Entry.{Outputs}
 use Rattle.answers.specs.declared.trees.BuildAnswer.{BuildAnswer}

@@ -1,5 +1,5 @@
 -- What the C interface answers of a walk. Definitions only.
-use Rattle.core.specs.Prelude.{◌≡◌, ℕ, List}
+use Rattle.std.specs.Prelude.{◌≡◌, ℕ, List}
 use Rattle.base.specs.Lists.{over}
 use Rattle.walk.specs.declared.slices.Counts.{Counts}
 use Rattle.walk.specs.declared.slices.Walk.{Walk}

@@ -1,5 +1,5 @@
 // The numbers that stand for an enum's cases.
-ghost use Rattle.core.specs.Prelude.{◌≡◌};
+ghost use Rattle.std.specs.Prelude.{◌≡◌};
 ghost use Rattle.header.specs.Header.{header_number};
 ghost use Rattle.answers.specs.Numbers.{relation_number, ordering_number};
 

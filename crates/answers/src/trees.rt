@@ -1,9 +1,9 @@
 // What a build answers.
-ghost use Rattle.core.specs.Prelude.{◌≡◌};
+ghost use Rattle.std.specs.Prelude.{◌≡◌};
 ghost use Rattle.bvh.specs.Build.{refusal_number as buildRefusal};
 ghost use Rattle.answers.specs.Trees.{refused_by, tree_values, build_answer, work_len};
 
-use bvh::core::{Build, BuildRefusal, BuiltTree};
+use bvh::slices::{Build, BuildRefusal, BuiltTree};
 use math::vec3::Vec3;
 use math::words3::Words3;
 use records::scale::Scale;

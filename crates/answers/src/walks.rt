@@ -1,5 +1,5 @@
 // What a walk answers.
-ghost use Rattle.core.specs.Prelude.{◌≡◌};
+ghost use Rattle.std.specs.Prelude.{◌≡◌};
 ghost use Rattle.walk.specs.Walks.{refusal_number as walkRefusal};
 ghost use Rattle.answers.specs.WalkAnswers.{sizes_of, counted, walk_answer};
 

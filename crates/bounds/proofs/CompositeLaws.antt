@@ -12,9 +12,9 @@ use Rattle.math.specs.declared.aabb.Aabb.{Aabb}
 use Rattle.bvh.specs.Build as B
 use Rattle.bvh.specs.Build.{refusal_number, nodes_written, trees_written, order_written}
 use Rattle.bvh.specs.Entry.{Outputs}
-use Rattle.bvh.specs.declared.core.Build.{Build}
-use Rattle.bvh.specs.declared.core.Build.TheVariants.{Built, Refused}
-use Rattle.bvh.specs.declared.core.Lengths.{Lengths}
+use Rattle.bvh.specs.declared.slices.Build.{Build}
+use Rattle.bvh.specs.declared.slices.Build.TheVariants.{Built, Refused}
+use Rattle.bvh.specs.declared.slices.Lengths.{Lengths}
 use Rattle.composite.specs.declared.building.CompositeTree.{CompositeTree}
 use Rattle.composite.specs.declared.building.CompositeTree.TheVariants.{NoTree, Tree}
 use Rattle.composite.specs.Trees.{child_limit, child_entries, tree_above, kept, Answered}

@@ -9,10 +9,10 @@ use lib.Dec.{ltb}
 use lib.ListN.{length}
 use Rattle.bvh.specs.Build.{Entries, short, tree_of, built_by, answer_by}
 use Rattle.bvh.specs.Entry.{entries_of}
-use Rattle.bvh.specs.declared.core.Build.{Build}
-use Rattle.bvh.specs.declared.core.Build.TheVariants.{Built, Refused}
-use Rattle.bvh.specs.declared.core.BuildRefusal.TheVariants.{TooManyEntries, BufferTooShort, TooManyNodes}
-use Rattle.bvh.specs.declared.core.Lengths.{Lengths}
+use Rattle.bvh.specs.declared.slices.Build.{Build}
+use Rattle.bvh.specs.declared.slices.Build.TheVariants.{Built, Refused}
+use Rattle.bvh.specs.declared.slices.BuildRefusal.TheVariants.{TooManyEntries, BufferTooShort, TooManyNodes}
+use Rattle.bvh.specs.declared.slices.Lengths.{Lengths}
 use Rattle.composite.specs.declared.building.CompositeTree.{CompositeTree}
 use Rattle.composite.specs.declared.building.CompositeTree.TheVariants.{NoTree, Tree}
 use Rattle.composite.specs.Trees.{child_limit, child_entries, build_by, tree_above_by}

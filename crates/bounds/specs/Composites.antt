@@ -2,7 +2,7 @@
 use Rattle.std.specs.Prelude.{ℕ, List, ◌≡◌}
 use Rattle.bvh.specs.Build.{nodes_written, trees_written, order_written}
 use Rattle.bvh.specs.Entry.{Outputs}
-use Rattle.bvh.specs.declared.core.Lengths.{Lengths}
+use Rattle.bvh.specs.declared.slices.Lengths.{Lengths}
 use Rattle.composite.specs.declared.building.CompositeTree.{CompositeTree}
 use Rattle.composite.specs.declared.building.CompositeTree.TheVariants.{NoTree, Tree}
 use Rattle.composite.specs.Trees.{child_limit, child_entries, tree_above, kept}

@@ -1,18 +1,18 @@
 -- A build over the words of some items is the build over the items: the words hold the same entries, or the build is refused before it reads one.
-use Rattle.core.specs.Prelude.{◌≡◌, ℕ, zero, suc, ◌+◌, ◌*◌, ◌<◌, ◌≤◌, Bool, true, false, cond, ◌&&◌, ◌||◌, ltb, leb, ◌⊎◌, List, [], ◌∷◌, ◌++◌, length, get_or, take, drop}
+use Rattle.std.specs.Prelude.{◌≡◌, ℕ, zero, suc, ◌+◌, ◌*◌, ◌<◌, ◌≤◌, Bool, true, false, cond, ◌&&◌, ◌||◌, ltb, leb, ◌⊎◌, List, [], ◌∷◌, ◌++◌, length, get_or, take, drop}
 use native.Mathlib.Nat.{add_assoc}
 use native.Mathlib.Omega.{arith}
 use mathlib.Core.Path.{refl, sym, ap, ◌∙◌, subst}
 use mathlib.Core.Logic.{inl, inr, ⊎_elim}
-use mathlib.Core.Bool.{or_true}
+use mathlib.Core.Bool.{or-true}
 use mathlib.Core.List.{append-nil}
 use lib.Ieee.{Float}
 use lib.Seq.{take_at, get_or-append-add}
 use borrow.Author.Tests.{lt-ltb, leb-true, leb-false}
-use Rattle.bvh.specs.declared.core.Build.{Build}
-use Rattle.bvh.specs.declared.core.Build.TheVariants.{Refused}
-use Rattle.bvh.specs.declared.core.BuildRefusal.TheVariants.{TooManyEntries, ThresholdOutside, BufferTooShort}
-use Rattle.bvh.specs.declared.core.Lengths.{Lengths}
+use Rattle.bvh.specs.declared.slices.Build.{Build}
+use Rattle.bvh.specs.declared.slices.Build.TheVariants.{Refused}
+use Rattle.bvh.specs.declared.slices.BuildRefusal.TheVariants.{TooManyEntries, ThresholdOutside, BufferTooShort}
+use Rattle.bvh.specs.declared.slices.Lengths.{Lengths}
 use Rattle.bvh.specs.declared.items.BvhItem.{BvhItem}
 use Rattle.bvh.specs.Build.{Entries, short, answer_by, kept, nodes_written, trees_written_by, order_written}
 use Rattle.entries.specs.Boxes.{box_from}
@@ -47,7 +47,7 @@ entries_in_lem items rest =
 
 -- ---- the build that is refused before it reads an entry
 short_words : (n : ℕ) (l : Lengths) → l.entries < 7 * n → short n l ≡ true
-short_words n l few = simp (lt-ltb l.entries (7 * n) few, or_true)
+short_words n l few = simp (lt-ltb l.entries (7 * n) few, or-true)
 
 -- the words are not read
 abbrev Unread : ℕ → Lengths → Type 0

@@ -1,5 +1,4 @@
 pub mod EntryWords
-mod HandWalk
 pub mod ItemWords
 pub mod MarkedLaws
 pub mod MeetLaws

@@ -1,6 +1,6 @@
 -- A node that holds an item that meets the query meets the quantised query, on one axis: the box of all items keeps the pair's premises (split's
 -- FoldLaws), a node's box lies in it, the item's box in the node's, and node and query values are in the order of the floats (records' AxisLaws).
-use Rattle.core.specs.Prelude.{ℕ, ◌<◌, T, ◌⊎◌, List, length}
+use Rattle.std.specs.Prelude.{ℕ, ◌<◌, T, ◌⊎◌, List, length}
 use lib.Signed.{le_z}
 use lib.Ieee.{le, eq}
 use Rattle.base.specs.Lists.{Among}

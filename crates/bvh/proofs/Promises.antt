@@ -1,6 +1,6 @@
 -- Every tree that is built keeps what point 3 of the request asks whatever the boxes: its leaves' items are the leaf order, and that is the
 -- present places in another order.
-use Rattle.core.specs.Prelude.{◌≡◌, ℕ, ◌<◌, []}
+use Rattle.std.specs.Prelude.{◌≡◌, ℕ, ◌<◌, []}
 use mathlib.Core.List.{append-nil}
 use mathlib.Core.Path.{sym, ap, ◌∙◌}
 use Rattle.base.proofs.NumberLaws.{rising_once}

@@ -1,15 +1,15 @@
 -- What a build answers, and what its output buffers then hold. Definitions only.
-use Rattle.core.specs.Prelude.{ℕ, ◌+◌, ◌-◌, ◌*◌, Bool, cond, ◌||◌, List, ◌++◌, length, nat_lt}
+use Rattle.std.specs.Prelude.{ℕ, ◌+◌, ◌-◌, ◌*◌, Bool, cond, ◌||◌, List, ◌++◌, length, nat_lt}
 use Rattle.base.specs.Lists.{over}
 use Rattle.entries.specs.declared.boxes.BoxWords.{BoxWords}
 use Rattle.records.specs.declared.scale.Scale.{Scale}
 use Rattle.records.specs.Scale.{scale_of_box}
-use Rattle.bvh.specs.declared.core.Build.{Build}
-use Rattle.bvh.specs.declared.core.Build.TheVariants.{Built, Refused}
-use Rattle.bvh.specs.declared.core.BuildRefusal.{BuildRefusal}
-use Rattle.bvh.specs.declared.core.BuildRefusal.TheVariants.{TooManyEntries, ThresholdOutside, BufferTooShort, TooManyNodes}
-use Rattle.bvh.specs.declared.core.BuiltTree.{BuiltTree}
-use Rattle.bvh.specs.declared.core.Lengths.{Lengths}
+use Rattle.bvh.specs.declared.slices.Build.{Build}
+use Rattle.bvh.specs.declared.slices.Build.TheVariants.{Built, Refused}
+use Rattle.bvh.specs.declared.slices.BuildRefusal.{BuildRefusal}
+use Rattle.bvh.specs.declared.slices.BuildRefusal.TheVariants.{TooManyEntries, ThresholdOutside, BufferTooShort, TooManyNodes}
+use Rattle.bvh.specs.declared.slices.BuiltTree.{BuiltTree}
+use Rattle.bvh.specs.declared.slices.Lengths.{Lengths}
 use Rattle.rows.specs.Tree.{Node, box_of, leaf_order, size}
 use Rattle.growth.specs.Grow.{grow, builder}
 use Rattle.rows.specs.Rows.{rows}

@@ -1,5 +1,5 @@
 -- The list of entries that a build is lent, as items and as words. Definitions only.
-use Rattle.core.specs.Prelude.{ℕ, zero, suc, ◌+◌, ◌*◌, Bool, cond, not, List, [], ◌∷◌, ◌++◌, ◌==◌, slice_index, slice_index_or}
+use Rattle.std.specs.Prelude.{ℕ, zero, suc, ◌+◌, ◌*◌, Bool, cond, not, List, [], ◌∷◌, ◌++◌, ◌==◌, slice_index, slice_index_or}
 use Rattle.entries.specs.Boxes.{box_words}
 use Rattle.entries.specs.declared.boxes.BoxWords.{BoxWords}
 use Rattle.bvh.specs.declared.items.BvhItem.{BvhItem}

@@ -1,5 +1,5 @@
 -- What the tree of a build keeps, whatever its boxes: what the records' promises (tree's specs, Promises) are proved by. Definitions only.
-use Rattle.core.specs.Prelude.{◌≡◌, ℕ, ◌≤◌}
+use Rattle.std.specs.Prelude.{◌≡◌, ℕ, ◌≤◌}
 use mathlib.Core.List.{Memᴰ}
 use Rattle.base.specs.Lists.{occurrences}
 use Rattle.bvh.specs.Build.{Entries, tree_of}

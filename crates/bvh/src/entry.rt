@@ -1,11 +1,11 @@
 // The entry point of a build: the entries are taken apart into words, and the core is given plain slices.
-ghost use Rattle.core.specs.Prelude.{◌≡◌, ◌+◌, ◌*◌, ◌≤◌, length};
+ghost use Rattle.std.specs.Prelude.{◌≡◌, ◌+◌, ◌*◌, ◌≤◌, length};
 ghost use Rattle.std.proofs.lemmas.List.Edits.{sets};
 ghost use Rattle.bvh.specs.Entry.{entries_of, taken_of, outputs, lent, lengths_of, Answered};
 ghost use Rattle.bvh.specs.Items.{item_words};
 
-use crate::core::Build;
 use crate::items::BvhItem;
+use crate::slices::Build;
 use entries::boxes::BoxWords;
 use rows::ranges::RANGE_LIMIT;
 
@@ -58,7 +58,7 @@ pub fn build_bvh(
         put_item(entries, i, items[i]);
         i += 1;
     }
-    crate::core::build_core(
+    crate::slices::build_core(
         items.len(),
         threshold,
         RANGE_LIMIT,

@@ -1,5 +1,5 @@
 // The entries that a build is lent, and the places of the present ones.
-ghost use Rattle.core.specs.Prelude.{◌≡◌, ◌*◌, ◌<◌, ◌≤◌, length};
+ghost use Rattle.std.specs.Prelude.{◌≡◌, ◌*◌, ◌<◌, ◌≤◌, length};
 ghost use Rattle.base.specs.Lists.{one_if};
 ghost use Rattle.bvh.specs.Items.{is_marked};
 ghost use Rattle.bvh.specs.Steps.Gather.{Gathered};

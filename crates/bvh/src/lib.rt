@@ -1,6 +1,6 @@
 // From boxes to tree records.
 #![tactic(auto)]
 
-pub mod core;
 pub mod entry;
 pub mod items;
+pub mod slices;

@@ -1,5 +1,5 @@
 -- What kind 8 makes, over the polygons as given: the first edge pass and the renumbering leave no trace in the source's steps (rebuild LinkTrace).
-use Rattle.core.specs.Prelude.{◌≡◌, ℕ, ◌*◌, ◌≤◌, List, length}
+use Rattle.std.specs.Prelude.{◌≡◌, ℕ, ◌*◌, ◌≤◌, List, length}
 use mathlib.Core.Path.{sym, ap, ◌∙◌}
 use Rattle.bvh.specs.Build.{Entries, order_written}
 use Rattle.bvh.specs.Entry.{entries_in}

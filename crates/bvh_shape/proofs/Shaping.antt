@@ -1,6 +1,6 @@
 -- What `shape_bvh` asks of its two calls and has of them, over plain lists. One edge pass, behind the rebuild, leaves what the source's two passes do
 -- (rebuild LinkTrace).
-use Rattle.core.specs.Prelude.{◌≡◌, ℕ, zero, suc, ◌+◌, ◌*◌, ◌%◌, ◌≤◌, Bool, true, ◌&&◌, leb, List, ◌++◌, length, get_or, take, drop}
+use Rattle.std.specs.Prelude.{◌≡◌, ℕ, zero, suc, ◌+◌, ◌*◌, ◌%◌, ◌≤◌, Bool, true, ◌&&◌, leb, List, ◌++◌, length, get_or, take, drop}
 use native.Mathlib.Omega.{arith}
 use mathlib.Core.Path.{refl, sym, ap, ap₂, subst, ◌∙◌}
 use borrow.Author.Tests.{le-ltb}
@@ -10,9 +10,9 @@ use Rattle.base.proofs.NumberLaws.{below_wider}
 use Rattle.base.specs.Lists.{Below, over}
 use Rattle.bvh.specs.Build.{Entries, kept, nodes_written, trees_written_by, order_written}
 use Rattle.bvh.specs.Entry.{Outputs, Lent, lent, lengths_of}
-use Rattle.bvh.specs.declared.core.Build.{Build}
-use Rattle.bvh.specs.declared.core.Build.TheVariants.{Built, Refused}
-use Rattle.bvh.specs.declared.core.BuiltTree.{BuiltTree}
+use Rattle.bvh.specs.declared.slices.Build.{Build}
+use Rattle.bvh.specs.declared.slices.Build.TheVariants.{Built, Refused}
+use Rattle.bvh.specs.declared.slices.BuiltTree.{BuiltTree}
 use Rattle.corners.specs.Corners.{kinds_known}
 use Rattle.edges.specs.Edges as E
 use Rattle.edges.specs.Edges.{linked, answer_of, Answered}

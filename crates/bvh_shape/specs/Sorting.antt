@@ -1,9 +1,9 @@
 -- What is asked and left where polygons that stand in the order of the leaves are linked, and their materials' numbers put in it. Definitions only.
-use Rattle.core.specs.Prelude.{◌≡◌, ℕ, ◌≤◌, true, List, length, take}
+use Rattle.std.specs.Prelude.{◌≡◌, ℕ, ◌≤◌, true, List, length, take}
 use Rattle.base.specs.Lists.{Below}
 use Rattle.bvh.specs.Build.{kept}
-use Rattle.bvh.specs.declared.core.Build.{Build}
-use Rattle.bvh.specs.declared.core.Build.TheVariants.{Built, Refused}
+use Rattle.bvh.specs.declared.slices.Build.{Build}
+use Rattle.bvh.specs.declared.slices.Build.TheVariants.{Built, Refused}
 use Rattle.corners.specs.Corners.{kinds_known}
 use Rattle.edges.specs.Edges.{linked}
 use Rattle.edges.specs.Steps.Work.{Work}

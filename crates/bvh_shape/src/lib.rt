@@ -1,15 +1,15 @@
 // What kind 8 makes of the polygons of a mesh: their tree, the polygons in the order of its leaves, and the numbers of their materials in it.
 #![tactic(auto)]
 
-ghost use Rattle.core.specs.Prelude.{◌≡◌, ◌<◌};
+ghost use Rattle.std.specs.Prelude.{◌≡◌, ◌<◌};
 ghost use Rattle.bvh.specs.Entry.{outputs};
-ghost use Rattle.bvh.specs.declared.core.Build.TheVariants.{Built};
-ghost use Rattle.bvh.specs.declared.core.BuiltTree.{BuiltTree};
+ghost use Rattle.bvh.specs.declared.slices.Build.TheVariants.{Built};
+ghost use Rattle.bvh.specs.declared.slices.BuiltTree.{BuiltTree};
 ghost use Rattle.prepared.specs.Answers.{bvh_work};
 ghost use Rattle.prepared.specs.Steps.Shapes.{BvhRoom, BvhShapedBy};
 ghost use Rattle.bvh_shape.specs.Sorting.{Sortable, Sorted};
 
-use bvh::core::Build;
+use bvh::slices::Build;
 use edges::entry::update_edge_indices;
 use meshes::{Bound, Counts};
 use rebuild::rebuild_bvh;

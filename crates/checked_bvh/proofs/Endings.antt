@@ -1,11 +1,11 @@
 -- How the lists are left at the end, from what `finish` leaves and the values of frame and quantum.
-use Rattle.core.specs.Prelude.{◌≡◌, ℕ, List}
+use Rattle.std.specs.Prelude.{◌≡◌, ℕ, List}
 use native.Mathlib.Omega.{arith}
 use mathlib.Core.Path.{refl, sym, ap, subst, ◌∙◌}
-use Rattle.bvh.specs.declared.core.Build.{Build}
-use Rattle.bvh.specs.declared.core.Build.TheVariants as Build
-use Rattle.bvh.specs.declared.core.BuildRefusal.{BuildRefusal}
-use Rattle.bvh.specs.declared.core.BuiltTree.{BuiltTree}
+use Rattle.bvh.specs.declared.slices.Build.{Build}
+use Rattle.bvh.specs.declared.slices.Build.TheVariants as Build
+use Rattle.bvh.specs.declared.slices.BuildRefusal.{BuildRefusal}
+use Rattle.bvh.specs.declared.slices.BuiltTree.{BuiltTree}
 use Rattle.finishing.specs.Steps.Finishing.{Stored, Listed}
 use Rattle.materials.specs.Materials.{values_of}
 use Rattle.math.specs.declared.vec3.Vec3.{Vec3}

@@ -1,9 +1,9 @@
 -- What the parts of `prepare_bvh` ask of a mesh that passes the checks, and what they answer together. From the contracts of the parts.
-use Rattle.core.specs.Prelude.{◌≡◌, ℕ, false, List, length}
+use Rattle.std.specs.Prelude.{◌≡◌, ℕ, false, List, length}
 use mathlib.Core.Path.{refl, sym}
 use Rattle.bvh.specs.Entry.{Outputs}
-use Rattle.bvh.specs.declared.core.Build.{Build}
-use Rattle.bvh.specs.declared.core.Build.TheVariants as Build
+use Rattle.bvh.specs.declared.slices.Build.{Build}
+use Rattle.bvh.specs.declared.slices.Build.TheVariants as Build
 use Rattle.finishing.specs.Steps.Finishing.{StoreRoom, ListRoom}
 use Rattle.meshes.specs.declared.Check.TheVariants.{Passed}
 use Rattle.meshes.specs.declared.GeometryLengths.{GeometryLengths}

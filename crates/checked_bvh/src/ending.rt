@@ -1,11 +1,11 @@
 // How preparing a mesh of kind 8 ends: its lists, in the frame of the tree or in the given one where there is none.
-ghost use Rattle.core.specs.Prelude.{◌≡◌};
+ghost use Rattle.std.specs.Prelude.{◌≡◌};
 ghost use Rattle.materials.specs.Materials.{values_of};
 ghost use Rattle.finishing.specs.Steps.Finishing.{StoreRoom, ListRoom};
 ghost use Rattle.prepared.specs.declared.Prepare.TheVariants.{Empty};
 ghost use Rattle.checked_bvh.specs.Steps.Ending.{values_in, Written, Ended};
 
-use bvh::core::Build;
+use bvh::slices::Build;
 use finishing::finish;
 use meshes::{Bound, Counts, PrepareRefusal};
 use prepared::frames::{frame_of, quantum_of};

@@ -1,9 +1,9 @@
 -- The children's boxes: 32 bytes each, stored one after the other they are one run of stores; and what the checks come to. By induction on the children.
-use Rattle.core.specs.Prelude.{◌≡◌, ℕ, zero, suc, ◌+◌, ◌*◌, ◌<◌, ◌≤◌, Bool, true, false, cond, List, ◌++◌, length, replicate}
+use Rattle.std.specs.Prelude.{◌≡◌, ℕ, zero, suc, ◌+◌, ◌*◌, ◌<◌, ◌≤◌, Bool, true, false, cond, List, ◌++◌, length, replicate}
 use native.Mathlib.Nat.{add-zero}
 use native.Mathlib.Numerals.{add-one}
 use native.Mathlib.Omega.{arith}
-use mathlib.Core.Bool.{or_true}
+use mathlib.Core.Bool.{or-true}
 use mathlib.Core.List.{append_assoc, append-nil}
 use mathlib.Core.Path.{refl, sym, ap, ◌∙◌}
 use lib.ListN.{length-append}
@@ -111,7 +111,7 @@ module _ (n : ℕ) (ws before : List ℕ) where
 
   room_is : n ≤ 32767 → length before < 32 * n → Refused BufferTooShort ≡ boxes_of n (length ws) (length before)
   unfolding boxes_of
-  room_is few h = rw (le-ltb 32767 n few, lt-ltb (length before) (32 * n) h, or_true)
+  room_is few h = rw (le-ltb 32767 n few, lt-ltb (length before) (32 * n) h, or-true)
 
   pub room_short : n ≤ 32767 → length before < 32 * n → Boxed n ws before before (Refused BufferTooShort)
   room_short few h = record { answer = room_is few h; bytes = refl }

@@ -1,6 +1,6 @@
 -- Point 3 of the request for a composite's tree, from the contracts of `composite_tree` and of a walk alone: a composite's tree is a build at threshold 1
 -- over its children's items, so tree's PointThree speaks of it, and a position is a child's place.
-use Rattle.core.specs.Prelude.{◌≡◌, ℕ, ◌*◌, ◌<◌, Bool, true, false, cond, ltb, List, [], ◌∷◌, length, take, drop}
+use Rattle.std.specs.Prelude.{◌≡◌, ℕ, ◌*◌, ◌<◌, Bool, true, false, cond, ltb, List, [], ◌∷◌, length, take, drop}
 use native.Mathlib.Omega.{arith}
 use mathlib.Core.List.{Memᴰ}
 use mathlib.Core.Path.{refl, sym, ap, ap₂, ◌∙◌, subst}
@@ -11,12 +11,12 @@ use Rattle.bvh.specs.Build as B
 use Rattle.bvh.specs.Entry as E
 use Rattle.bvh.specs.Build.{refusal_number}
 use Rattle.bvh.specs.Entry.{Outputs, entries_of}
-use Rattle.bvh.specs.declared.core.Build.{Build}
-use Rattle.bvh.specs.declared.core.Build.TheVariants.{Built, Refused}
-use Rattle.bvh.specs.declared.core.BuildRefusal.{BuildRefusal}
-use Rattle.bvh.specs.declared.core.BuildRefusal.TheVariants.{TooManyEntries, BufferTooShort}
-use Rattle.bvh.specs.declared.core.BuiltTree.{BuiltTree}
-use Rattle.bvh.specs.declared.core.Lengths.{Lengths}
+use Rattle.bvh.specs.declared.slices.Build.{Build}
+use Rattle.bvh.specs.declared.slices.Build.TheVariants.{Built, Refused}
+use Rattle.bvh.specs.declared.slices.BuildRefusal.{BuildRefusal}
+use Rattle.bvh.specs.declared.slices.BuildRefusal.TheVariants.{TooManyEntries, BufferTooShort}
+use Rattle.bvh.specs.declared.slices.BuiltTree.{BuiltTree}
+use Rattle.bvh.specs.declared.slices.Lengths.{Lengths}
 use Rattle.walk_steps.specs.Boxes.{meets_box}
 use Rattle.walk.specs.Walks.{Outcome, walk_of, counts_of, Promise}
 use Rattle.walk.specs.declared.slices.Counts.{Counts}

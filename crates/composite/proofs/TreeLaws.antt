@@ -1,15 +1,15 @@
 -- What `tree_above` answers, case by case. Where the children are put into words, the build over the words is the build over their items (bvh EntryWords).
-use Rattle.core.specs.Prelude.{◌≡◌, ℕ, ◌*◌, ◌<◌, ◌≤◌, List, length, take}
+use Rattle.std.specs.Prelude.{◌≡◌, ℕ, ◌*◌, ◌<◌, ◌≤◌, List, length, take}
 use mathlib.Core.Path.{refl, sym, ap, ◌∙◌, subst}
 use borrow.Author.Tests.{lt-ltb, le-ltb}
 use lib.Ieee.{Float}
 use Rattle.bvh.specs.Build.{answer_by}
 use Rattle.bvh.specs.Entry as E
 use Rattle.bvh.specs.Entry.{Outputs, entries_in, taken_of, lent, lengths_of}
-use Rattle.bvh.specs.declared.core.Build.{Build}
-use Rattle.bvh.specs.declared.core.Build.TheVariants.{Refused}
-use Rattle.bvh.specs.declared.core.BuildRefusal.TheVariants.{TooManyEntries, BufferTooShort}
-use Rattle.bvh.specs.declared.core.Lengths.{Lengths}
+use Rattle.bvh.specs.declared.slices.Build.{Build}
+use Rattle.bvh.specs.declared.slices.Build.TheVariants.{Refused}
+use Rattle.bvh.specs.declared.slices.BuildRefusal.TheVariants.{TooManyEntries, BufferTooShort}
+use Rattle.bvh.specs.declared.slices.Lengths.{Lengths}
 use Rattle.bvh.specs.declared.items.BvhItem.{BvhItem}
 use Rattle.bvh.proofs.EntryWords.{answers, taken_fits}
 use Rattle.bvh.proofs.ItemWords.{apart}

@@ -1,5 +1,5 @@
 -- Rule C2: the children's boxes as bytes, and what `child_boxes` answers (01, composites; bounds.rs, Aabb, Composite::prepare). Definitions only.
-use Rattle.core.specs.Prelude.{◌≡◌, ℕ, zero, suc, ◌+◌, ◌*◌, Bool, cond, ◌||◌, List, [], ◌++◌, length, replicate, nat_lt}
+use Rattle.std.specs.Prelude.{◌≡◌, ℕ, zero, suc, ◌+◌, ◌*◌, Bool, cond, ◌||◌, List, [], ◌++◌, length, replicate, nat_lt}
 use Rattle.base.specs.Lists.{over}
 use Rattle.base.specs.LittleEndian.{little_endian}
 use Rattle.math.specs.declared.words3.Words3.{Words3}

@@ -1,6 +1,6 @@
 -- Rules C1 and C3: the children of a composite, 24 words each, and their computed boxes (01, composites; bounds.rs, Composite, transform_box). A word past
 -- the list is 0. Definitions only.
-use Rattle.core.specs.Prelude.{ℕ, ◌+◌, ◌*◌, ◌/◌, Bool, cond, ◌&&◌, List, length, from_bits, nat_lt, slice_index}
+use Rattle.std.specs.Prelude.{ℕ, ◌+◌, ◌*◌, ◌/◌, Bool, cond, ◌&&◌, List, length, from_bits, nat_lt, slice_index}
 use Rattle.std.specs.Float.{binary32}
 use Rattle.bvh.specs.Items.{is_marked}
 use Rattle.entries.specs.Boxes.{box_from}

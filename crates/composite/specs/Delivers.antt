@@ -1,10 +1,10 @@
 -- Point 3 of the request, of a composite's tree and a walk over its records. Definitions only.
-use Rattle.core.specs.Prelude.{◌≡◌, ℕ, ◌+◌, ◌<◌, ◌≤◌, true, cond, List, length, take, nat_lt}
+use Rattle.std.specs.Prelude.{◌≡◌, ℕ, ◌+◌, ◌<◌, ◌≤◌, true, cond, List, length, take, nat_lt}
 use mathlib.Core.List.{Memᴰ}
 use Rattle.base.specs.Lists.{occurrences, over}
 use Rattle.math.specs.declared.aabb.Aabb.{Aabb}
 use Rattle.bvh.specs.Entry.{Outputs}
-use Rattle.bvh.specs.declared.core.BuiltTree.{BuiltTree}
+use Rattle.bvh.specs.declared.slices.BuiltTree.{BuiltTree}
 use Rattle.walk_steps.specs.Boxes.{query_of, meets_box}
 use Rattle.walk.specs.Walks.{walk_of, number_of, counts_of, Promise}
 use Rattle.walk.specs.declared.slices.Walk.{Walk}

@@ -1,14 +1,14 @@
 -- Rule C3: the tree of a composite over its children's computed boxes, and what `composite_tree` answers (01, composites; bounds.rs, Composite::build_bvh).
 -- Definitions only.
-use Rattle.core.specs.Prelude.{◌≡◌, ℕ, zero, suc, ◌+◌, ◌*◌, cond, List, [], ◌∷◌, length, nat_lt}
+use Rattle.std.specs.Prelude.{◌≡◌, ℕ, zero, suc, ◌+◌, ◌*◌, cond, List, [], ◌∷◌, length, nat_lt}
 use Rattle.bvh.specs.Build as B
 use Rattle.bvh.specs.Build.{Entries, nodes_written, trees_written_by, order_written}
 use Rattle.bvh.specs.Entry.{entries_of, Outputs}
 use Rattle.bvh.specs.Items.{absent}
-use Rattle.bvh.specs.declared.core.Build.{Build}
-use Rattle.bvh.specs.declared.core.Build.TheVariants.{Refused}
-use Rattle.bvh.specs.declared.core.BuildRefusal.TheVariants.{TooManyEntries, BufferTooShort}
-use Rattle.bvh.specs.declared.core.Lengths.{Lengths}
+use Rattle.bvh.specs.declared.slices.Build.{Build}
+use Rattle.bvh.specs.declared.slices.Build.TheVariants.{Refused}
+use Rattle.bvh.specs.declared.slices.BuildRefusal.TheVariants.{TooManyEntries, BufferTooShort}
+use Rattle.bvh.specs.declared.slices.Lengths.{Lengths}
 use Rattle.bvh.specs.declared.items.BvhItem.{BvhItem}
 use Rattle.math.specs.Stored.{bits_of}
 use Rattle.rows.specs.Ranges.{range_limit}

@@ -1,5 +1,5 @@
 // The children's boxes as bytes, 32 each.
-ghost use Rattle.core.specs.Prelude.{◌≡◌, ◌+◌, ◌*◌, ◌≤◌, length};
+ghost use Rattle.std.specs.Prelude.{◌≡◌, ◌+◌, ◌*◌, ◌≤◌, length};
 ghost use Rattle.std.proofs.lemmas.List.Edits.{sets};
 ghost use Rattle.base.specs.Lists.{over};
 ghost use Rattle.composite.specs.Boxes.{row_bytes, child_bytes, children_bytes, refusal_number, number_of, Boxed};

@@ -1,5 +1,5 @@
 // The tree of a composite, over the computed boxes of its children.
-ghost use Rattle.core.specs.Prelude.{◌≡◌, ◌+◌, ◌*◌, ◌<◌, ◌≤◌, length, take};
+ghost use Rattle.std.specs.Prelude.{◌≡◌, ◌+◌, ◌*◌, ◌<◌, ◌≤◌, length, take};
 ghost use Rattle.base.specs.Lists.{over};
 ghost use Rattle.bvh.specs.Entry.{outputs, lent, lengths_of};
 ghost use Rattle.bvh.specs.Items.{absent, words_of};
@@ -7,7 +7,7 @@ ghost use Rattle.composite.specs.Trees.{child_limit, child_item, child_items, An
 
 use crate::children::computed_box;
 use base::numbers::Place;
-use bvh::core::{Build, BuildRefusal};
+use bvh::slices::{Build, BuildRefusal};
 use bvh::items::BvhItem;
 use math::words3::Words3;
 use rows::ranges::RANGE_LIMIT;
@@ -96,7 +96,7 @@ fn tree_above(
         return CompositeTree::Tree(Build::Refused(BuildRefusal::BufferTooShort));
     }
     put_items(children, n, bvh::entry::taken(n, entries.len()), entries);
-    CompositeTree::Tree(bvh::core::build_core(
+    CompositeTree::Tree(bvh::slices::build_core(
         n,
         1,
         range_limit,

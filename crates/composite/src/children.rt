@@ -1,5 +1,5 @@
 // A child of a composite is 24 words: its mark, 0 for absent, its box, its margin, and the four rows of its transform.
-ghost use Rattle.core.specs.Prelude.{◌≡◌, ◌+◌, ◌*◌, ◌≤◌, length};
+ghost use Rattle.std.specs.Prelude.{◌≡◌, ◌+◌, ◌*◌, ◌≤◌, length};
 ghost use Rattle.composite.specs.Children.{box_of, row_at, matrix_at, computed_box, no_box, child_box_of};
 ghost use Rattle.entries.specs.Boxes.{point_at};
 

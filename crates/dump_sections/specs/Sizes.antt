@@ -1,5 +1,5 @@
 -- How large a mesh of an input is. Definitions only.
-use Rattle.core.specs.Prelude.{◌≤◌}
+use Rattle.std.specs.Prelude.{◌≤◌}
 use Rattle.meshes.specs.declared.Counts.{Counts}
 
 -- 8,192 bytes have room for so many records of a polygon, with the number of its material, or so many vertices.

@@ -1,5 +1,5 @@
 // The dump of what preparing answered.
-ghost use Rattle.core.specs.Prelude.{◌≡◌, ◌≤◌, length};
+ghost use Rattle.std.specs.Prelude.{◌≡◌, ◌≤◌, length};
 ghost use Rattle.meshes.specs.Checks.{refusal_number};
 ghost use Rattle.dump_sections.specs.Sizes.{Small};
 

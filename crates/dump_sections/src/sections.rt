@@ -1,8 +1,8 @@
 // The sections of a dump. Counts that preparing answered are clamped to what the buffers hold, so that any answer can be printed.
-ghost use Rattle.core.specs.Prelude.{◌+◌, ◌≤◌, length};
+ghost use Rattle.std.specs.Prelude.{◌+◌, ◌≤◌, length};
 ghost use Rattle.dump_sections.specs.Sizes.{Small};
 
-use bvh::core::BuiltTree;
+use bvh::slices::BuiltTree;
 use hex_lines::lines::{bytes_line, places_line, words_line, words_part};
 use io::write_all;
 use math::vec3::Vec3;

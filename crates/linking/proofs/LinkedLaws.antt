@@ -1,16 +1,13 @@
 -- Links that are stored in records at the start of a longer list are those of the records alone. Assumes nothing.
-use Prim.Native.Nat.{ℕ, ◌+◌, ◌*◌, ◌%◌, ◌≤◌, ◌<◌}
-use native.Mathlib.Nat.{add-zero}
+use Prim.Native.Nat.{ℕ, ◌+◌, ◌*◌, ◌<◌}
 use native.Mathlib.Omega.{arith}
-use mathlib.Core.Bool.{Bool, cond}
 use mathlib.Core.List.{List, [], ◌++◌, append-nil}
-use mathlib.Core.Path.{◌≡◌, refl, sym, ap, ap₂, ◌∙◌}
-use lib.Dec.{eqb}
+use mathlib.Core.Path.{◌≡◌, sym, ap, ◌∙◌}
 use lib.ListN.{length, get_or, take, drop, length-append, length-drop, drop_of_length-le, get_or-append}
-use lib.Seq.{take-append-le, drop-append-le, drop-append_seam, drop_at}
+use lib.Seq.{take-append-le, drop-append-le, drop_at}
 use Rattle.base.specs.LittleEndian.{le_at}
 use Rattle.base.specs.Lists.{over}
-use Rattle.corners.specs.Corners.{is_triangle, corner_of, corners_at, corners_of, link_bytes, linked_record, linked_records, links_put}
+use Rattle.corners.specs.Corners.{corners_at, corners_of, linked_record, linked_records, links_put}
 use Rattle.corners.proofs.CornerLaws.{length_linked}
 use Rattle.corners.proofs.LinkLaws.{in_turn_same}
 use Rattle.edges.specs.Edges.{linked}
@@ -24,9 +21,9 @@ module _ (n : ℕ) (records rest : List ℕ) (long : length records ≡ 16 * n) 
   unfolding le_at
   two i h = let low = byte i (omega arith) in let high = byte (i + 1) h in rw (low, high)
 
-  corners_at : (k : ℕ) → k < n → corners_at (records ++ rest) k ≡ corners_at records k
+  corners_there : (k : ℕ) → k < n → corners_at (records ++ rest) k ≡ corners_at records k
   unfolding corners_at
-  corners_at k h =
+  corners_there k h =
       let kind = byte (16 * k) (omega arith) in
       let first = two (16 * k + 4 + 2 * 0) (omega arith) in
       let second = two (16 * k + 4 + 2 * 1) (omega arith) in
@@ -34,7 +31,7 @@ module _ (n : ℕ) (records rest : List ℕ) (long : length records ≡ 16 * n) 
       rw (kind, first, second, third)
 
   pub corners_same : corners_of n (records ++ rest) ≡ corners_of n records
-  corners_same = in_turn_same (corners_at (records ++ rest)) (corners_at records) n corners_at
+  corners_same = in_turn_same (corners_at (records ++ rest)) (corners_at records) n corners_there
 
   sixteen : (k : ℕ) → k < n → take 16 (drop (16 * k) (records ++ rest)) ≡ take 16 (drop (16 * k) records)
   sixteen k h =

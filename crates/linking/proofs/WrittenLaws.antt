@@ -1,11 +1,11 @@
 -- Records that are read and written again have the corners that they had: of a triangle its three vertices, of another kind none. By the kinds.
-use Prim.Native.Nat.{ℕ, zero, suc, ◌+◌, ◌*◌, ◌/◌, ◌%◌, ◌≤◌, ◌<◌}
+use Prim.Native.Nat.{ℕ, ◌+◌, ◌*◌, ◌/◌, ◌%◌, ◌≤◌, ◌<◌}
 use native.Mathlib.Nat.{add-zero}
 use native.Mathlib.Numerals.{add-one}
 use native.Mathlib.Omega.{arith}
 use mathlib.Core.Bool.{Bool, true, false, cond}
 use mathlib.Core.List.{List, [], ◌∷◌}
-use mathlib.Core.Path.{◌≡◌, refl, sym, ap, ap₂, subst, ◌∙◌}
+use mathlib.Core.Path.{◌≡◌, refl, sym, ap, ◌∙◌}
 use borrow.Author.Tests.{eqb-true, eqb-false, eq-eqb, ne_eqb}
 use lib.Dec.{eqb}
 use lib.ListN.{length, get_or}
@@ -13,7 +13,7 @@ use lib.Seq.{sets}
 use Rattle.base.specs.LittleEndian.{little_endian, le_at}
 use Rattle.base.specs.Lists.{over}
 use Rattle.base.proofs.StoreLaws.{over_next}
-use Rattle.corners.specs.Corners.{none, in_turn, is_triangle, corner_of, corners_at, corners_of}
+use Rattle.corners.specs.Corners.{none, in_turn, corner_of, corners_at, corners_of}
 use Rattle.corners.proofs.CornerLaws.{length_in_turn, part_in_turn}
 use Rattle.corners.proofs.LinkLaws.{in_turn_same}
 use Rattle.polygon.specs.Halves.{four_bytes, halves_bytes, halves_at}

@@ -1,6 +1,6 @@
 -- Worked examples of the definitions: numbers and lines at their ends, and whole listings from the bytes of the boxes to the text:
 -- floats, split, tree, records, lines.
-use Rattle.core.specs.Prelude.{◌≡◌, ℕ, List, [], ◌∷◌, ◌++◌, replicate, pos, negsuc}
+use Rattle.std.specs.Prelude.{◌≡◌, ℕ, List, [], ◌∷◌, ◌++◌, replicate, pos, negsuc}
 use mathlib.Core.Path.{refl}
 use lib.Ieee.{of_bits, of_int, add, sub, mul, div, lt, neg, to_signed}
 use Rattle.base.specs.LittleEndian.{le_at}

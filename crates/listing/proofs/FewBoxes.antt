@@ -1,5 +1,5 @@
 -- A build of at most 256 child boxes at threshold 1 is not refused, and the lines of what it writes are the listing.
-use Rattle.core.specs.Prelude.{◌≡◌, ℕ, ◌+◌, ◌*◌, ◌/◌, ◌≤◌, false, List, ◌++◌, length}
+use Rattle.std.specs.Prelude.{◌≡◌, ℕ, ◌+◌, ◌*◌, ◌/◌, ◌≤◌, false, List, ◌++◌, length}
 use native.Mathlib.Decide.{dec_le}
 use native.Mathlib.Omega.{arith}
 use mathlib.Core.Path.{sym, ap, ap₂, ◌∙◌, subst}
@@ -8,11 +8,11 @@ use Rattle.base.proofs.NumberLaws.{length_up, up_below}
 use Rattle.base.proofs.WithinLaws.{below_within, within_below}
 use Rattle.base.proofs.NumberLaws.{below_wider}
 use Rattle.base.specs.Lists.{over, Below}
-use Rattle.bvh.specs.declared.core.Build.{Build}
-use Rattle.bvh.specs.declared.core.Build.TheVariants.{Built, Refused}
-use Rattle.bvh.specs.declared.core.BuildRefusal.{BuildRefusal}
-use Rattle.bvh.specs.declared.core.BuiltTree.{BuiltTree}
-use Rattle.bvh.specs.declared.core.Lengths.{Lengths}
+use Rattle.bvh.specs.declared.slices.Build.{Build}
+use Rattle.bvh.specs.declared.slices.Build.TheVariants.{Built, Refused}
+use Rattle.bvh.specs.declared.slices.BuildRefusal.{BuildRefusal}
+use Rattle.bvh.specs.declared.slices.BuiltTree.{BuiltTree}
+use Rattle.bvh.specs.declared.slices.Lengths.{Lengths}
 use Rattle.bvh.specs.Build.{Entries, tree_of, built_of, short, answer_of, answer_by, kept, nodes_written, trees_written}
 use Rattle.rows.specs.Steps.Decode.{SmallRows}
 use Rattle.bvh.specs.Entry.{Answered, Outputs}

@@ -1,5 +1,5 @@
 -- The lines of the listing. Definitions only.
-use Rattle.core.specs.Prelude.{ℕ, zero, suc, ◌*◌, List, [], ◌∷◌, ◌++◌, ℤ}
+use Rattle.std.specs.Prelude.{ℕ, zero, suc, ◌*◌, List, [], ◌∷◌, ◌++◌, ℤ}
 use Rattle.records.specs.declared.BoundVertex.{BoundVertex}
 use Rattle.records.specs.declared.BvhNode.{BvhNode}
 use Rattle.records.specs.declared.BvhTree.{BvhTree}

@@ -1,5 +1,5 @@
 -- What `boxes` prints for its input. Definitions only.
-use Rattle.core.specs.Prelude.{◌≡◌, ℕ, ◌+◌, ◌*◌, ◌/◌, ◌%◌, cond, not, List, [], ◌∷◌, ◌++◌, map, length, ◌==◌, nat_lt}
+use Rattle.std.specs.Prelude.{◌≡◌, ℕ, ◌+◌, ◌*◌, ◌/◌, ◌%◌, cond, not, List, [], ◌∷◌, ◌++◌, map, length, ◌==◌, nat_lt}
 use Rattle.base.specs.Lists.{up_from, over}
 use Rattle.io.specs.Counts.{IsPrefixLen}
 use Rattle.records.specs.declared.BvhNode.{BvhNode}

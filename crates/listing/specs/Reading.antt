@@ -1,5 +1,5 @@
 -- The child box records that `boxes` reads. Definitions only.
-use Rattle.core.specs.Prelude.{ℕ, zero, suc, ◌+◌, ◌*◌, List, [], ◌∷◌, ◌++◌}
+use Rattle.std.specs.Prelude.{ℕ, zero, suc, ◌+◌, ◌*◌, List, [], ◌∷◌, ◌++◌}
 use Rattle.base.specs.LittleEndian.{le_at}
 use Rattle.math.specs.declared.words3.Words3.{Words3}
 use Rattle.entries.specs.declared.boxes.BoxWords.{BoxWords}

@@ -1,5 +1,5 @@
 // The lines of the listing, put into a lent buffer as text is.
-ghost use Rattle.core.specs.Prelude.{◌≡◌, ◌+◌, ◌*◌, ◌<◌, ◌≤◌, length};
+ghost use Rattle.std.specs.Prelude.{◌≡◌, ◌+◌, ◌*◌, ◌<◌, ◌≤◌, length};
 ghost use Rattle.listing.specs.Lines.{vertex_fields, record_line, node_line, tree_line, node_lines, tree_lines, counts_line, refused_line};
 ghost use Rattle.listing.specs.Text.{Put};
 

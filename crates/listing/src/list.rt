@@ -1,12 +1,12 @@
 // The listing of the child boxes of an input.
-ghost use Rattle.core.specs.Prelude.{◌≡◌, ◌*◌, ◌/◌, ◌%◌, ◌≤◌, length};
+ghost use Rattle.std.specs.Prelude.{◌≡◌, ◌*◌, ◌/◌, ◌%◌, ◌≤◌, length};
 ghost use Rattle.listing.specs.Lines.{records_text};
 ghost use Rattle.listing.specs.Listing.{children_of, listing_of, Listed};
 ghost use Rattle.listing.specs.Text.{Put};
 
 use crate::lines::{put_counts, put_node_lines, put_refusal, put_tree_lines};
 use crate::reading::read_children;
-use bvh::core::Build;
+use bvh::slices::Build;
 use rows::ranges::RANGE_LIMIT;
 
 // The lines of some node and tree records, after that of count and capacity.
@@ -44,7 +44,7 @@ fn put_children(out: &mut [u8], input: &[u8]) -> usize
     let mut stack = [0u32; 256];
     let mut rows = [0u32; 4104];
     let mut centres = [0.0f32; 1024];
-    let built = bvh::core::build_core(
+    let built = bvh::slices::build_core(
         n,
         1,
         RANGE_LIMIT,

@@ -1,5 +1,5 @@
 // Text in a lent buffer. Each function puts its text from `at` on and answers where it ends.
-ghost use Rattle.core.specs.Prelude.{◌+◌, ◌<◌, ◌≤◌, [], ◌∷◌, length};
+ghost use Rattle.std.specs.Prelude.{◌+◌, ◌<◌, ◌≤◌, [], ◌∷◌, length};
 ghost use Rattle.listing.specs.Text.{Put, decimal, signed, field};
 
 pub fn put_text(out: &mut [u8], at: usize, text: &[u8]) -> usize

@@ -2,7 +2,7 @@
 -- Assumes nothing.
 use Prim.Native.Nat.{ℕ, ◌+◌, ◌-◌, ◌*◌, ◌≤◌, ◌<◌}
 use native.Mathlib.Omega.{arith}
-use mathlib.Core.Bool.{Bool, true, false, cond, ◌||◌, or_true}
+use mathlib.Core.Bool.{Bool, true, false, cond, ◌||◌, or-true}
 use mathlib.Core.List.{List, [], ◌∷◌}
 use mathlib.Core.Path.{◌≡◌, refl, ap, ◌∙◌}
 use borrow.Author.Tests.{lt-ltb, le-ltb, ltb-true, ltb-false}
@@ -55,7 +55,7 @@ bytes_serve p left rest = by (ltb p left) (ltb left p) refl refl
     by false true most few =
         let less : left < p = ltb-true left p few in
         let none : left - left ≡ 0 = omega arith in
-        rw (none, le-ltb (4 * p) 0 (omega arith), lt-ltb 0 (4 * p) (omega arith), lt-ltb left p less) (or_true (ltb (4 * left) p))
+        rw (none, le-ltb (4 * p) 0 (omega arith), lt-ltb 0 (4 * p) (omega arith), lt-ltb left p less) (or-true (ltb (4 * left) p))
     by false false most least =
         let above : p ≤ left = ltb-false left p least in
         rw (le-ltb (4 * left) p (omega arith), le-ltb left p above)

@@ -12,7 +12,7 @@ ghost use Rattle.std.specs.Prelude.{◌≤◌};
 
 use crate::draw::{Shape, three_on};
 use crate::tally::Tally;
-use bvh::core::BuiltTree;
+use bvh::slices::BuiltTree;
 use math::aabb::Aabb;
 use std::num::wrapping_add_u64;
 use tree::pair::Found;

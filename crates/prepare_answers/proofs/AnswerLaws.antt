@@ -1,5 +1,5 @@
 -- What the entries' answers say of the C interface's. Assumes nothing.
-use Rattle.core.specs.Prelude.{◌≡◌}
+use Rattle.std.specs.Prelude.{◌≡◌}
 use mathlib.Core.Path.{ap, ◌∙◌, subst}
 use Rattle.bvh.specs.Entry.{Outputs}
 use Rattle.meshes.specs.Meshes.{Mesh}

@@ -1,6 +1,6 @@
 -- Point 3 of the request at the C interface for a prepared mesh, from the contracts of `bounds_prepare_bvh` and `bounds_walk` alone. An answer that is not
 -- refused, of a mesh with polygons, has a tree; an outcome of a walk is some walk's; and of these prepared_delivers speaks.
-use Rattle.core.specs.Prelude.{◌≡◌, ℕ, ◌<◌, Bool, true, false, cond, T, eqb, List, length, get_or, take}
+use Rattle.std.specs.Prelude.{◌≡◌, ℕ, ◌<◌, Bool, true, false, cond, T, eqb, List, length, get_or, take}
 use native.Mathlib.Omega.{arith}
 use mathlib.Core.List.{Memᴰ}
 use mathlib.Core.Path.{refl, sym, ap, subst, ◌∙◌}
@@ -8,9 +8,9 @@ use borrow.Author.Tests.{ne_eqb}
 use Rattle.base.proofs.Truth.{cond_both}
 use Rattle.base.specs.Lists.{occurrences, over}
 use Rattle.bvh.specs.Entry.{Outputs}
-use Rattle.bvh.specs.declared.core.Build.{Build}
-use Rattle.bvh.specs.declared.core.Build.TheVariants as B
-use Rattle.bvh.specs.declared.core.BuiltTree.{BuiltTree}
+use Rattle.bvh.specs.declared.slices.Build.{Build}
+use Rattle.bvh.specs.declared.slices.Build.TheVariants as B
+use Rattle.bvh.specs.declared.slices.BuiltTree.{BuiltTree}
 use Rattle.math.specs.declared.aabb.Aabb.{Aabb}
 use Rattle.math.specs.declared.vec3.Vec3.{Vec3}
 use Rattle.meshes.specs.Checks.{is_geometry, check_of}

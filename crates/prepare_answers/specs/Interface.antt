@@ -1,5 +1,5 @@
 -- What preparing answers in C. Definitions only.
-use Rattle.core.specs.Prelude.{◌≡◌, ℕ}
+use Rattle.std.specs.Prelude.{◌≡◌, ℕ}
 use Rattle.answers.specs.Trees.{zero_point, zero_words, tree_values}
 use Rattle.answers.specs.Trees as Trees
 use Rattle.answers.specs.declared.trees.BuildAnswer.{BuildAnswer}

@@ -3,7 +3,7 @@
 -- order list (`after`), and the walk's output before and after.
 -- A polygon has two numbers: its given number is its place in the list as given, its prepared number its place in the returned polygon bytes. Positions in
 -- leaf records and in the walk's output are prepared numbers; at each prepared number the order list has the given one.
-use Rattle.core.specs.Prelude.{◌≡◌, ℕ, ◌+◌, ◌<◌, ◌≤◌, true, cond, List, length, take, nat_lt, slice_index}
+use Rattle.std.specs.Prelude.{◌≡◌, ℕ, ◌+◌, ◌<◌, ◌≤◌, true, cond, List, length, take, nat_lt, slice_index}
 use mathlib.Core.List.{Memᴰ}
 use Rattle.base.specs.Lists.{occurrences, over}
 use Rattle.bvh.specs.Build.{Entries}

@@ -1,14 +1,14 @@
 // What preparing answers in C: numbers for the cases of the enum, and zeros for what a kind has not.
 #![tactic(auto)]
 
-ghost use Rattle.core.specs.Prelude.{◌≡◌};
+ghost use Rattle.std.specs.Prelude.{◌≡◌};
 ghost use Rattle.meshes.specs.Checks.{refusal_number};
 ghost use Rattle.meshes.specs.Sizes.{work_words};
 ghost use Rattle.octants.specs.Answers.{without};
 ghost use Rattle.prepare_answers.specs.Interface.{no_frame, with_values, refused_by, answer_in};
 
 use answers::trees::{BuildAnswer, build_answer, refused};
-use bvh::core::Build;
+use bvh::slices::Build;
 use math::vec3::Vec3;
 use math::words3::Words3;
 use meshes::{Frame, PrepareRefusal};

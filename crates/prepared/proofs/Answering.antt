@@ -1,6 +1,6 @@
 -- What the two entry points of prepare answer: a check that fails, a mesh of kind 4, and one of kind 8, with a tree, without one, or with one that has
 -- too many nodes. From the contracts of their parts.
-use Rattle.core.specs.Prelude.{◌≡◌, ℕ, ◌*◌, ◌≤◌, Bool, true, false, cond, eqb, ltb, List, [], map, length, take}
+use Rattle.std.specs.Prelude.{◌≡◌, ℕ, ◌*◌, ◌≤◌, Bool, true, false, cond, eqb, ltb, List, [], map, length, take}
 use native.Mathlib.Omega.{arith}
 use mathlib.Core.Path.{refl, sym, ap, ap₂, subst, ◌∙◌}
 use borrow.Author.Tests.{eq-eqb, ne_eqb}
@@ -9,10 +9,10 @@ use Rattle.base.specs.Lists.{over, Below}
 use Rattle.bvh.specs.Build.{Entries, tree_of, built_of, order_written}
 use Rattle.bvh.specs.Build as B
 use Rattle.bvh.specs.Entry.{Outputs}
-use Rattle.bvh.specs.declared.core.Build.{Build}
-use Rattle.bvh.specs.declared.core.Build.TheVariants as Build
-use Rattle.bvh.specs.declared.core.BuildRefusal.{BuildRefusal}
-use Rattle.bvh.specs.declared.core.BuiltTree.{BuiltTree}
+use Rattle.bvh.specs.declared.slices.Build.{Build}
+use Rattle.bvh.specs.declared.slices.Build.TheVariants as Build
+use Rattle.bvh.specs.declared.slices.BuildRefusal.{BuildRefusal}
+use Rattle.bvh.specs.declared.slices.BuiltTree.{BuiltTree}
 use Rattle.corners.specs.Corners.{links_put}
 use Rattle.edges.specs.Edges.{linked}
 use Rattle.finishing.specs.Filled.{list_bytes}

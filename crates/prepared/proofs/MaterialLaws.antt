@@ -1,6 +1,6 @@
 -- How many materials a prepared mesh has, before its list is filled to four: as many as the polygons had as given, in whatever order they then stand; so at most
 -- 255 where the mesh is not refused, of either kind. From check 8 and the order of the leaves.
-use Rattle.core.specs.Prelude.{◌≡◌, ℕ, ◌≤◌, Bool, true, false, cond, List, length, take}
+use Rattle.std.specs.Prelude.{◌≡◌, ℕ, ◌≤◌, Bool, true, false, cond, List, length, take}
 use native.Mathlib.Omega.{arith}
 use mathlib.Core.Path.{refl, ap, ◌∙◌}
 use borrow.Author.Tests.{ltb-false}

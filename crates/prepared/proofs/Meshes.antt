@@ -1,5 +1,5 @@
 -- All that a prepared mesh has, by its kind and without a choice: kind 4, kind 8 with polygons, and kind 8 without. Assumes nothing.
-use Rattle.core.specs.Prelude.{◌≡◌, ℕ, Bool, true, false, cond, not, ◌&&◌, eqb, List, [], length}
+use Rattle.std.specs.Prelude.{◌≡◌, ℕ, Bool, true, false, cond, not, ◌&&◌, eqb, List, [], length}
 use mathlib.Core.Path.{refl, ap, ap₂, ◌∙◌}
 use borrow.Author.Tests.{eq-eqb, ne_eqb}
 use Rattle.bvh.specs.Build.{nodes_written, trees_written, order_written}

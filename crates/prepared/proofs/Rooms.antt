@@ -1,5 +1,5 @@
 -- The room that there is for each part of prepare once the checks have passed. Assumes nothing.
-use Rattle.core.specs.Prelude.{◌≡◌, ℕ, List, length}
+use Rattle.std.specs.Prelude.{◌≡◌, ℕ, List, length}
 use Rattle.bvh.specs.Entry.{Outputs}
 use Rattle.finishing.specs.Steps.Finishing.{StoreRoom, ListRoom}
 use Rattle.meshes.specs.declared.BvhLengths.{BvhLengths}

@@ -1,6 +1,6 @@
 -- The two entry points are one prepare: kind 8 to `prepare_bvh`, every other to `prepare_geometry`, answers what the definition does, refusal 6 included, and
 -- leaves every output as it says, those that are not lent too. Assumes nothing.
-use Rattle.core.specs.Prelude.{◌≡◌, ℕ, zero, suc, ◌+◌, ◌*◌, Bool, true, false, cond, eqb, List, [], ◌++◌, length, take, drop}
+use Rattle.std.specs.Prelude.{◌≡◌, ℕ, zero, suc, ◌+◌, ◌*◌, Bool, true, false, cond, eqb, List, [], ◌++◌, length, take, drop}
 use native.Mathlib.Omega.{arith}
 use mathlib.Core.List.{append_assoc}
 use mathlib.Core.Path.{refl, sym, ap, ◌∙◌}

@@ -1,10 +1,10 @@
 -- What preparing a mesh answers, and what every buffer then holds (01, Prepare). Definitions only.
-use Rattle.core.specs.Prelude.{◌≡◌, ℕ, ◌*◌, cond, List, length, ◌==◌}
+use Rattle.std.specs.Prelude.{◌≡◌, ℕ, ◌*◌, cond, List, length, ◌==◌}
 use Rattle.std.specs.Prelude.{Float}
 use Rattle.base.specs.Lists.{over}
 use Rattle.bvh.specs.Entry.{Outputs}
-use Rattle.bvh.specs.declared.core.Build.{Build}
-use Rattle.bvh.specs.declared.core.Build.TheVariants as Build
+use Rattle.bvh.specs.declared.slices.Build.{Build}
+use Rattle.bvh.specs.declared.slices.Build.TheVariants as Build
 use Rattle.meshes.specs.declared.BvhLengths.{BvhLengths}
 use Rattle.meshes.specs.declared.Check.{Check}
 use Rattle.meshes.specs.declared.Check.TheVariants.{Passed, Fails}

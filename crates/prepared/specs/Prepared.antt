@@ -1,6 +1,6 @@
 -- Rules K5 to K7 together: all that a prepared mesh has (01, Prepare: "It returns all that the reference then holds or has added"; bounds.rs, prepare).
 -- What a kind has not is empty, and its buffer keeps what it had. Definitions only.
-use Rattle.core.specs.Prelude.{ℕ, Bool, cond, not, ◌&&◌, List, [], length, ◌==◌}
+use Rattle.std.specs.Prelude.{ℕ, Bool, cond, not, ◌&&◌, List, [], length, ◌==◌}
 use Rattle.bvh.specs.Build.{nodes_written, trees_written, trees_written_by, order_written}
 use Rattle.edges.specs.Edges.{linked}
 use Rattle.finishing.specs.Filled.{list_bytes}

@@ -1,9 +1,9 @@
 -- Rule K7 (01, Prepare: "kind 8 rebuilds, then repeats materials, quantum and edges"; bounds.rs, prepare, rebuild_bvh): what kind 8 makes of polygons,
 -- step after step as in the source. That the first pass leaves no trace are laws of `rebuild`. Definitions only.
-use Rattle.core.specs.Prelude.{ℕ, List, map, slice_index, to_bits}
+use Rattle.std.specs.Prelude.{ℕ, List, map, slice_index, to_bits}
 use Rattle.std.specs.Float.{binary32}
 use Rattle.bvh.specs.Build.{Entries, tree_of, built_of, order_written}
-use Rattle.bvh.specs.declared.core.BuiltTree.{BuiltTree}
+use Rattle.bvh.specs.declared.slices.BuiltTree.{BuiltTree}
 use Rattle.edges.specs.Edges.{linked}
 use Rattle.materials.specs.Materials.{list_of, indices_of}
 use Rattle.math.specs.declared.vec3.Vec3.{Vec3}

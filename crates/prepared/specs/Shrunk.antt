@@ -1,6 +1,6 @@
 -- Rule K6 (01, Prepare: "Kind 4 shrinks and fills octants"; bounds.rs, prepare: calculate_verts_shrunk, calculate_octants): what only kind 4 has.
 -- Without vertices there are no shrunk ones, and eight empty octants. Definitions only.
-use Rattle.core.specs.Prelude.{ℕ, ◌*◌, cond, List, [], ◌++◌, drop, ◌==◌}
+use Rattle.std.specs.Prelude.{ℕ, ◌*◌, cond, List, [], ◌++◌, drop, ◌==◌}
 use Rattle.finishing.specs.Stored.{stored_bytes, floats_of}
 use Rattle.math.specs.declared.vec3.Vec3.{Vec3}
 use Rattle.meshes.specs.declared.Bound.{Bound}

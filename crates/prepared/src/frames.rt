@@ -1,10 +1,10 @@
 // The frame of a prepared mesh, and its quantum.
-ghost use Rattle.core.specs.Prelude.{◌≡◌};
+ghost use Rattle.std.specs.Prelude.{◌≡◌};
 ghost use Rattle.meshes.specs.Meshes.{box_of};
 ghost use Rattle.vertices.specs.Vertices.{quantum_of_box};
 ghost use Rattle.prepared.specs.Rebuilt.{radius_of, frame_of};
 
-use bvh::core::BuiltTree;
+use bvh::slices::BuiltTree;
 use math::vec3::Vec3;
 use math::words3::{Words3, bits, values};
 use meshes::Frame;

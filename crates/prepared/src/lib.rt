@@ -3,7 +3,7 @@
 
 pub mod frames;
 
-use bvh::core::BuiltTree;
+use bvh::slices::BuiltTree;
 use math::vec3::Vec3;
 use meshes::{Frame, PrepareRefusal};
 use octants::lists::OctantCounts;

@@ -12,9 +12,9 @@ use lib.Seq.{take-append_seam, take_at}
 use Rattle.base.specs.Lists.{occurrences, Among, over}
 use Rattle.bvh.specs.Build.{Entries, answer_of, answer_by, short, order_written, nodes_written, trees_written}
 use Rattle.bvh.specs.Entry.{Outputs, Answered, entries_in}
-use Rattle.bvh.specs.declared.core.Build.TheVariants.{Built}
-use Rattle.bvh.specs.declared.core.BuiltTree.{BuiltTree}
-use Rattle.bvh.specs.declared.core.Lengths.{Lengths}
+use Rattle.bvh.specs.declared.slices.Build.TheVariants.{Built}
+use Rattle.bvh.specs.declared.slices.BuiltTree.{BuiltTree}
+use Rattle.bvh.specs.declared.slices.Lengths.{Lengths}
 use Rattle.bvh_shape.proofs.Given.{positions, given, leaves, entries_given}
 use Rattle.materials.specs.Materials.{place_in}
 use Rattle.math.specs.declared.aabb.Aabb.{Aabb}

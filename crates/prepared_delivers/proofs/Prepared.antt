@@ -11,10 +11,10 @@ use Rattle.base.proofs.Truth.{both_yes}
 use Rattle.base.specs.Lists.{over, one_if}
 use Rattle.bvh.specs.Build.{nodes_written, trees_written, order_written}
 use Rattle.bvh.specs.Entry.{Outputs}
-use Rattle.bvh.specs.declared.core.Build.{Build}
-use Rattle.bvh.specs.declared.core.Build.TheVariants as B
-use Rattle.bvh.specs.declared.core.BuildRefusal.TheVariants.{TooManyNodes}
-use Rattle.bvh.specs.declared.core.BuiltTree.{BuiltTree}
+use Rattle.bvh.specs.declared.slices.Build.{Build}
+use Rattle.bvh.specs.declared.slices.Build.TheVariants as B
+use Rattle.bvh.specs.declared.slices.BuildRefusal.TheVariants.{TooManyNodes}
+use Rattle.bvh.specs.declared.slices.BuiltTree.{BuiltTree}
 use Rattle.math.specs.declared.aabb.Aabb.{Aabb}
 use Rattle.meshes.proofs.CheckLaws.{Sound, sound}
 use Rattle.meshes.specs.Checks.{is_geometry, is_bvh, check_of}

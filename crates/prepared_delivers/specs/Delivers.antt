@@ -4,7 +4,7 @@ use mathlib.Core.List.{List, Memᴰ}
 use Rattle.base.specs.Lists.{occurrences, over}
 use Rattle.bvh.specs.Build.{Entries}
 use Rattle.bvh.specs.Entry.{Outputs}
-use Rattle.bvh.specs.declared.core.BuiltTree.{BuiltTree}
+use Rattle.bvh.specs.declared.slices.BuiltTree.{BuiltTree}
 use Rattle.math.specs.Stored.{values_of}
 use Rattle.math.specs.declared.aabb.Aabb.{Aabb}
 use Rattle.meshes.specs.declared.Bound.{Bound}

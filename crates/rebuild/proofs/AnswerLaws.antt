@@ -1,5 +1,5 @@
 -- What a rebuild answers: the build's answer over the boxes, which can only be a tree or that it has too many nodes, since no buffer is too short.
-use Rattle.core.specs.Prelude.{◌≡◌, ℕ, ◌+◌, ◌*◌, ◌≤◌, false, List, length, take, drop}
+use Rattle.std.specs.Prelude.{◌≡◌, ℕ, ◌+◌, ◌*◌, ◌≤◌, false, List, length, take, drop}
 use native.Mathlib.Omega.{arith}
 use mathlib.Core.Path.{refl, sym, ap, subst, ◌∙◌}
 use borrow.Author.Tests.{le-ltb}
@@ -8,10 +8,10 @@ use lib.Seq.{take_at}
 use Rattle.base.specs.Lists.{over}
 use Rattle.bvh.specs.Build.{Entries, answer_by, short, kept, order_written}
 use Rattle.bvh.specs.Entry.{Outputs, Lent, lent, lengths_of, entries_in, AnsweredBy}
-use Rattle.bvh.specs.declared.core.Build.{Build}
-use Rattle.bvh.specs.declared.core.Build.TheVariants.{Built, Refused}
-use Rattle.bvh.specs.declared.core.BuiltTree.{BuiltTree}
-use Rattle.bvh.specs.declared.core.Lengths.{Lengths}
+use Rattle.bvh.specs.declared.slices.Build.{Build}
+use Rattle.bvh.specs.declared.slices.Build.TheVariants.{Built, Refused}
+use Rattle.bvh.specs.declared.slices.BuiltTree.{BuiltTree}
+use Rattle.bvh.specs.declared.slices.Lengths.{Lengths}
 use Rattle.corners.proofs.CornerLaws.{length_over}
 use Rattle.polygon_items.specs.Items.{items_of}
 use Rattle.reorder.specs.Reordering.{rebuilt_of}

@@ -1,6 +1,6 @@
 -- Materials in the order of the leaves: the values of reordered numbers are the reordered values, and a second pass over the first one's list and
 -- reordered indices finds the reordered values. And the list is as long as before. By induction on the order.
-use Rattle.core.specs.Prelude.{◌≡◌, ℕ, ◌<◌, ◌≤◌, List, [], ◌∷◌, map, length, get_or, take}
+use Rattle.std.specs.Prelude.{◌≡◌, ℕ, ◌<◌, ◌≤◌, List, [], ◌∷◌, map, length, get_or, take}
 use native.Mathlib.Omega.{arith}
 use mathlib.Core.Logic.{⊎_elim}
 use mathlib.Core.Path.{refl, sym, ap, ap₂, subst, ◌∙◌}

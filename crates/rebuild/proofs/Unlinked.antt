@@ -1,5 +1,5 @@
 -- Polygons that differ in no more than their links have the same box, and the same record once links are stored in it. By the cases of a polygon.
-use Rattle.core.specs.Prelude.{◌≡◌, ℕ, ◌*◌, ◌/◌, ◌%◌, cond, eqb, List, ◌++◌, take, ℤ, pos}
+use Rattle.std.specs.Prelude.{◌≡◌, ℕ, ◌*◌, ◌/◌, ◌%◌, cond, eqb, List, ◌++◌, take, ℤ, pos}
 use native.Mathlib.Omega.{arith}
 use mathlib.Core.Path.{refl, sym, ap, ◌∙◌}
 use lib.Ieee.{Float, binary32, of_bits}

@@ -1,11 +1,11 @@
 -- The tree over the polygons of a mesh, and the polygons in the order of its leaves (01, Polygons: `rebuild_bvh`). Definitions only.
-use Rattle.core.specs.Prelude.{◌≡◌, ℕ, cond, List, nat_lt}
+use Rattle.std.specs.Prelude.{◌≡◌, ℕ, cond, List, nat_lt}
 use Rattle.bvh.specs.Build.{Entries, tree_of, built_by, kept, order_written}
 use Rattle.bvh.specs.Entry.{Outputs, entries_in, AnsweredBy}
-use Rattle.bvh.specs.declared.core.Build.{Build}
-use Rattle.bvh.specs.declared.core.Build.TheVariants.{Built, Refused}
-use Rattle.bvh.specs.declared.core.BuildRefusal.TheVariants.{TooManyNodes}
-use Rattle.bvh.specs.declared.core.Lengths.{Lengths}
+use Rattle.bvh.specs.declared.slices.Build.{Build}
+use Rattle.bvh.specs.declared.slices.Build.TheVariants.{Built, Refused}
+use Rattle.bvh.specs.declared.slices.BuildRefusal.TheVariants.{TooManyNodes}
+use Rattle.bvh.specs.declared.slices.Lengths.{Lengths}
 use Rattle.math.specs.declared.mat4.Mat4.{Mat4}
 use Rattle.math.specs.declared.vec3.Vec3.{Vec3}
 use Rattle.points.specs.Points.{positions_of}

@@ -1,12 +1,12 @@
 // The tree over the polygons of a mesh, and the polygons in the order of its leaves.
 #![tactic(auto)]
 
-ghost use Rattle.core.specs.Prelude.{◌≡◌, ◌*◌, ◌<◌, ◌≤◌, length, take};
+ghost use Rattle.std.specs.Prelude.{◌≡◌, ◌*◌, ◌<◌, ◌≤◌, length, take};
 ghost use Rattle.base.specs.Lists.{over};
 ghost use Rattle.bvh.specs.Build.{kept};
 ghost use Rattle.bvh.specs.Entry.{outputs, lent, lengths_of};
-ghost use Rattle.bvh.specs.declared.core.Build.TheVariants.{Built};
-ghost use Rattle.bvh.specs.declared.core.BuiltTree.{BuiltTree};
+ghost use Rattle.bvh.specs.declared.slices.Build.TheVariants.{Built};
+ghost use Rattle.bvh.specs.declared.slices.BuiltTree.{BuiltTree};
 ghost use Rattle.points.specs.Points.{positions_of};
 ghost use Rattle.polygon_items.specs.Items.{items_of};
 ghost use Rattle.reorder.specs.Reordering.{rebuilt_of};
@@ -14,7 +14,7 @@ ghost use Rattle.reorder.specs.Steps.Lent.{Rebuildable};
 ghost use Rattle.rebuild.specs.Rebuilding.{polygon_entries, Rebuilt};
 ghost use Rattle.rebuild.specs.Steps.Room.{Meshed, BuildRoom};
 
-use bvh::core::Build;
+use bvh::slices::Build;
 use math::mat4::Mat4;
 use math::vec3::Vec3;
 use points::put_positions;
@@ -96,7 +96,7 @@ pub fn rebuild_bvh(
         out.old out.new }
 {
     put_entries(center, transform, p, v, polygons, vertices, points, entries);
-    let built = bvh::core::build_core(
+    let built = bvh::slices::build_core(
         p, LEAF_LIMIT, limit, entries, node_bytes, tree_bytes, order, places, temp, stack, rows,
         centres,
     );

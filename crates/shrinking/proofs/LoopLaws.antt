@@ -1,6 +1,6 @@
 -- Refusal 7 is just the start at +infinity, and the 148 turns of the definition are all turns of the source's loop for everyone who is not refused.
 use Prim.Native.Nat.{ℕ, ◌+◌}
-use mathlib.Core.Bool.{Bool, true, false, true≢false, cond}
+use mathlib.Core.Bool.{true, false, true≢false, cond}
 use mathlib.Core.Path.{◌≡◌, refl, sym, ap, ◌∙◌}
 use lib.Dec.{T}
 use lib.Ieee.{Float, nan, inf, fin, binary32, of_bits, eq, lt, is_nan, fits}

@@ -1,5 +1,5 @@
 -- Rules S1 to S9: what rules S1 to S8 ask is there once the triangles are laid out, and what the margin or the normals leave is the whole.
-use Prim.Native.Nat.{ℕ, ◌*◌, ◌≤◌}
+use Prim.Native.Nat.{ℕ, ◌≤◌}
 use native.Mathlib.Omega.{arith}
 use mathlib.Core.Path.{◌≡◌, sym, ap, ◌∙◌}
 use mathlib.Core.List.{List}
@@ -11,7 +11,7 @@ use Rattle.rays.specs.Steps.Rows.{Laid}
 use Rattle.rings.specs.Meshes.{Mesh}
 use Rattle.shrink.specs.declared.margin.Margin.{Margin}
 use Rattle.shrink.specs.declared.margin.Margin.TheVariants.{Passed, NonePasses}
-use Rattle.shrink.specs.Shrinking.{shrink_margin, Shrunk}
+use Rattle.shrink.specs.Shrinking.{Shrunk}
 use Rattle.shrink.specs.Steps.Work.{Shrinkable}
 use Rattle.shrinking.specs.declared.whole.Geometry.{Geometry}
 use Rattle.shrinking.specs.Steps.Work.{Meshed}

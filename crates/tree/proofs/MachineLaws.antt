@@ -58,8 +58,8 @@ leads_then l s s' s'' is js h k =
     record { goes = h.goes ∙ ap (behind is) k.goes ∙ path }
 
 -- a state that goes on
-abbrev pub at_node : ℕ → ℕ → ℕ → ℕ → ℕ → WalkState
-at_node tree k last reads handed = record { tree = tree; at = k; last = last; reads = reads; handed = handed; status = Going }
+abbrev pub node_state : ℕ → ℕ → ℕ → ℕ → ℕ → WalkState
+node_state tree k last reads handed = record { tree = tree; at = k; last = last; reads = reads; handed = handed; status = Going }
 
 -- ---- one node record
 
@@ -88,8 +88,8 @@ module _ (sc : Scale) (th : ℕ) (order : List ℕ) (r : Row) where
   stride_empty e = rw (eq-eqb r.count 0 e)
 
   handed_all : (items tree k last reads handed : ℕ) → handed + r.count ≤ items
-      → handing items (node_of sc th order r) (at_node tree k last reads handed)
-      ≡ record { state = at_node tree (k + 1) last (reads + 1) (handed + r.count); given = up_from id r.count }
+      → handing items (node_of sc th order r) (node_state tree k last reads handed)
+      ≡ record { state = node_state tree (k + 1) last (reads + 1) (handed + r.count); given = up_from id r.count }
   unfolding handing node_of
   handed_all items tree k last reads handed h =
       let m : min r.count (items - handed) ≡ r.count = omega arith in
@@ -159,7 +159,7 @@ module _ (w : Written) (sound : (r : Row) → Memᴰ r w.nodes → Sound w r) wh
   module _ (r : Row) (qs : List Row) (k tree last reads handed : ℕ) (here : drop k w.nodes ≡ r ∷ qs) (within : k < last)
       (empty : r.count ≡ 0 → k + max (id_in r) 1 ≤ last) where
     abbrev s : WalkState
-    s = at_node tree k last reads handed
+    s = node_state tree k last reads handed
 
     ok : Sound w r
     ok = sound r (mem_drop w.nodes k r qs here)
@@ -177,25 +177,25 @@ module _ (w : Written) (sound : (r : Row) → Memᴰ r w.nodes → Sound w r) wh
     goes_on = rw (lt-ltb k last within)
 
     row_hit : hit r.box ≡ true → handed + r.count ≤ w.sizes.items
-        → Leads l s (up_from (id_in r) r.count) (at_node tree (k + 1) last (reads + 1) (handed + r.count))
+        → Leads l s (up_from (id_in r) r.count) (node_state tree (k + 1) last (reads + 1) (handed + r.count))
     unfolding node_of
     row_hit e h =
-        leads_step l s (at_node tree (k + 1) last (reads + 1) (handed + r.count)) (up_from (id_in r) r.count) goes_on
+        leads_step l s (node_state tree (k + 1) last (reads + 1) (handed + r.count)) (up_from (id_in r) r.count) goes_on
         (reads_row ∙ node_handing _ _ _ _ fine e
         ∙ handed_all w.scale w.threshold w.order r w.sizes.items tree k last reads handed h)
 
-    row_missed : hit r.box ≡ false → (stride : ℕ) → stride_of (record_of r) ≡ stride → Leads l s [] (at_node tree (k + stride) last (reads + 1) handed)
+    row_missed : hit r.box ≡ false → (stride : ℕ) → stride_of (record_of r) ≡ stride → Leads l s [] (node_state tree (k + stride) last (reads + 1) handed)
     unfolding node_of
     row_missed e stride es =
-        leads_step l s (at_node tree (k + stride) last (reads + 1) handed) [] goes_on
+        leads_step l s (node_state tree (k + stride) last (reads + 1) handed) [] goes_on
         (reads_row ∙ node_onward _ _ _ _ fine e ∙ ap (λ (n : ℕ). quiet (onward n s)) es)
 
   leads_to : (s s' s'' : WalkState) (is : List ℕ) → Leads l s is s' → s' ≡ s'' → Leads l s is s''
   leads_to s s' s'' is h e = subst (Leads l s is) e h
 
   states : (tree last k k' reads reads' handed handed' : ℕ) → k ≡ k' → reads ≡ reads' → handed ≡ handed'
-      → at_node tree k last reads handed ≡ at_node tree k' last reads' handed'
-  states tree last k k' reads reads' handed handed' e₁ e₂ e₃ = λ i. at_node tree (e₁ i) last (e₂ i) (e₃ i)
+      → node_state tree k last reads handed ≡ node_state tree k' last reads' handed'
+  states tree last k k' reads reads' handed handed' e₁ e₂ e₃ = λ i. node_state tree (e₁ i) last (e₂ i) (e₃ i)
 
   -- The rows of the tree t stand from number k on and end by `last`. Its first item has the position lo, and its positions lie within the items.
   pub record RowsStand (k lo last : ℕ) (t : Node) : Type 0 where
@@ -209,8 +209,8 @@ module _ (w : Written) (sound : (r : Row) → Memᴰ r w.nodes → Sound w r) wh
   abbrev pub Walks : Node → Type 0
   Walks t =
       (k lo tree last reads handed : ℕ) → RowsStand k lo last t → handed ≤ lo
-      → Leads l (at_node tree k last reads handed) (seen lo t)
-      (at_node tree (k + size t) last (reads + visit_reads hit t) (handed + length (seen lo t)))
+      → Leads l (node_state tree k last reads handed) (seen lo t)
+      (node_state tree (k + size t) last (reads + visit_reads hit t) (handed + length (seen lo t)))
 
   abbrev leaf_row : BoxWords → ℕ → List ℕ → Row
   leaf_row b lo ps = record { box = b; head = lo; count = length ps }
@@ -236,8 +236,8 @@ module _ (w : Written) (sound : (r : Row) → Memᴰ r w.nodes → Sound w r) wh
       empty none = omega (arith, leaf_id b lo ps none, st.fit none)
 
       go : (h : Bool) → hit b ≡ h
-          → Leads l (at_node tree k last reads handed) (cond h (up_from (id_in (leaf_row b lo ps)) (length ps)) [])
-          (at_node tree (k + 1) last (reads + 1) (handed + length (cond h (up_from (id_in (leaf_row b lo ps)) (length ps)) [])))
+          → Leads l (node_state tree k last reads handed) (cond h (up_from (id_in (leaf_row b lo ps)) (length ps)) [])
+          (node_state tree (k + 1) last (reads + 1) (handed + length (cond h (up_from (id_in (leaf_row b lo ps)) (length ps)) [])))
       go true e =
           leads_to _ _ _ _
           (row_hit (leaf_row b lo ps) st.rest k tree last reads handed st.rows_are (omega (arith, st.ends)) empty e (omega (arith, st.items)))
@@ -285,18 +285,18 @@ module _ (w : Written) (sound : (r : Row) → Memᴰ r w.nodes → Sound w r) wh
   walk_inner b l₁ l₂ first second k lo tree last reads handed st few = go (hit b) refl
     where
       go : (h : Bool) → hit b ≡ h
-          → Leads l (at_node tree k last reads handed) (cond h (seen lo l₁ ++ seen (lo + length (leaf_order l₁)) l₂) [])
-          (at_node tree (k + size (inner b l₁ l₂)) last (reads + (1 + cond h (visit_reads hit l₁ + visit_reads hit l₂) 0))
+          → Leads l (node_state tree k last reads handed) (cond h (seen lo l₁ ++ seen (lo + length (leaf_order l₁)) l₂) [])
+          (node_state tree (k + size (inner b l₁ l₂)) last (reads + (1 + cond h (visit_reads hit l₁ + visit_reads hit l₂) 0))
           (handed + length (cond h (seen lo l₁ ++ seen (lo + length (leaf_order l₁)) l₂) [])))
       go true e =
           let lo₂ = lo + length (leaf_order l₁) in
           let few₁ : length (seen lo l₁) ≤ length (leaf_order l₁) = visit_few hit w.threshold w.order lo l₁ in
           let reads₁ = reads + 1 + visit_reads hit l₁ in
           let handed₁ = handed + 0 + length (seen lo l₁) in
-          let s₀ = at_node tree k last reads handed in
-          let s₁ = at_node tree (k + 1) last (reads + 1) (handed + 0) in
-          let s₂ = at_node tree (k + 1 + size l₁) last reads₁ handed₁ in
-          let s₃ = at_node tree (k + 1 + size l₁ + size l₂) last (reads₁ + visit_reads hit l₂) (handed₁ + length (seen lo₂ l₂)) in
+          let s₀ = node_state tree k last reads handed in
+          let s₁ = node_state tree (k + 1) last (reads + 1) (handed + 0) in
+          let s₂ = node_state tree (k + 1 + size l₁) last reads₁ handed₁ in
+          let s₃ = node_state tree (k + 1 + size l₁ + size l₂) last (reads₁ + visit_reads hit l₂) (handed₁ + length (seen lo₂ l₂)) in
           let root : Leads l s₀ [] s₁ =
           row_hit (inner_row b l₁ l₂) _ k tree last reads handed st.rows_are (omega (arith, st.ends))
           (λ none. omega (arith, st.ends)) e (omega (arith, st.items)) in
@@ -372,9 +372,9 @@ module _ (w : Written) (sound : (r : Row) → Memᴰ r w.nodes → Sound w r) wh
       steps : step_of l s ≡ quiet (at_tree w.query w.sizes.nodes (tree_record w.scale (range_at k t)) s)
       steps = step_tree l s waits.idle ∙ ap (λ (r : BvhTree). quiet (at_tree w.query w.sizes.nodes r s)) record_is
 
-      go_in : hit (box_of t) ≡ true → Leads l s [] (at_node (s.tree + 1) k (k + size t) (s.reads + 1) s.handed)
+      go_in : hit (box_of t) ≡ true → Leads l s [] (node_state (s.tree + 1) k (k + size t) (s.reads + 1) s.handed)
       go_in e =
-          leads_step l s (at_node (s.tree + 1) k (k + size t) (s.reads + 1) s.handed) [] goes
+          leads_step l s (node_state (s.tree + 1) k (k + size t) (s.reads + 1) s.handed) [] goes
           (steps ∙ ap quiet (tree_entered w.query w.sizes.nodes (tree_record w.scale (range_at k t)) s (range_fine k t st.ends) e))
 
       go_past : hit (box_of t) ≡ false → Leads l s [] (passing s)
@@ -389,7 +389,7 @@ module _ (w : Written) (sound : (r : Row) → Memᴰ r w.nodes → Sound w r) wh
       go : (h : Bool) → hit (box_of t) ≡ h → Arrives s (j + 1) (s.reads + (1 + cond h (visit_reads hit t) 0)) (s.handed + length (seen lo t)) (seen lo t)
       go true e =
           record {
-            state = at_node (s.tree + 1) (k + size t) (k + size t) (s.reads + 1 + visit_reads hit t) (s.handed + length (seen lo t));
+            state = node_state (s.tree + 1) (k + size t) (k + size t) (s.reads + 1 + visit_reads hit t) (s.handed + length (seen lo t));
             way = leads_then l s _ _ [] (seen lo t) (go_in e) (walk_node t k lo (s.tree + 1) (k + size t) (s.reads + 1) s.handed in_range waits.few);
             tree_is = ap (λ (n : ℕ). n + 1) waits.tree_is;
             idle = omega arith;

@@ -50,7 +50,7 @@ unfolding meets_box
 meets_on b query e a =
     let first = (and-eq-true_iff (on_axis b query X) (on_axis b query Y && on_axis b query Z)).0 e in
     let others = (and-eq-true_iff (on_axis b query Y) (on_axis b query Z)).0 first.1 in
-    elim a [
+    elim a as (λ a. on_axis b query a ≡ true) [
       | X ↦ first.0
       | Y ↦ others.0
       | Z ↦ others.1

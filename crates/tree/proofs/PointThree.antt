@@ -5,9 +5,9 @@ use Rattle.std.specs.Prelude.{◌≡◌, ℕ}
 use mathlib.Core.Path.{sym, subst}
 use Rattle.base.specs.Lists.{over}
 use Rattle.math.specs.declared.aabb.Aabb.{Aabb}
-use Rattle.bvh.specs.declared.core.Build.TheVariants.{Built}
-use Rattle.bvh.specs.declared.core.BuiltTree.{BuiltTree}
-use Rattle.bvh.specs.declared.core.Lengths.{Lengths}
+use Rattle.bvh.specs.declared.slices.Build.TheVariants.{Built}
+use Rattle.bvh.specs.declared.slices.BuiltTree.{BuiltTree}
+use Rattle.bvh.specs.declared.slices.Lengths.{Lengths}
 use Rattle.bvh.specs.Build.{Entries, tree_of, built_of, nodes_written, trees_written, order_written}
 use Rattle.bvh.specs.Entry.{Outputs, outputs, Answered}
 use Rattle.tree.specs.Pair.{outcome_of, Delivered}

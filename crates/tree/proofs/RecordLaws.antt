@@ -176,8 +176,8 @@ module _ (e : Entries) (th : ℕ) (stands : Stands e th) (before : Outputs) wher
   held_from k [] h = refl
   held_from k (r ∷ rs) h = ap₂ ◌++◌ (row_items k r rs h) (held_from (k + 1) rs (next (rows 0 t) k r rs h))
 
-  pub items_held : items_held th after 0 (size t) ≡ items_of th order (rows 0 t)
-  items_held = ap (items_held th after 0) (sym (length_rows 0 t)) ∙ held_from 0 (rows 0 t) refl
+  pub all_held : items_held th after 0 (size t) ≡ items_of th order (rows 0 t)
+  all_held = ap (items_held th after 0) (sym (length_rows 0 t)) ∙ held_from 0 (rows 0 t) refl
 
   -- ---- the ranges
 
@@ -246,8 +246,8 @@ module _ (e : Entries) (th : ℕ) (stands : Stands e th) (before : Outputs) wher
   formed =
       let g = well_grown range_limit e th (omega arith) stands.threshold stands.rising in
       record {
-        present_once = λ p m. ap (occurrences p) items_held ∙ g.present_once p m;
-        only_present = λ p. ap (occurrences p) items_held ∙ g.only_present p;
+        present_once = λ p m. ap (occurrences p) all_held ∙ g.present_once p m;
+        only_present = λ p. ap (occurrences p) all_held ∙ g.only_present p;
         at_most = node_numbers;
         in_one_range = λ k h leafy. holding_from k 0 (ranges range_limit 0 t) refl ∙ in_one_range k h leafy;
         ranges_are = range_numbers;

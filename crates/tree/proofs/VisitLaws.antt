@@ -169,9 +169,9 @@ module _ (hit : BoxWords → Bool) (th : ℕ) (order : List ℕ) where
   one_or true n = omega arith
   one_or false n = omega arith
 
-  pub visit_reads : (t : Node) → visit_reads hit t ≤ size t
-  visit_reads (leaf b ps) = omega arith
-  visit_reads (inner b l r) = omega (arith, one_or (hit b) (visit_reads hit l + visit_reads hit r), visit_reads l, visit_reads r)
+  pub visit_reads_few : (t : Node) → visit_reads hit t ≤ size t
+  visit_reads_few (leaf b ps) = omega arith
+  visit_reads_few (inner b l r) = omega (arith, one_or (hit b) (visit_reads hit l + visit_reads hit r), visit_reads_few l, visit_reads_few r)
 
   -- ---- over the parts
 
@@ -191,8 +191,8 @@ module _ (hit : BoxWords → Bool) (th : ℕ) (order : List ℕ) where
   reads_append [] qs = omega arith
   reads_append (p ∷ ps) qs = omega (arith, reads_append ps qs)
 
-  range_reads : (t : Node) → range_reads hit t ≤ 1 + size t
-  range_reads t = omega (arith, one_or (hit (box_of t)) (visit_reads hit t), visit_reads t)
+  range_reads_few : (t : Node) → range_reads hit t ≤ 1 + size t
+  range_reads_few t = omega (arith, one_or (hit (box_of t)) (visit_reads hit t), visit_reads_few t)
 
   module _ (limit : ℕ) (limit_some : 0 < limit) where
     -- what the parts of a tree's two children hand out
@@ -250,7 +250,7 @@ module _ (hit : BoxWords → Bool) (th : ℕ) (order : List ℕ) where
     reads_few : (at : ℕ) (t : Node) → part_reads hit (parts limit at t) ≤ size t + length (parts limit at t)
     reads_few =
         parts_induction limit limit_some (λ at t ps. part_reads hit ps ≤ size t + length ps)
-        (λ at t h. omega (arith, range_reads t))
+        (λ at t h. omega (arith, range_reads_few t))
         (λ at b l r h first second.
         let xs = parts limit (at + 1) l in
         let ys = parts limit (at + 1 + size l) r in

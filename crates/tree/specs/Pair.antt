@@ -11,9 +11,9 @@ use Rattle.records.specs.Axis.{extent, largest, smallest, nought}
 use Rattle.entries.specs.Ends.{low, high, Proper, Bounded, Each}
 use Rattle.entries.specs.Folding.{fold_box}
 use Rattle.entries.specs.declared.boxes.BoxWords.{BoxWords}
-use Rattle.bvh.specs.declared.core.Build.{Build}
-use Rattle.bvh.specs.declared.core.Build.TheVariants.{Built, Refused}
-use Rattle.bvh.specs.declared.core.BuiltTree.{BuiltTree}
+use Rattle.bvh.specs.declared.slices.Build.{Build}
+use Rattle.bvh.specs.declared.slices.Build.TheVariants.{Built, Refused}
+use Rattle.bvh.specs.declared.slices.BuiltTree.{BuiltTree}
 use Rattle.bvh.specs.Build.{Entries, refusal_number, answer_of}
 use Rattle.bvh.specs.Entry.{Outputs, Lent, lengths_of, Answered}
 use Rattle.walk_steps.specs.Boxes.{query_of, meets_box}

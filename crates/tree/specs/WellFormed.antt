@@ -5,7 +5,7 @@ use Rattle.base.specs.Lists.{one_if, occurrences, up_from}
 use Rattle.records.specs.Records.{node_at, tree_at}
 use Rattle.records.specs.declared.BvhNode.{BvhNode}
 use Rattle.records.specs.declared.BvhTree.{BvhTree}
-use Rattle.bvh.specs.declared.core.BuiltTree.{BuiltTree}
+use Rattle.bvh.specs.declared.slices.BuiltTree.{BuiltTree}
 use Rattle.bvh.specs.Build.{Entries}
 use Rattle.bvh.specs.Entry.{Outputs}
 use Rattle.rows.specs.Positions.{item_at}

@@ -6,7 +6,7 @@ ghost use Rattle.tree.specs.Pair.{Paired};
 ghost use Rattle.tree.specs.WellFormed.{count_for};
 
 use base::numbers::{Place, Position};
-use bvh::core::{Build, BuildRefusal, BuiltTree};
+use bvh::slices::{Build, BuildRefusal, BuiltTree};
 use math::aabb::Aabb;
 use rows::ranges::RANGE_LIMIT;
 use walk::slices::Walk;
@@ -68,7 +68,7 @@ pub fn build_and_walk(
         (outputs node_bytes.new tree_bytes.new order.new)
         out.old out.new result }
 {
-    let built = bvh::core::build_core(
+    let built = bvh::slices::build_core(
         n,
         threshold,
         RANGE_LIMIT,

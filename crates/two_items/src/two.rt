@@ -1,8 +1,8 @@
 // A build over a slice of two items.
-ghost use Rattle.core.specs.Prelude.{[], ◌∷◌};
+ghost use Rattle.std.specs.Prelude.{[], ◌∷◌};
 ghost use Rattle.bvh.specs.Entry.{entries_of, outputs, lent, lengths_of, Answered};
 
-use bvh::core::{Build, BuiltTree};
+use bvh::slices::{Build, BuiltTree};
 use bvh::items::BvhItem;
 use math::words3::Words3;
 

@@ -2,7 +2,7 @@
 -- Assumes nothing.
 use Prim.Native.Nat.{ℕ, ◌+◌, ◌*◌, ◌≤◌}
 use native.Mathlib.Omega.{arith}
-use mathlib.Core.Bool.{Bool, true, false, ◌||◌, or_true}
+use mathlib.Core.Bool.{Bool, true, false, ◌||◌, or-true}
 use mathlib.Core.List.{[], ◌∷◌}
 use mathlib.Core.Path.{◌≡◌, refl, ap, ◌∙◌}
 use lib.Dec.{ltb}
@@ -25,8 +25,8 @@ work_parts n v = omega arith
 
 -- the third of the parts, `firsts`, is asked for before the others
 first_third : (f c t rest : Bool) → f || (c || (t || rest)) ≡ c || (t || (f || rest))
-first_third f true t rest = or_true f
-first_third f false true rest = or_true f
+first_third f true t rest = or-true f
+first_third f false true rest = or-true f
 first_third f false false rest = refl
 
 -- and these parts are what the check asks for.

@@ -38,11 +38,11 @@ use denote.Triple.Table.{entered, cited}
 use denote.Triple.Walked.{says, Stays, walk_of, Walks, ends_at, walked, walk_Meets}
 use denote.Triple.Clauses.{Lasts, ensured, lasts}
 use Rattle.records.proofs.HandWalk.{all_passed, all_go}
-use Rattle.bvh.specs.declared.core.Build.{Build}
+use Rattle.bvh.specs.declared.slices.Build.{Build}
 use Rattle.bvh.specs.declared.items.BvhItem.{BvhItem}
 use Rattle.bvh.specs.Entry.{entries_of, outputs, lent, lengths_of, Answered}
-use Rattle.bvh.specs.contracts.core.Build as B
-use Rattle.bvh.proofs.core.Build.TheLaws as B'
+use Rattle.bvh.specs.contracts.slices.Build as B
+use Rattle.bvh.proofs.slices.Build.TheLaws as B'
 use Rattle.bvh.specs.contracts.items.BvhItem as T
 use Rattle.bvh.specs.contracts.entry.build_bvh as g
 use Rattle.bvh.proofs.entry.build_bvh.Symbol as g-def

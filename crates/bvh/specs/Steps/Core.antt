@@ -1,11 +1,11 @@
 -- What the parts of the build's core ask of the slices that they are lent, and what they leave. Definitions only.
-use Rattle.core.specs.Prelude.{◌≡◌, ℕ, ◌+◌, ◌-◌, ◌*◌, ◌<◌, ◌≤◌, List, ◌++◌, length, take}
+use Rattle.std.specs.Prelude.{◌≡◌, ℕ, ◌+◌, ◌-◌, ◌*◌, ◌<◌, ◌≤◌, List, ◌++◌, length, take}
 use Rattle.base.specs.Lists.{over, Below}
 use Rattle.records.specs.declared.scale.Scale.{Scale}
 use Rattle.entries.specs.Boxes.{box_at}
-use Rattle.bvh.specs.declared.core.BuiltTree.{BuiltTree}
-use Rattle.bvh.specs.declared.core.Planted.{Planted}
-use Rattle.bvh.specs.declared.core.Task.{Task}
+use Rattle.bvh.specs.declared.slices.BuiltTree.{BuiltTree}
+use Rattle.bvh.specs.declared.slices.Planted.{Planted}
+use Rattle.bvh.specs.declared.slices.Task.{Task}
 use Rattle.bvh.specs.Build.{Entries, tree_of, built_by, nodes_written, trees_written_by, order_written}
 use Rattle.bvh.specs.Entry.{Outputs, Lent}
 use Rattle.bvh.specs.Items.{marked}

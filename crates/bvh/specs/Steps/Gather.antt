@@ -1,5 +1,5 @@
 -- What is gathered from the entries' words. Definitions only.
-use Rattle.core.specs.Prelude.{◌≡◌, ℕ, ◌≤◌, List, take}
+use Rattle.std.specs.Prelude.{◌≡◌, ℕ, ◌≤◌, List, take}
 use Rattle.bvh.specs.Items.{marked}
 
 -- What is gathered: r places, those of the present ones among the first n entries.

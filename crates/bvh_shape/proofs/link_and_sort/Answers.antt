@@ -2,9 +2,9 @@
 use borrow.Author.Rules.{rules}
 use Rattle.bvh_shape.proofs.Shaping.{links_made}
 use mathlib.Core.Path.{sym, ap, ◌∙◌}
-use Rattle.core.specs.Prelude.{take}
+use Rattle.std.specs.Prelude.{take}
 use Rattle.bvh.specs.Build.{kept}
-use Rattle.bvh.specs.declared.core.Build.{Build}
+use Rattle.bvh.specs.declared.slices.Build.{Build}
 use Rattle.reorder.specs.Reordering.{in_order}
 use Rattle.bvh_shape.specs.Sorting.{linked_if}
 use Rattle.bvh_shape.proofs.link_and_sort.Goals as goal

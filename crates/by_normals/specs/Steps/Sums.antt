@@ -1,6 +1,5 @@
 -- What the sums ask, and how they lie in the points: three words a vertex. Definitions only.
 use Rattle.std.specs.Prelude.{ℕ, ◌*◌, ◌≤◌, ◌<◌, List, ◌≡◌, length}
-use Rattle.math.specs.declared.vec3.Vec3.{Vec3}
 use Rattle.points.specs.Points.{vertex_at}
 use Rattle.by_normals.specs.Normals.{Placed, sum_at}
 

@@ -1,10 +1,9 @@
 -- `link_mesh` meets its contract: the corners that are unpacked, the links of them, and both in the written records (Meshing).
 use Prim.Native.Nat.{◌*◌}
 use native.Mathlib.Omega.{arith}
-use mathlib.Core.Path.{sym, ◌∙◌}
+use mathlib.Core.Path.{sym}
 use lib.Seq.{length-take-le}
 use Rattle.linking.proofs.Meshing.{length_unpacked, fit, meshed}
-use borrow.Author.Rules.{rules}
 use Rattle.linking.proofs.link_mesh.Goals as goal
 
 pub slice_bounds-links_of-end-2 : goal.slice_bounds-links_of-end-2

@@ -1,9 +1,8 @@
 -- `put_written` meets its contract. The loop's invariant: the records before i are written, and nothing else is changed.
-use Prim.Native.Nat.{ℕ, ◌+◌, ◌-◌, ◌*◌, ◌≤◌}
+use Prim.Native.Nat.{ℕ, ◌*◌}
 use native.Mathlib.Omega.{arith}
 use mathlib.Core.Path.{◌≡◌, refl, ap, ap₂, ◌∙◌}
 use mathlib.Core.List.{List}
-use lib.ListN.{length}
 use lib.Seq.{sets}
 use Rattle.base.specs.Lists.{over}
 use Rattle.polygon.specs.Polygons.{polygon_bytes}

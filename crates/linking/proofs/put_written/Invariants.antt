@@ -1,15 +1,10 @@
 -- `put_written` meets its contract. The loop's invariant: the records before i are written, and nothing else is changed.
-use Prim.Native.Nat.{ℕ, ◌+◌, ◌-◌, ◌*◌, ◌≤◌}
-use native.Mathlib.Omega.{arith}
-use mathlib.Core.Path.{◌≡◌, refl, ap, ap₂, ◌∙◌}
+use Prim.Native.Nat.{ℕ, ◌-◌, ◌≤◌}
+use mathlib.Core.Path.{◌≡◌}
 use mathlib.Core.List.{List}
 use lib.ListN.{length}
-use lib.Seq.{sets}
 use Rattle.base.specs.Lists.{over}
-use Rattle.polygon.specs.Polygons.{polygon_bytes}
-use Rattle.polygon.specs.declared.Polygon.{Polygon}
 use Rattle.linking.specs.Written.{written_of}
-use Rattle.linking.proofs.WrittenLaws.{written_next}
 use Rattle.linking.proofs.put_written.Given as goal
 
 pub record Writing (polygons : List ℕ) (n : ℕ) (before out : List ℕ) (i : ℕ) : Type 0 where

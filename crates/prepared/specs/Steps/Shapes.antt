@@ -1,13 +1,13 @@
 -- What the shaping of each kind asks of the slices that it is lent, and what it leaves. Definitions only.
-use Rattle.core.specs.Prelude.{◌≡◌, ℕ, ◌+◌, ◌*◌, ◌≤◌, true, List, length, take}
+use Rattle.std.specs.Prelude.{◌≡◌, ℕ, ◌+◌, ◌*◌, ◌≤◌, true, List, length, take}
 use Rattle.std.specs.Prelude.{Float}
 use Rattle.base.specs.Lists.{over}
 use Rattle.bvh.specs.Build as B
 use Rattle.bvh.specs.Build.{nodes_written, trees_written_by, order_written}
 use Rattle.bvh.specs.Entry.{Outputs}
-use Rattle.bvh.specs.declared.core.Build.{Build}
-use Rattle.bvh.specs.declared.core.Build.TheVariants.{Built}
-use Rattle.bvh.specs.declared.core.BuiltTree.{BuiltTree}
+use Rattle.bvh.specs.declared.slices.Build.{Build}
+use Rattle.bvh.specs.declared.slices.Build.TheVariants.{Built}
+use Rattle.bvh.specs.declared.slices.BuiltTree.{BuiltTree}
 use Rattle.corners.specs.Corners.{kinds_known}
 use Rattle.edges.specs.Edges.{linked}
 use Rattle.linking.specs.Written.{written_of}

@@ -1,5 +1,5 @@
 -- What a rebuild asks of the slices that it is lent. Definitions only.
-use Rattle.core.specs.Prelude.{ℕ, ◌+◌, ◌*◌, ◌<◌, ◌≤◌, List, length}
+use Rattle.std.specs.Prelude.{ℕ, ◌+◌, ◌*◌, ◌<◌, ◌≤◌, List, length}
 use Rattle.bvh.specs.Entry.{Outputs, Lent}
 
 -- The polygons and vertices that are read, the records that are written, and where the vertices stand. Rule K2 (01: "no tree without polygons"): there is a polygon.

@@ -3,10 +3,10 @@ use Rattle.std.specs.Prelude.{◌≡◌, ℕ, List, length}
 use native.Mathlib.Omega.{arith}
 use mathlib.Core.Path.{refl, ap, subst, ◌∙◌}
 use Rattle.math.specs.declared.aabb.Aabb.{Aabb}
-use Rattle.bvh.specs.declared.core.Build.{Build}
-use Rattle.bvh.specs.declared.core.Build.TheVariants.{Built, Refused}
-use Rattle.bvh.specs.declared.core.BuildRefusal.{BuildRefusal}
-use Rattle.bvh.specs.declared.core.BuiltTree.{BuiltTree}
+use Rattle.bvh.specs.declared.slices.Build.{Build}
+use Rattle.bvh.specs.declared.slices.Build.TheVariants.{Built, Refused}
+use Rattle.bvh.specs.declared.slices.BuildRefusal.{BuildRefusal}
+use Rattle.bvh.specs.declared.slices.BuiltTree.{BuiltTree}
 use Rattle.bvh.specs.Build.{Entries, refusal_number, number_of}
 use Rattle.bvh.specs.Entry.{entries_in, Outputs, Lent, lengths_of, Answered}
 use Rattle.walk.specs.Walks.{Outcome, walk_of, Promise}

@@ -40,7 +40,7 @@ failing_none n ok rest h e =
     let x = passed (ok X) _ n h e in
     let y = passed (ok Y) _ (n + 1) (omega arith) x.1 in
     let z = passed (ok Z) rest (n + 2) (omega arith) y.1 in
-    ((λ a. elim a [ X ↦ x.0 | Y ↦ y.0 | Z ↦ z.0 ]), z.1)
+    ((λ a. elim a as (λ a. T (ok a)) [ X ↦ x.0 | Y ↦ y.0 | Z ↦ z.0 ]), z.1)
   where
     passed : (ok : Bool) (rest n : ℕ) → 0 < n → cond ok rest n ≡ 0 → T ok × (rest ≡ 0)
     passed true rest n h e = (tt, e)

@@ -1,10 +1,9 @@
 -- What the entry answers, case by case; what room there is where no buffer is too short; and the points, of which the first words are lent.
 use Prim.Native.Nat.{ℕ, ◌+◌, ◌*◌, ◌≤◌, ◌<◌}
-use native.Mathlib.Omega.{arith}
-use mathlib.Core.Bool.{Bool, true, false, cond, not, ◌||◌}
+use mathlib.Core.Bool.{true, false}
 use mathlib.Core.Path.{◌≡◌, refl, sym, ap, ◌∙◌}
 use mathlib.Core.List.{List, ◌++◌}
-use lib.Dec.{eqb, ltb}
+use lib.Dec.{ltb}
 use lib.Ieee.{Float}
 use lib.ListN.{length, take, drop}
 use lib.Seq.{length-take-le}
@@ -19,7 +18,7 @@ use Rattle.shrinking.specs.declared.whole.Geometry.{Geometry}
 use Rattle.verts_shrunk.specs.declared.entry.Lengths.{Lengths}
 use Rattle.verts_shrunk.specs.declared.entry.ShrinkRefusal.TheVariants.{TooManyPolygons, TooManyVertices, BufferTooShort, UnknownKind, InfiniteMargin}
 use Rattle.verts_shrunk.specs.declared.entry.Shrunk.{Shrunk}
-use Rattle.verts_shrunk.specs.declared.entry.Shrunk.TheVariants.{ByMargin, ByNormals, NoVertices, Refused}
+use Rattle.verts_shrunk.specs.declared.entry.Shrunk.TheVariants.{NoVertices, Refused}
 use Rattle.shrinking.specs.Whole.{mesh_in, bound_of, infinite_start, shrunk_of, ShrunkTo}
 use Rattle.verts_shrunk.specs.Answers.{short_of, short, shrunk_by, answer_of, kept, Answered}
 use Rattle.verts_shrunk.specs.Steps.Work.{Lent}

@@ -1,5 +1,4 @@
 -- `moving::by_normals` meets its contract: the vertices are moved by the sums that lie in the points.
-use borrow.Author.Rules.{rules}
 use Prim.Native.Nat.{◌*◌}
 use mathlib.Core.Path.{◌∙◌}
 use Rattle.by_normals.specs.Normals.{Placed, placed_of, sum_at, by_normal_at, by_normals}
@@ -12,6 +11,7 @@ pub put_pushed-requires : goal.put_pushed-requires
 put_pushed-requires c = (
   c.requires.vertices_in,
   c.put_sums.auto.points ∙ c.requires.size,
+)
 
 pub returns : goal.returns
 unfolding by_normals by_normal_at

@@ -1,5 +1,4 @@
 -- `moving::pushed` meets its contract: what the operators on points ensure, put together.
-use borrow.Author.Rules.{rules}
 use mathlib.Core.Path.{ap, ◌∙◌}
 use Rattle.math.specs.Vec3s.{add_of, scale_of}
 use Rattle.math.specs.declared.vec3.Vec3.{Vec3}

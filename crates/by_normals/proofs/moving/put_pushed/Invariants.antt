@@ -1,17 +1,13 @@
 -- `moving::put_pushed` meets its contract. The loop's invariant: the vertices before i are moved, and the sums from i on are as they were.
-use mathlib.Core.Path.{◌≡◌, refl, sym, ap, ap₂, ◌∙◌}
-use Prim.Native.Nat.{ℕ, ◌+◌, ◌-◌, ◌*◌, ◌≤◌, ◌<◌}
+use mathlib.Core.Path.{◌≡◌}
+use Prim.Native.Nat.{ℕ, ◌-◌, ◌*◌, ◌≤◌, ◌<◌}
 use mathlib.Core.List.{List}
 use lib.ListN.{length, take, drop}
-use lib.Seq.{sets, take_all, drop-drop}
 use lib.Ieee.{Float}
 use Rattle.math.specs.declared.vec3.Vec3.{Vec3}
 use Rattle.corners.specs.Corners.{in_turn}
 use Rattle.points.specs.Points.{vertex_at, words_of}
-use Rattle.points.proofs.PointLaws.{points_more, points_behind, point_behind}
 use Rattle.by_normals.specs.Normals.{pushed_of}
-use native.Mathlib.Omega.{arith}
-use borrow.Author.Rules.{rules}
 use Rattle.by_normals.proofs.moving.put_pushed.Given as goal
 
 pub record Pushing (vertices : List ℕ) (v : ℕ) (by : Float) (before points : List ℕ) (i : ℕ) : Type 0 where

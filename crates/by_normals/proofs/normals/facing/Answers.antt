@@ -1,5 +1,4 @@
 -- `normals::facing` meets its contract: what the operators on points ensure, put together.
-use borrow.Author.Rules.{rules}
 use mathlib.Core.Path.{ap, ap₂, ◌∙◌}
 use Rattle.math.specs.Vec3s.{cross_of, norm_of}
 use Rattle.by_normals.specs.Normals.{facing}

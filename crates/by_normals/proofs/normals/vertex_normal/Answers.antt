@@ -1,5 +1,4 @@
 -- `normals::vertex_normal` meets its contract: each way by its test.
-use borrow.Author.Rules.{rules}
 use mathlib.Core.Bool.{Bool, cond}
 use mathlib.Core.Path.{sym, ap, ◌∙◌}
 use Rattle.math.specs.Vec3s.{norm_of}

@@ -1,5 +1,4 @@
 -- `sums::add_at` meets its contract: the point read, the normal added, the sum stored.
-use borrow.Author.Rules.{rules}
 use mathlib.Core.Path.{ap, ◌∙◌}
 use Prim.Native.Nat.{◌*◌}
 use lib.Seq.{sets}

@@ -1,5 +1,4 @@
 -- `sums::add_triangle` meets its contract: nothing is added of a triangle without a corner, else the normal at each of the three.
-use borrow.Author.Rules.{rules}
 use mathlib.Core.Path.{ap, ◌∙◌}
 use Prim.Native.Nat.{ℕ, ◌*◌}
 use Rattle.math.specs.declared.vec3.Vec3.{Vec3}
@@ -18,7 +17,7 @@ stored ws n i = sets ws (3 * i) (words_of (add_of (vertex_at ws i) n))
 
 pub returns-then-a-v : goal.returns-then-a-v
 returns-then-a-v c =
-    let whole : Placed =     placed_of c.args.corners.now c.args.vertices.now c.args.v c.args.center c.args.transform in
+    let whole : Placed = placed_of c.args.corners.now c.args.vertices.now c.args.v c.args.center c.args.transform in
     none_added whole c.args.p c.args.points.now (first_gone whole c.args.p (omega (
       arith,
       c.wide-a.ensures,
@@ -26,7 +25,7 @@ returns-then-a-v c =
 
 pub returns-then-b-v : goal.returns-then-b-v
 returns-then-b-v c =
-    let whole : Placed =     placed_of c.args.corners.now c.args.vertices.now c.args.v c.args.center c.args.transform in
+    let whole : Placed = placed_of c.args.corners.now c.args.vertices.now c.args.v c.args.center c.args.transform in
     none_added whole c.args.p c.args.points.now
     (second_gone whole c.args.p (omega (arith, c.wide-a.ensures)) (omega (
       arith,
@@ -35,7 +34,7 @@ returns-then-b-v c =
 
 pub returns-then-c-v : goal.returns-then-c-v
 returns-then-c-v c =
-    let whole : Placed =     placed_of c.args.corners.now c.args.vertices.now c.args.v c.args.center c.args.transform in
+    let whole : Placed = placed_of c.args.corners.now c.args.vertices.now c.args.v c.args.center c.args.transform in
     none_added whole c.args.p c.args.points.now
     (third_gone whole c.args.p (omega (arith, c.wide-a.ensures)) (omega (
       arith,
@@ -72,7 +71,7 @@ add_at-requires-3 c =
 pub returns : goal.returns
 unfolding triangle_normal
 returns c =
-    let whole : Placed =     placed_of c.args.corners.now c.args.vertices.now c.args.v c.args.center c.args.transform in
+    let whole : Placed = placed_of c.args.corners.now c.args.vertices.now c.args.v c.args.center c.args.transform in
     let a = c.args in
     let n = c.facing-n.result in
     let x = c.wide-a.ensures in

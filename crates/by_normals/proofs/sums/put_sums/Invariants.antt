@@ -1,13 +1,10 @@
 -- `sums::put_sums` meets its contract. The loop's invariant: the points hold the sums of the polygons before p.
-use mathlib.Core.Path.{◌≡◌, refl, subst, ◌∙◌}
-use Prim.Native.Nat.{ℕ, ◌+◌, ◌-◌, ◌*◌, ◌≤◌}
+use mathlib.Core.Path.{◌≡◌}
+use Prim.Native.Nat.{ℕ, ◌-◌, ◌*◌, ◌≤◌}
 use mathlib.Core.List.{List}
 use lib.ListN.{length}
 use Rattle.by_normals.specs.Normals.{Placed, placed_of}
-use Rattle.by_normals.specs.Steps.Sums.{Sums, Placeable}
-use Rattle.by_normals.proofs.SumLaws.{sums_begin}
-use native.Mathlib.Omega.{arith}
-use borrow.Author.Rules.{rules}
+use Rattle.by_normals.specs.Steps.Sums.{Sums}
 use Rattle.by_normals.proofs.sums.put_sums.Given as goal
 
 pub record Summing (g : Placed) (n : ℕ) (before points : List ℕ) (p : ℕ) : Type 0 where

@@ -1,5 +1,5 @@
 -- `put_items`, by the invariant `Making`.
-use Rattle.core.specs.Prelude.{◌≡◌, ◌-◌, ◌≤◌}
+use Rattle.std.specs.Prelude.{◌≡◌, ◌-◌, ◌≤◌}
 use mathlib.Core.Path.{sym, ◌∙◌}
 use Rattle.composite.specs.Trees.{child_items}
 use Rattle.composite.proofs.ItemLaws.{length_items, item_at, Making, start, one_more}

@@ -1,5 +1,5 @@
 -- `lines::put_node_lines` meets its contract: the lines of the first i records are put.
-use Rattle.core.specs.Prelude.{ℕ, ◌-◌, ◌*◌, List}
+use Rattle.std.specs.Prelude.{ℕ, ◌-◌, ◌*◌, List}
 use mathlib.Core.Path.{ap}
 use Rattle.records.specs.Records.{node_at}
 use Rattle.listing.specs.Lines.{node_line, node_lines}

@@ -1,5 +1,5 @@
 -- `lines::put_tree_lines` meets its contract: the lines of the first i records are put.
-use Rattle.core.specs.Prelude.{ℕ, ◌-◌, ◌*◌, List}
+use Rattle.std.specs.Prelude.{ℕ, ◌-◌, ◌*◌, List}
 use mathlib.Core.Path.{ap}
 use Rattle.records.specs.Records.{tree_at}
 use Rattle.listing.specs.Lines.{tree_line, tree_lines}

@@ -1,6 +1,6 @@
 -- `list::put_children` meets its contract: the entries hold the child boxes, their build is not refused, and what it writes is listed.
 use borrow.Author.Rules.{rules}
-use Rattle.core.specs.Prelude.{◌/◌, length, replicate}
+use Rattle.std.specs.Prelude.{◌/◌, length, replicate}
 use mathlib.Core.Path.{ap, ◌∙◌}
 use Rattle.bvh.specs.Entry.{entries_in, Outputs, outputs}
 use Rattle.listing.specs.Listing.{children_of}
@@ -11,11 +11,10 @@ use native.Mathlib.Omega.{arith}
 use Rattle.listing.proofs.list.put_children.Goals as goal
 
 pub returns-in_default : goal.returns-in_default
-unfolding start
 returns-in_default c =
     let written : Outputs = 
-        let last = c.build_core-built.new.1.1.1.1 in
-        outputs last.0 last.1.0 last.1.1.0 in
+        let last = c.build_core-built.new in
+        outputs last.node_bytes last.tree_bytes last.order in
     let left : Made (children_of c.args.input.now) c.build_core-built.result (outputs (replicate 8208 0) (replicate 8208 0) (replicate 256 0)) written = 
         let input = c.args.input.now in
         let n = length input / 32 in
@@ -34,14 +33,13 @@ returns-in_default c =
           centres_room = omega arith;
         })
         c.build_core-built.ensures in
-    absurd (made_not _ left _ c.enum_told-1.given.1)
+    absurd (made_not _ left c.in_default.field-0 c.in_default.is)
 
 pub put_records-requires : goal.put_records-requires
-unfolding start
 put_records-requires c =
     let written : Outputs = 
-        let last = c.build_core-built.new.1.1.1.1 in
-        outputs last.0 last.1.0 last.1.1.0 in
+        let last = c.build_core-built.new in
+        outputs last.node_bytes last.tree_bytes last.order in
     let left : Made (children_of c.args.input.now) c.build_core-built.result (outputs (replicate 8208 0) (replicate 8208 0) (replicate 256 0)) written = 
         let input = c.args.input.now in
         let n = length input / 32 in
@@ -63,18 +61,17 @@ put_records-requires c =
     let e = children_of c.args.input.now in
     let m = left in
     let kept = c.build_core-built.auto in
-    let tree = c.built-1.given in
-    let nodes = nodes_few e m tree.0.0 tree.1 in
-    let capacity = capacity_few e m tree.0.0 tree.1 in
-    let trees = trees_few e m tree.0.0 tree.1 in
+    let tree = c.in-Built in
+    let nodes = nodes_few e m tree.tree tree.is in
+    let capacity = capacity_few e m tree.tree tree.is in
+    let trees = trees_few e m tree.tree tree.is in
     (c.requires.0, omega arith, omega arith, omega arith, omega arith, omega arith)
 
 pub returns : goal.returns
-unfolding start
 returns c =
     let written : Outputs = 
-        let last = c.build_core-built.new.1.1.1.1 in
-        outputs last.0 last.1.0 last.1.1.0 in
+        let last = c.build_core-built.new in
+        outputs last.node_bytes last.tree_bytes last.order in
     let left : Made (children_of c.args.input.now) c.build_core-built.result (outputs (replicate 8208 0) (replicate 8208 0) (replicate 256 0)) written = 
         let input = c.args.input.now in
         let n = length input / 32 in
@@ -93,6 +90,6 @@ returns c =
           centres_room = omega arith;
         })
         c.build_core-built.ensures in
-    let tree = c.built-1.given in
-    let text = made_listed (children_of c.args.input.now) left tree.0.0 tree.1 in
+    let tree = c.in-Built in
+    let text = made_listed (children_of c.args.input.now) left tree.tree tree.is in
     put_as text (omega arith) c.put_records.ensures

@@ -1,6 +1,6 @@
 -- `text::put_field` meets its contract: a space, and the number after it.
 use borrow.Author.Rules.{rules}
-use Rattle.core.specs.Prelude.{◌∷◌, ℤ}
+use Rattle.std.specs.Prelude.{◌∷◌, ℤ}
 use mathlib.Core.Path.{ap}
 use mir.Facts.{to_z-of_z}
 use Rattle.listing.specs.Text.{signed, field}

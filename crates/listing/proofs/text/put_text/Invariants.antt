@@ -1,5 +1,5 @@
 -- `text::put_text` meets its contract: the first i bytes are copied.
-use Rattle.core.specs.Prelude.{◌-◌, length}
+use Rattle.std.specs.Prelude.{◌-◌, length}
 use mathlib.Core.Path.{refl}
 use Rattle.listing.proofs.Putting.{Copied, copy_next, copied_all}
 use native.Mathlib.Omega.{arith}

@@ -1,5 +1,4 @@
 -- `box_of`: both corners, word by word.
-use borrow.Author.Rules.{rules}
 use Rattle.meshes.proofs.checking.box_of.Goals as goal
 
 pub returns : goal.returns

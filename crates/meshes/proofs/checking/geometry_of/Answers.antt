@@ -1,5 +1,4 @@
 -- `geometry_of`: the box as floats, and the rest as it is.
-use borrow.Author.Rules.{rules}
 use Rattle.meshes.proofs.checking.geometry_of.Goals as goal
 
 pub returns : goal.returns

@@ -1,5 +1,4 @@
 -- `geometry_refusal`: the other kind is refused first.
-use borrow.Author.Rules.{rules}
 use mathlib.Core.Path.{◌∙◌}
 use borrow.Author.Tests.{eq-eqb, ne_eqb}
 use Rattle.meshes.specs.Checks.{geometry_check}

@@ -2,7 +2,6 @@
 use mathlib.Core.Path.{ap, ◌∙◌}
 use borrow.Author.Tests.{eq-eqb, ne_eqb, lt-ltb, le-ltb}
 use Rattle.shrinking.specs.Whole.{infinite_start}
-use borrow.Author.Rules.{rules}
 use Rattle.meshes.proofs.checking.margin_endless.Goals as goal
 
 pub returns-then-v-gt0 : goal.returns-then-v-gt0

@@ -1,9 +1,7 @@
 -- `refusal`: the tests are the definition's, in its order (CheckLaws).
 use native.Mathlib.Omega.{arith}
-use mathlib.Core.Path.{sym, ap, ◌∙◌}
-use borrow.Author.Tests.{not-true, not-false}
+use mathlib.Core.Path.{sym, ◌∙◌}
 use Rattle.meshes.proofs.CheckLaws as laws
-use borrow.Author.Rules.{rules}
 use Rattle.meshes.proofs.checking.refusal.Goals as goal
 
 pub returns-then-not-kind_known : goal.returns-then-not-kind_known

@@ -1,9 +1,8 @@
 -- `refusal_within`: the tests are the definition's, in its order (CheckLaws).
 use mathlib.Core.Path.{sym, ap, ◌∙◌}
-use borrow.Author.Tests.{not-true, not-false, lt-ltb, le-ltb}
+use borrow.Author.Tests.{lt-ltb, le-ltb}
 use lib.Dec.{ltb}
 use Rattle.meshes.proofs.CheckLaws.{unknown_polygon, too_full, no_end, all_well}
-use borrow.Author.Rules.{rules}
 use Rattle.meshes.proofs.checking.refusal_within.Goals as goal
 
 pub returns-then-not-kinds_known : goal.returns-then-not-kinds_known

@@ -1,7 +1,6 @@
 -- `too_short`: part by part, in the order of the definition.
 use mathlib.Core.Path.{sym, ◌∙◌}
 use Rattle.meshes.proofs.CheckLaws.{at_inputs, at_lists, at_hull, at_tree, at_words, at_floats}
-use borrow.Author.Rules.{rules}
 use Rattle.meshes.proofs.checking.too_short.Goals as goal
 
 pub returns-then-inputs_short : goal.returns-then-inputs_short

@@ -1,17 +1,12 @@
 -- `clamp::clamp_points` meets its contract. The loop's invariant: the points before i are clamped, and those from i on are as they were.
-use mathlib.Core.Path.{◌≡◌, refl, sym, ap, ◌∙◌}
-use Prim.Native.Nat.{ℕ, ◌+◌, ◌-◌, ◌*◌, ◌≤◌, ◌<◌}
+use mathlib.Core.Path.{◌≡◌}
+use Prim.Native.Nat.{ℕ, ◌-◌, ◌*◌, ◌≤◌}
 use mathlib.Core.List.{List}
 use lib.ListN.{length, take, drop}
-use lib.Seq.{sets, take_all, drop-drop}
 use Rattle.math.specs.declared.aabb.Aabb.{Aabb}
-use Rattle.math.specs.declared.vec3.Vec3.{Vec3}
-use native.Mathlib.Omega.{arith}
 use Rattle.corners.specs.Corners.{in_turn}
 use Rattle.points.specs.Points.{vertex_at, words_of}
-use Rattle.shrink.specs.Clamping.{clamp_of, clamped_words}
-use Rattle.points.proofs.PointLaws.{points_more, points_behind, point_behind}
-use borrow.Author.Rules.{rules}
+use Rattle.shrink.specs.Clamping.{clamp_of}
 use Rattle.shrink.proofs.clamp.clamp_points.Given as goal
 
 pub record Going (before : List ℕ) (v : ℕ) (b : Aabb) (points : List ℕ) (i : ℕ) : Type 0 where

@@ -4,7 +4,6 @@ use Rattle.math.specs.declared.vec3.Vec3.{Vec3}
 use lib.Ieee.{Float, neg}
 use Rattle.math.specs.Vec3s.{sub_of, vadd_of}
 use Rattle.shrink.specs.Clamping.{inset_of}
-use borrow.Author.Rules.{rules}
 use Rattle.shrink.proofs.clamp.inset.Goals as goal
 
 pub returns : goal.returns

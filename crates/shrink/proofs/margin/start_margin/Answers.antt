@@ -5,7 +5,6 @@ use Rattle.float32.specs.Extremes.{min_number_of}
 use Rattle.math.specs.Vec3s.{abs_of, scale_of}
 use Rattle.math.specs.Transform.{half}
 use Rattle.shrink.specs.Margins.{start_of}
-use borrow.Author.Rules.{rules}
 use Rattle.shrink.proofs.margin.start_margin.Goals as goal
 
 pub returns : goal.returns

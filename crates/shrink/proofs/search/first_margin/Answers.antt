@@ -1,15 +1,10 @@
 -- `search::first_margin` meets its contract. The loop's invariant: the turns that are left, from the present margin on, answer what all 148 do.
 use mathlib.Core.Path.{◌≡◌, refl, sym, ap, ◌∙◌}
-use Prim.Native.Nat.{ℕ, ◌-◌}
-use mathlib.Core.List.{List}
-use lib.ListN.{length}
-use lib.Ieee.{Float}
-use borrow.Author.Tests.{not-true, not-false}
-use Rattle.rings.specs.Meshes.{Mesh, mesh_of}
+use Prim.Native.Nat.{ℕ}
+use Rattle.rings.specs.Meshes.{mesh_of}
 use Rattle.trial.specs.Trials.{passes_at}
 use Rattle.trial.proofs.TrialLaws.{tryable_again}
 use Rattle.shrink.specs.Margins.{passing}
-use Rattle.shrink.specs.Searching.{margin_of}
 use Rattle.shrink.proofs.SearchLaws.{too_small, found, halves, none_found, one_found}
 use native.Mathlib.Omega.{arith}
 use Rattle.shrink.proofs.search.first_margin.Goals as goal
@@ -37,8 +32,7 @@ returns-then-tried c =
     let test = passes_at (mesh_of a.corners.now a.links.now a.n a.vertices.now a.v) in
     let tried = c.try_margin-tried.ensures in
     one_found _ l.margin (tried.points_are c.if-tried.true) (found test l.margin l.left
-    c.loop-left-test.true (not-false _
-    c.if-not-above.false)
+    c.loop-left-test.true c.if-not-above.false
     (sym tried.answer ∙ c.if-tried.true) ∙ l.invariant.rest)
 
 pub overflow_sub-left : goal.overflow_sub-left
@@ -53,12 +47,12 @@ loop-left-preserved c =
     c.args in
     let l = c.loop-left in
     let test = passes_at (mesh_of a.corners.now a.links.now a.n a.vertices.now a.v) in
-    let kept = c.try_margin-tried.auto.1.1.1.1.1.1.1.1.1.1.1.1.1 in
+    let kept = c.try_margin-tried.auto in
     record {
-      ring-length = kept.0 ∙ l.invariant.ring-length;
-      ns-length = kept.1.0 ∙ l.invariant.ns-length;
-      news-length = kept.1.1.0 ∙ l.invariant.news-length;
-      points-length = kept.1.1.1.0 ∙ l.invariant.points-length;
+      ring-length = kept.ring ∙ l.invariant.ring-length;
+      ns-length = kept.ns ∙ l.invariant.ns-length;
+      news-length = kept.news ∙ l.invariant.news-length;
+      points-length = kept.points ∙ l.invariant.points-length;
       rest =
           halves test l.margin l.left c.loop-left-test.true c.if-not-above.false
           (sym c.try_margin-tried.ensures.answer ∙ c.if-tried.false) ∙ l.invariant.rest;

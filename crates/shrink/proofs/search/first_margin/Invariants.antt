@@ -1,17 +1,13 @@
 -- `search::first_margin` meets its contract. The loop's invariant: the turns that are left, from the present margin on, answer what all 148 do.
-use mathlib.Core.Path.{◌≡◌, refl, sym, ap, ◌∙◌}
-use Prim.Native.Nat.{ℕ, ◌-◌}
+use mathlib.Core.Path.{◌≡◌}
+use Prim.Native.Nat.{ℕ}
 use mathlib.Core.List.{List}
 use lib.ListN.{length}
 use lib.Ieee.{Float}
-use borrow.Author.Tests.{not-true, not-false}
 use Rattle.rings.specs.Meshes.{Mesh, mesh_of}
 use Rattle.trial.specs.Trials.{passes_at}
-use Rattle.trial.proofs.TrialLaws.{tryable_again}
 use Rattle.shrink.specs.Margins.{passing}
 use Rattle.shrink.specs.Searching.{margin_of}
-use Rattle.shrink.proofs.SearchLaws.{too_small, found, halves, none_found, one_found}
-use native.Mathlib.Omega.{arith}
 use Rattle.shrink.proofs.search.first_margin.Given as goal
 
 pub record Going (mesh : Mesh) (start : Float) (ring₀ : List ℕ) (ns₀ news₀ : List Float) (points₀ ring : List ℕ) (ns news : List Float)
@@ -23,7 +19,7 @@ pub record Going (mesh : Mesh) (start : Float) (ring₀ : List ℕ) (ns₀ news�
   pub rest : passing (passes_at mesh) left margin ≡ margin_of mesh start
 
 abbrev pub invariant-loop-left : goal.invariant-loop-left
-invariant-loop-left l =     Going (mesh_of l.corners l.links l.n l.vertices l.v) l.start l.initial.ring l.initial.ns l.initial.news l.initial.points l.ring l.ns l.news l.points l.margin l.left
+invariant-loop-left l = Going (mesh_of l.corners l.links l.n l.vertices l.v) l.start l.initial.ring l.initial.ns l.initial.news l.initial.points l.ring l.ns l.news l.points l.margin l.left
 
 abbrev pub decreases-loop-left : goal.decreases-loop-left
 decreases-loop-left l = l.left

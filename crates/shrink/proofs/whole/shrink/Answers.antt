@@ -1,5 +1,4 @@
 -- `whole::shrink` meets its contract: normals, first sides and what every check has in common, then the search, and where a margin passes the clamp.
-use borrow.Author.Rules.{rules}
 use mathlib.Core.Path.{◌∙◌}
 use Rattle.shrink.proofs.WholeLaws.{tryable, none_shrunk, one_shrunk}
 use Rattle.shrink.proofs.whole.shrink.Goals as goal
@@ -13,7 +12,7 @@ first_margin-found-requires c =
     c.put_normals.ensures _ c.begin-bad.ensures
 
 pub returns-in_default : goal.returns-in_default
-returns-in_default c = none_shrunk c.args.bound c.first_margin-found.ensures c.start_margin-start.ensures _ c.enum_told-1.given.1
+returns-in_default c = none_shrunk c.args.bound c.first_margin-found.ensures c.start_margin-start.ensures _ c.in_default.is
 
 pub clamp_points-requires : goal.clamp_points-requires
 clamp_points-requires c = c.first_margin-found.auto.points ∙ c.requires.size
@@ -22,6 +21,6 @@ pub returns : goal.returns
 returns c =
     one_shrunk c.args.bound
     c.first_margin-found.ensures
-    c.start_margin-start.ensures c.found-1.given.0.0
-    c.found-1.given.1 _
+    c.start_margin-start.ensures c.in-Passed.margin
+    c.in-Passed.is _
     c.inset.ensures _ c.clamp_points.ensures

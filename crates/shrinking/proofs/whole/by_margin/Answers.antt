@@ -1,5 +1,4 @@
 -- `whole::by_margin` meets its contract: what rules S1 to S8 ask, by the laws of WholeLaws.
-use borrow.Author.Rules.{rules}
 use Rattle.shrinking.proofs.WholeLaws.{shrinkable}
 use native.Mathlib.Omega.{arith}
 use Rattle.shrinking.proofs.whole.by_margin.Goals as goal

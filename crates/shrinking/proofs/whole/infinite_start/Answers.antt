@@ -1,5 +1,4 @@
 -- `whole::infinite_start` meets its contract: the start, compared with the float of +infinity.
-use borrow.Author.Rules.{rules}
 use mathlib.Core.Path.{ap₂}
 use lib.Ieee.{eq}
 use Rattle.shrinking.specs.Whole.{infinite_start}

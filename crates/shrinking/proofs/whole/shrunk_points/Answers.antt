@@ -1,6 +1,5 @@
 -- `whole::shrunk_points` meets its contract: a margin passed, or the vertices are moved by their normals.
-use borrow.Author.Rules.{rules}
-use mathlib.Core.Path.{subst, ◌∙◌}
+use mathlib.Core.Path.{subst}
 use Rattle.rings.specs.Meshes.{Mesh, mesh_of}
 use Rattle.shrink.specs.Shrinking.{Shrunk}
 use Rattle.shrink.specs.declared.whole.Bound.{Bound}
@@ -16,11 +15,11 @@ returns-in_default c =
     let whole : Mesh = mesh_of c.args.corners.now c.args.links.now c.args.n c.args.vertices.now c.args.v in
     let r = c.by_margin-found in
     let shrunk = subst (λ (b : Bound). Shrunk b whole r.new.points r.result) c.bound_of.ensures r.ensures in
-    none_passed c.args.geometry whole shrunk _ c.enum_told-1.given.1 c.by_normals.ensures
+    none_passed c.args.geometry whole shrunk _ c.in_default.is c.by_normals.ensures
 
 pub returns : goal.returns
 returns c =
     let whole : Mesh = mesh_of c.args.corners.now c.args.links.now c.args.n c.args.vertices.now c.args.v in
     let r = c.by_margin-found in
     let shrunk = subst (λ (b : Bound). Shrunk b whole r.new.points r.result) c.bound_of.ensures r.ensures in
-    passed c.args.geometry whole shrunk c.found-1.given.0.0 c.found-1.given.1
+    passed c.args.geometry whole shrunk c.in-Passed.margin c.in-Passed.is

@@ -1,5 +1,4 @@
 -- `pair::item_at` meets its contract: each way back is one case of `item_at`.
-use borrow.Author.Rules.{rules}
 use mathlib.Core.Path.{◌∙◌}
 use borrow.Author.Tests.{eq-eqb, ne_eqb}
 use Rattle.tree.proofs.pair.item_at.Goals as goal

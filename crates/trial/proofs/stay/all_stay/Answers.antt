@@ -1,9 +1,8 @@
 -- `stay::all_stay` meets its contract. The loop's invariant: the words of the vertices before i are written, and none of these moved.
 use mathlib.Core.Path.{◌≡◌, refl, sym, ap, ◌∙◌}
-use mathlib.Core.Bool.{true, true≢false}
-use Prim.Native.Nat.{ℕ, ◌+◌, ◌-◌, ◌*◌, ◌≤◌, ◌<◌}
-use mathlib.Core.List.{List}
-use lib.ListN.{length, take}
+use mathlib.Core.Bool.{true≢false}
+use Prim.Native.Nat.{ℕ, ◌+◌, ◌*◌, ◌<◌}
+use lib.ListN.{take}
 use lib.Seq.{sets, take_all}
 use lib.Ieee.{Float, neg}
 use Rattle.math.specs.declared.vec3.Vec3.{Vec3}
@@ -13,11 +12,10 @@ use Rattle.rays.specs.Steps.Counting.{none_to}
 use Rattle.rays.proofs.CountLaws.{none_next, some_at}
 use Rattle.points.specs.Points.{words_of}
 use Rattle.points.proofs.PointLaws.{points_more}
-use Rattle.rings.specs.Meshes.{Mesh, mesh_of, shrunk_at, by_margin}
+use Rattle.rings.specs.Meshes.{mesh_of, shrunk_at, by_margin}
 use Rattle.rings.proofs.VertexLaws.{movable_again}
 use Rattle.trial.proofs.StayLaws.{compared}
 use native.Mathlib.Omega.{arith}
-use borrow.Author.Rules.{rules}
 use Rattle.trial.proofs.stay.all_stay.Goals as goal
 
 pub loop-i-init : goal.loop-i-init

@@ -1,23 +1,15 @@
 -- `stay::all_stay` meets its contract. The loop's invariant: the words of the vertices before i are written, and none of these moved.
-use mathlib.Core.Path.{◌≡◌, refl, sym, ap, ◌∙◌}
-use mathlib.Core.Bool.{true, true≢false}
-use Prim.Native.Nat.{ℕ, ◌+◌, ◌-◌, ◌*◌, ◌≤◌, ◌<◌}
+use mathlib.Core.Path.{◌≡◌}
+use mathlib.Core.Bool.{true}
+use Prim.Native.Nat.{ℕ, ◌-◌, ◌*◌, ◌≤◌}
 use mathlib.Core.List.{List}
 use lib.ListN.{length, take}
-use lib.Seq.{sets, take_all}
 use lib.Ieee.{Float, neg}
-use Rattle.math.specs.declared.vec3.Vec3.{Vec3}
 use Rattle.corners.specs.Corners.{in_turn}
 use Rattle.rays.specs.Steps.Checking.{moved_in}
 use Rattle.rays.specs.Steps.Counting.{none_to}
-use Rattle.rays.proofs.CountLaws.{none_next, some_at}
 use Rattle.points.specs.Points.{words_of}
-use Rattle.points.proofs.PointLaws.{points_more}
 use Rattle.rings.specs.Meshes.{Mesh, mesh_of, shrunk_at, by_margin}
-use Rattle.rings.proofs.VertexLaws.{movable_again}
-use Rattle.trial.proofs.StayLaws.{compared}
-use native.Mathlib.Omega.{arith}
-use borrow.Author.Rules.{rules}
 use Rattle.trial.proofs.stay.all_stay.Given as goal
 
 pub record Staying (mesh : Mesh) (margin by : Float) (ring₀ : List ℕ) (ns₀ : List Float) (points₀ ring : List ℕ) (ns : List Float) (points : List ℕ)
@@ -32,7 +24,7 @@ pub record Staying (mesh : Mesh) (margin by : Float) (ring₀ : List ℕ) (ns₀
   pub still : none_to i (moved_in mesh.vertices (by_margin mesh margin)) ≡ true
 
 abbrev pub invariant-loop-i : goal.invariant-loop-i
-invariant-loop-i l =     Staying (mesh_of l.corners l.links l.n l.vertices l.v) l.margin l.by l.initial.ring l.initial.ns l.initial.points l.ring l.ns l.points l.i
+invariant-loop-i l = Staying (mesh_of l.corners l.links l.n l.vertices l.v) l.margin l.by l.initial.ring l.initial.ns l.initial.points l.ring l.ns l.points l.i
 
 abbrev pub decreases-loop-i : goal.decreases-loop-i
 decreases-loop-i l = l.v - l.i

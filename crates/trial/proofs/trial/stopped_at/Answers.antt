@@ -1,5 +1,4 @@
 -- `trial::stopped_at` meets its contract: a vertex that is stopped by a triangle as it was fails, whatever became of the others.
-use borrow.Author.Rules.{rules}
 use mathlib.Core.Path.{sym}
 use mathlib.Core.Bool.{true≢false}
 use Rattle.trial.proofs.TrialLaws.{stoppable, one_stops}
@@ -14,6 +13,7 @@ stopped-requires c = (
   stoppable c.requires _ c.put_point.auto.points,
   omega
       (arith, c.if-v-hint.false),
+)
 
 pub returns : goal.returns
 returns c =

@@ -1,5 +1,4 @@
 -- `trial::try_good` meets its contract: the hint's vertex alone shows that the margin fails, or the check of all the points decides.
-use borrow.Author.Rules.{rules}
 use mathlib.Core.Path.{refl, sym, ◌∙◌}
 use mathlib.Core.Bool.{true≢false}
 use Rattle.rings.proofs.VertexLaws.{movable_again}
@@ -20,8 +19,8 @@ pub by_margin-requires : goal.by_margin-requires
 by_margin-requires c =
     let pre =
     c.requires in
-    let kept = c.stopped_at.auto.1.1.1.1.1.1.1.1.1.1.1.1 in
-    (movable_again pre.movable _ _ kept.0 kept.1.0, kept.1.1.0 ∙ pre.size)
+    let kept = c.stopped_at.auto in
+    (movable_again pre.movable _ _ kept.ring kept.ns, kept.points ∙ pre.size)
 
 pub check_shrunk-requires : goal.check_shrunk-requires
 check_shrunk-requires c =

@@ -1,5 +1,4 @@
 -- `trial::try_margin` meets its contract: with a corner missing the vertices that stay decide, else the trial of a mesh without one.
-use borrow.Author.Rules.{rules}
 use mathlib.Core.Bool.{Bool}
 use mathlib.Core.Path.{subst}
 use Rattle.rings.specs.Meshes.{mesh_of}

@@ -1,6 +1,6 @@
 -- `two::build_two` meets its contract: a walk of its MIR, by hand. The two items are made an array, which is lent to `entry::build_bvh` as a slice and
 -- comes back; every other slice is given to it for good.
-use Rattle.core.specs.Prelude.{◌≡◌, ℕ, List, [], ◌∷◌, length}
+use Rattle.std.specs.Prelude.{◌≡◌, ℕ, List, [], ◌∷◌, length}
 use mathlib.Core.Path.{refl}
 use lib.Dec.{lit<}
 use lib.Ieee.{Float}
@@ -47,11 +47,11 @@ use denote.Triple.Walked.{says, Stays, walk_of, Walks, ends_at, walked, walk_Mee
 use denote.Triple.Clauses.{Lasts, ensured, lasts}
 use borrow.Rule.Array.Init.{part_room}
 use Rattle.records.proofs.HandWalk.{all_passed, all_go}
-use Rattle.bvh.specs.declared.core.Build.{Build}
+use Rattle.bvh.specs.declared.slices.Build.{Build}
 use Rattle.bvh.specs.declared.items.BvhItem.{BvhItem}
 use Rattle.bvh.specs.Entry.{entries_of, outputs, lent, lengths_of, Answered}
-use Rattle.bvh.specs.contracts.core.Build as B
-use Rattle.bvh.proofs.core.Build.TheLaws as B'
+use Rattle.bvh.specs.contracts.slices.Build as B
+use Rattle.bvh.proofs.slices.Build.TheLaws as B'
 use Rattle.bvh.specs.contracts.items.BvhItem as T
 use Rattle.bvh.proofs.items.BvhItem.TheLaws as T'
 use Rattle.bvh.specs.contracts.entry.build_bvh as g

@@ -2,7 +2,7 @@
 use Rattle.two_items.proofs.two.put_bytes.Reads as reads
 use Rattle.two_items.proofs.two.put_bytes.Lts as lts
 use Rattle.two_items.proofs.two.put_byte.Reads as put-byte-reads
-use Rattle.core.specs.Prelude.{◌-◌, ◌≤◌, length}
+use Rattle.std.specs.Prelude.{◌-◌, ◌≤◌, length}
 use borrow.Author.Rules.{rules}
 use Rattle.two_items.proofs.two.put_bytes.Given as goal
 

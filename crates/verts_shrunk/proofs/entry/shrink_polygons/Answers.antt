@@ -1,7 +1,6 @@
 -- `entry::shrink_polygons` meets its contract: the mesh of the records, by the laws of Meshing.
-use borrow.Author.Rules.{rules}
 use Prim.Native.Nat.{◌*◌}
-use mathlib.Core.Path.{sym, ◌∙◌}
+use mathlib.Core.Path.{sym}
 use lib.Seq.{length-take-le}
 use Rattle.verts_shrunk.proofs.entry.Meshing.{length_unpacked, linkable, meshed, of_records}
 use native.Mathlib.Omega.{arith}

@@ -1,8 +1,7 @@
 -- `entry::shrunk_by` meets its contract: each case of the margin.
-use borrow.Author.Rules.{rules}
 use mathlib.Core.Path.{sym, ap}
 use Rattle.verts_shrunk.specs.Answers.{shrunk_by}
 use Rattle.verts_shrunk.proofs.entry.shrunk_by.Goals as goal
 
 pub returns-in-Passed : goal.returns-in-Passed
-returns-in-Passed c = ap shrunk_by (sym c.m-1.given.1)
+returns-in-Passed c = ap shrunk_by (sym c.in-Passed.is)

@@ -1,5 +1,4 @@
 -- `entry::too_short` meets its contract: the tests are the definition's, in its order.
-use borrow.Author.Rules.{rules}
 use mathlib.Core.Path.{sym, ◌∙◌}
 use borrow.Author.Tests.{lt-ltb, le-ltb}
 use Rattle.verts_shrunk.specs.Answers.{short}

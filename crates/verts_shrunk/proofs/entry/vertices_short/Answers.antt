@@ -1,5 +1,4 @@
 -- `entry::vertices_short` meets its contract: the tests are the definition's, in its order.
-use borrow.Author.Rules.{rules}
 use borrow.Author.Tests.{lt-ltb, le-ltb}
 use Rattle.verts_shrunk.proofs.entry.vertices_short.Goals as goal
 

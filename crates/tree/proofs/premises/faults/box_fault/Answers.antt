@@ -1,5 +1,4 @@
 -- `faults::box_fault` meets its contract: one call a part of the definition.
-use borrow.Author.Rules.{rules}
 use mathlib.Core.Path.{ap, ◌∙◌}
 use Rattle.tree.specs.premises.Faults.{size_fault, box_fault}
 use Rattle.tree.proofs.premises.faults.box_fault.Goals as goal

@@ -1,5 +1,4 @@
 -- `faults::extent_fault` meets its contract: the half extents are those of the words' floats.
-use borrow.Author.Rules.{rules}
 use mathlib.Core.Path.{ap₂, ◌∙◌}
 use Rattle.math.specs.declared.vec3.Vec3.{Vec3}
 use Rattle.records.specs.Axis.{extent}

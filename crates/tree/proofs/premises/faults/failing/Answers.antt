@@ -1,5 +1,4 @@
 -- `faults::failing` meets its contract: the tests are the definition's, in its order.
-use borrow.Author.Rules.{rules}
 use Rattle.tree.specs.premises.Faults.{failing}
 use Rattle.tree.proofs.premises.faults.failing.Goals as goal
 

@@ -1,5 +1,4 @@
 -- `faults::half_extent` meets its contract: what the calls ensure is the half extent.
-use borrow.Author.Rules.{rules}
 use mathlib.Core.Path.{ap₂, ◌∙◌}
 use Rattle.float32.specs.Extremes.{vmax_of}
 use Rattle.tree.proofs.premises.faults.half_extent.Goals as goal

@@ -1,5 +1,4 @@
 -- `faults::order_fault` meets its contract: the floats compared are the words'.
-use borrow.Author.Rules.{rules}
 use mathlib.Core.Path.{ap₂, ◌∙◌}
 use lib.Ieee.{le}
 use Rattle.math.specs.declared.vec3.Vec3.{Vec3}

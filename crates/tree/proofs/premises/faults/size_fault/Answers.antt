@@ -1,5 +1,4 @@
 -- `faults::size_fault` meets its contract: one call an axis.
-use borrow.Author.Rules.{rules}
 use mathlib.Core.Path.{◌∙◌}
 use Rattle.tree.specs.premises.Faults.{failing, size_fault}
 use Rattle.tree.proofs.premises.faults.size_fault.Goals as goal

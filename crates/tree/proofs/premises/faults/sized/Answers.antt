@@ -1,5 +1,4 @@
 -- `faults::sized` meets its contract: the word it compares with is that of 2^100.
-use borrow.Author.Rules.{rules}
 use mathlib.Core.Path.{ap, ap₂, ◌∙◌}
 use lib.Ieee.{le}
 use Rattle.float32.specs.Signs.{abs_of}

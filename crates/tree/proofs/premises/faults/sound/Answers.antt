@@ -1,5 +1,4 @@
 -- `faults::sound` meets its contract: the word it compares with is that of 2^-100.
-use borrow.Author.Rules.{rules}
 use Rattle.std.specs.Prelude.{◌≡◌, true, false}
 use mathlib.Core.Path.{sym, ap, ◌∙◌}
 use lib.Ieee.{Float, of_bits, le, eq}

@@ -1,5 +1,4 @@
 -- `faults::sound_between` meets its contract.
-use borrow.Author.Rules.{rules}
 use mathlib.Core.Path.{ap, ◌∙◌}
 use Rattle.tree.specs.premises.Faults.{sound}
 use Rattle.tree.proofs.premises.faults.sound_between.Goals as goal

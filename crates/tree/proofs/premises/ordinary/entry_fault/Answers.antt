@@ -1,5 +1,4 @@
 -- `ordinary::entry_fault` meets its contract: by its mark.
-use borrow.Author.Rules.{rules}
 use mathlib.Core.Path.{ap, ◌∙◌}
 use Rattle.tree.proofs.premises.Passing.{unmarked, is_marked_lem}
 use Rattle.tree.specs.premises.Faults.{box_fault}

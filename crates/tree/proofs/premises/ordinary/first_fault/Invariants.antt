@@ -1,7 +1,6 @@
 -- `ordinary::first_fault` meets its contract. The loop's invariant, `Clean`: the entries before p break nothing.
 use Rattle.std.specs.Prelude.{◌-◌}
-use Rattle.tree.proofs.premises.Passing.{Clean, clean_begin, clean_next, clean_found, clean_end}
-use borrow.Author.Rules.{rules}
+use Rattle.tree.proofs.premises.Passing.{Clean}
 use Rattle.tree.proofs.premises.ordinary.first_fault.Given as goal
 
 abbrev pub invariant-loop-p : goal.invariant-loop-p

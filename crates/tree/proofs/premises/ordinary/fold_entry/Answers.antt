@@ -1,5 +1,4 @@
 -- `ordinary::fold_entry` meets its contract: by its mark.
-use borrow.Author.Rules.{rules}
 use mathlib.Core.Path.{ap, ◌∙◌}
 use Rattle.math.specs.Stored.{vmin_words_of, vmax_words_of}
 use Rattle.entries.specs.declared.boxes.BoxWords.{BoxWords}

@@ -1,8 +1,6 @@
 -- `ordinary::fold_present` meets its contract. The loop's invariant, `Folded`: the rest folded onto the box so far is the whole fold.
 use Rattle.std.specs.Prelude.{◌-◌}
-use Rattle.entries.specs.Folding.{fold_box}
-use Rattle.tree.proofs.premises.Passing.{Folded, folded_begin, folded_next, folded_end}
-use borrow.Author.Rules.{rules}
+use Rattle.tree.proofs.premises.Passing.{Folded}
 use Rattle.tree.proofs.premises.ordinary.fold_present.Given as goal
 
 abbrev pub invariant-loop-p : goal.invariant-loop-p

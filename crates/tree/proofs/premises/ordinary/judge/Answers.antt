@@ -1,5 +1,4 @@
 -- `ordinary::judge` meets its contract: the first entry that breaks the premises, else the box of all (Judging).
-use borrow.Author.Rules.{rules}
 use Rattle.tree.proofs.premises.Judging.{found_first, found_last}
 use Rattle.tree.proofs.premises.ordinary.judge.Goals as goal
 

@@ -1,5 +1,4 @@
 -- `ordinary::ordinary` meets its contract: Build's two refusals, else the judgement (Judging).
-use borrow.Author.Rules.{rules}
 use mathlib.Core.Path.{sym}
 use Rattle.std.specs.Prelude.{◌*◌}
 use lib.Seq.{length-take-le}

@@ -1,5 +1,5 @@
 -- What the outputs hold once a planted tree is written: the table's rows are the tree's, so the bytes are those of the definition.
-use Rattle.core.specs.Prelude.{◌≡◌, ℕ, ◌+◌, ◌-◌, ◌*◌, ◌<◌, ◌≤◌, List, [], ◌++◌, length, take, drop}
+use Rattle.std.specs.Prelude.{◌≡◌, ℕ, ◌+◌, ◌-◌, ◌*◌, ◌<◌, ◌≤◌, List, [], ◌++◌, length, take, drop}
 use native.Mathlib.Nat.{sub_self}
 use native.Mathlib.Omega.{arith}
 use mathlib.Core.List.{append-nil}
@@ -14,8 +14,8 @@ use Rattle.records.specs.declared.scale.Scale.{Scale}
 use Rattle.records.specs.Scale.{scale_of_box}
 use Rattle.entries.specs.Boxes.{box_at}
 use Rattle.entries.specs.declared.boxes.BoxWords.{BoxWords}
-use Rattle.bvh.specs.declared.core.Planted.{Planted}
-use Rattle.bvh.specs.declared.core.Task.{Task}
+use Rattle.bvh.specs.declared.slices.Planted.{Planted}
+use Rattle.bvh.specs.declared.slices.Task.{Task}
 use Rattle.bvh.specs.Build.{scale_in, tree_of, nodes_written, trees_written_by, order_written}
 use Rattle.bvh.specs.Entry.{Outputs, entries_in}
 use Rattle.bvh.specs.Items.{marked}
@@ -35,7 +35,7 @@ use Rattle.rows.proofs.SmallLaws.{small_rows}
 use Rattle.rows.proofs.TableLaws.{length_rows_in, table_is, rows_held}
 use Rattle.growth.proofs.GrowLaws.{leaf_order_within, grow_full}
 use Rattle.rows.proofs.TreeLaws.{length_rows}
-use Rattle.bvh.proofs.core.Planting.{marks_below}
+use Rattle.bvh.proofs.slices.Planting.{marks_below}
 
 -- ---- the node records and the padding
 

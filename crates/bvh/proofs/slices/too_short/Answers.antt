@@ -1,7 +1,7 @@
 -- `core::too_short` meets its contract: the tests are the definition's, in its order.
 use borrow.Author.Rules.{rules}
 use borrow.Author.Tests.{lt-ltb, le-ltb}
-use Rattle.bvh.proofs.core.too_short.Goals as goal
+use Rattle.bvh.proofs.slices.too_short.Goals as goal
 
 pub returns-then-l-rows : goal.returns-then-l-rows
 returns-then-l-rows c = rw (lt-ltb _ _ c.if-l-rows.true)

@@ -2,8 +2,8 @@
 use borrow.Author.Rules.{rules}
 use native.Mathlib.Omega.{arith}
 use mathlib.Core.Path.{sym}
-use Rattle.bvh.proofs.core.Writing.{nodes_most, leaves_long, rows_fit, order_fits, scannable, written}
-use Rattle.bvh.proofs.core.write_tree.Goals as goal
+use Rattle.bvh.proofs.slices.Writing.{nodes_most, leaves_long, rows_fit, order_fits, scannable, written}
+use Rattle.bvh.proofs.slices.write_tree.Goals as goal
 
 pub slice_bounds-write_nodes-end : goal.slice_bounds-write_nodes-end
 slice_bounds-write_nodes-end c = sym (leaves_long _ _ _ _ _ _ _ c.requires)

@@ -1,5 +1,5 @@
 -- Between gathering and growing: what is gathered gives the builder its room, and what grows from it is the tree of the marked places.
-use Rattle.core.specs.Prelude.{◌≡◌, ℕ, ◌+◌, ◌≤◌, List, ◌++◌, length, take, drop}
+use Rattle.std.specs.Prelude.{◌≡◌, ℕ, ◌+◌, ◌≤◌, List, ◌++◌, length, take, drop}
 use native.Mathlib.Nat.{zero-add}
 use native.Mathlib.Omega.{arith}
 use mathlib.Core.Path.{sym, ap, ◌∙◌, subst}
@@ -9,7 +9,7 @@ use Rattle.base.proofs.NumberLaws.{below_wider}
 use Rattle.base.proofs.WithinLaws.{below_within}
 use Rattle.base.specs.Lists.{Below}
 use Rattle.entries.specs.Boxes.{box_at}
-use Rattle.bvh.specs.declared.core.Task.{Task}
+use Rattle.bvh.specs.declared.slices.Task.{Task}
 use Rattle.bvh.specs.Entry.{lent}
 use Rattle.bvh.specs.Items.{marked}
 use Rattle.growth.specs.Grow.{builder}

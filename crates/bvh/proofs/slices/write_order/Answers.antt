@@ -1,11 +1,11 @@
 -- `core::write_order` meets its contract: the places gathered again, or the leaf order.
 use borrow.Author.Rules.{rules}
-use Rattle.core.specs.Prelude.{◌≡◌, length, take}
+use Rattle.std.specs.Prelude.{◌≡◌, length, take}
 use mathlib.Core.Path.{sym}
-use Rattle.bvh.proofs.core.Planting.{gathered_below, gathered_long}
-use Rattle.bvh.proofs.core.Writing.{order_rising, order_leaves}
+use Rattle.bvh.proofs.slices.Planting.{gathered_below, gathered_long}
+use Rattle.bvh.proofs.slices.Writing.{order_rising, order_leaves}
 use native.Mathlib.Omega.{arith}
-use Rattle.bvh.proofs.core.write_order.Goals as goal
+use Rattle.bvh.proofs.slices.write_order.Goals as goal
 
 pub slice_bounds-put_order-end-then-task-eq1 : goal.slice_bounds-put_order-end-then-task-eq1
 slice_bounds-put_order-end-then-task-eq1 c =

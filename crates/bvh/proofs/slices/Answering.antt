@@ -1,19 +1,19 @@
 -- The answers of `core::build_core`: which test refuses, and that a build which passes all of them is the definition's.
-use Rattle.core.specs.Prelude.{◌≡◌, ℕ, ◌+◌, ◌*◌, ◌<◌, ◌≤◌, true, false, ltb, List, length, take}
+use Rattle.std.specs.Prelude.{◌≡◌, ℕ, ◌+◌, ◌*◌, ◌<◌, ◌≤◌, true, false, ltb, List, length, take}
 use native.Mathlib.Omega.{arith}
 use mathlib.Core.Path.{refl, ap, ◌∙◌}
 use borrow.Author.Tests.{lt-ltb, le-ltb, ltb-false}
 use lib.Seq.{length-take-le}
 use Rattle.entries.specs.Boxes.{box_at}
 use Rattle.base.proofs.Truth.{neither}
-use Rattle.bvh.specs.declared.core.Build.{Build}
-use Rattle.bvh.specs.declared.core.Build.TheVariants.{Built, Refused}
-use Rattle.bvh.specs.declared.core.BuildRefusal.{BuildRefusal}
-use Rattle.bvh.specs.declared.core.BuildRefusal.TheVariants.{TooManyEntries, ThresholdOutside, BufferTooShort, TooManyNodes}
-use Rattle.bvh.specs.declared.core.BuiltTree.{BuiltTree}
-use Rattle.bvh.specs.declared.core.Lengths.{Lengths}
-use Rattle.bvh.specs.declared.core.Planted.{Planted}
-use Rattle.bvh.specs.declared.core.Task.{Task}
+use Rattle.bvh.specs.declared.slices.Build.{Build}
+use Rattle.bvh.specs.declared.slices.Build.TheVariants.{Built, Refused}
+use Rattle.bvh.specs.declared.slices.BuildRefusal.{BuildRefusal}
+use Rattle.bvh.specs.declared.slices.BuildRefusal.TheVariants.{TooManyEntries, ThresholdOutside, BufferTooShort, TooManyNodes}
+use Rattle.bvh.specs.declared.slices.BuiltTree.{BuiltTree}
+use Rattle.bvh.specs.declared.slices.Lengths.{Lengths}
+use Rattle.bvh.specs.declared.slices.Planted.{Planted}
+use Rattle.bvh.specs.declared.slices.Task.{Task}
 use Rattle.bvh.specs.Build.{Entries, short, answer_by, tree_of}
 use Rattle.bvh.specs.Entry.{Outputs, Lent, lent, entries_in, lengths_of, AnsweredBy}
 use Rattle.bvh.specs.Items.{marked}

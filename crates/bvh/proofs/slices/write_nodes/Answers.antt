@@ -1,7 +1,7 @@
 -- `core::write_nodes` meets its contract: the records, and at threshold 1 the padding stored behind them.
 use borrow.Author.Rules.{rules}
-use Rattle.bvh.proofs.core.Writing.{nodes_padded, nodes_bare}
-use Rattle.bvh.proofs.core.write_nodes.Goals as goal
+use Rattle.bvh.proofs.slices.Writing.{nodes_padded, nodes_bare}
+use Rattle.bvh.proofs.slices.write_nodes.Goals as goal
 
 pub returns-then-task-eq1 : goal.returns-then-task-eq1
 returns-then-task-eq1 c =

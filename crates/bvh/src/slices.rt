@@ -1,6 +1,6 @@
 // The build on plain slices: the checks, the tree in the work buffers, and last the outputs, so that a refusal changes none of them.
 // The work buffer is lent in five parts, since two parts of one slice cannot be lent at once.
-ghost use Rattle.core.specs.Prelude.{◌≡◌, ◌+◌, ◌*◌, ◌<◌, ◌≤◌, length, take};
+ghost use Rattle.std.specs.Prelude.{◌≡◌, ◌+◌, ◌*◌, ◌<◌, ◌≤◌, length, take};
 ghost use Rattle.base.specs.Lists.{over};
 ghost use Rattle.bvh.specs.Build.{short};
 ghost use Rattle.bvh.specs.Entry.{entries_in, outputs, lent, lengths_of, AnsweredBy};

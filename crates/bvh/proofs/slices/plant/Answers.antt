@@ -1,10 +1,10 @@
 -- `core::plant` meets its contract: what is gathered is what grows.
 use borrow.Author.Rules.{rules}
-use Rattle.core.specs.Prelude.{◌≤◌, length}
+use Rattle.std.specs.Prelude.{◌≤◌, length}
 use mathlib.Core.Path.{sym}
-use Rattle.bvh.proofs.core.Planting.{gathered_long, grow_room, planted}
+use Rattle.bvh.proofs.slices.Planting.{gathered_long, grow_room, planted}
 use native.Mathlib.Omega.{arith}
-use Rattle.bvh.proofs.core.plant.Goals as goal
+use Rattle.bvh.proofs.slices.plant.Goals as goal
 
 pub slice_bounds-grow_tree-end-2 : goal.slice_bounds-grow_tree-end-2
 slice_bounds-grow_tree-end-2 c =
