@@ -1,16 +1,16 @@
 -- What the records hold once they are linked: the links of a triangle's three sides, each what 01 says of it (sides ByMeaning). Assumes nothing.
-use Prim.Native.Nat.{ℕ, zero, suc, ◌+◌, ◌*◌, ◌/◌, ◌≤◌, ◌<◌}
+use Prim.Native.Nat.{ℕ, zero, suc, ◌+◌, ◌*◌, ◌≤◌, ◌<◌}
 use native.Mathlib.Omega.{arith}
 use mathlib.Core.Bool.{true}
 use mathlib.Core.List.{List, [], ◌++◌, append_assoc, append-nil}
-use mathlib.Core.Path.{◌≡◌, refl, sym, ap, ap₂, subst, ◌∙◌}
+use mathlib.Core.Path.{◌≡◌, sym, ap, subst, ◌∙◌}
 use lib.ListN.{length, get_or, take, drop, length-drop, get_or-append}
 use lib.Seq.{length-take-le}
 use Rattle.base.proofs.LittleEndian.{number_bytes, joined, le_after, le_back}
 use Rattle.base.specs.LittleEndian.{little_endian, le_at}
 use Rattle.corners.proofs.CornerLaws.{length_corners, length_linked, length_linked_record, part_in_turn}
 use Rattle.corners.proofs.LinkLaws.{corners_hold}
-use Rattle.corners.specs.Corners.{none, is_triangle, corners_of, link_bytes, linked_record, linked_records, links_put}
+use Rattle.corners.specs.Corners.{is_triangle, corners_of, link_bytes, linked_record, linked_records, links_put}
 use Rattle.sides.proofs.ByMeaning.{by_edge, link_by_meaning}
 use Rattle.sides.proofs.Meaning.{link_at}
 use Rattle.sides.specs.Links.{link_of, links_of}

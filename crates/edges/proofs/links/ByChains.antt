@@ -1,7 +1,7 @@
 -- The chains of all sides can be walked along, and what is linked then are the sides.
 use Prim.Native.Nat.{ℕ, ◌-◌, ◌*◌, ◌+◌, ◌/◌, ◌%◌, ◌≤◌, ◌<◌}
 use native.Mathlib.Omega.{arith}
-use mathlib.Core.Path.{◌≡◌, refl, sym, ap, subst, ◌∙◌}
+use mathlib.Core.Path.{◌≡◌, ap, subst}
 use mathlib.Core.Bool.{Bool, true, false, not, cond}
 use mathlib.Core.List.{List}
 use lib.Dec.{ltb}
@@ -9,10 +9,8 @@ use lib.ListN.{length, get_or}
 use borrow.Author.Tests.{ne_eqb}
 use Rattle.base.specs.Every.{Every}
 use Rattle.base.specs.Lists.{sift, up_from}
-use Rattle.corners.specs.Corners.{none, next_of, there, Corners}
+use Rattle.corners.specs.Corners.{none, next_of, there}
 use Rattle.sides.specs.Sides.{pair_of, key_of, sides_of}
-use Rattle.sides.specs.Lists.{RisingBy}
-use Rattle.sides.specs.Steps.Linked.{Linked}
 use Rattle.side_chains.specs.Steps.Chains.{low_of, high_of, high_in, Chained, Enterable, Fit, Linkable, sides_from}
 use Rattle.sides.proofs.EveryOf.{every_map, every_both, every_passes}
 use Rattle.sides.proofs.SideLaws.{leads_within}

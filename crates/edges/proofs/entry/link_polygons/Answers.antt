@@ -1,6 +1,5 @@
 -- `link_polygons`: the links of the corners that are unpacked, by the laws of Linking.
 use native.Mathlib.Omega.{arith}
-use borrow.Author.Rules.{rules}
 use Prim.Native.Nat.{◌*◌}
 use mathlib.Core.Path.{sym}
 use lib.Seq.{length-take-le}

@@ -1,5 +1,4 @@
 -- `too_short`: the tests are the definition's, in its order.
-use borrow.Author.Rules.{rules}
 use borrow.Author.Tests.{lt-ltb, le-ltb}
 use Rattle.edges.proofs.entry.too_short.Goals as goal
 

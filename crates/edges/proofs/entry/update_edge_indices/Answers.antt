@@ -1,6 +1,4 @@
 -- `update_edge_indices`: the checks in their order, and then the links.
-use borrow.Author.Rules.{rules}
-use borrow.Author.Tests.{not-true, not-false}
 use mathlib.Core.Path.{sym, ◌∙◌}
 use Rattle.edges.proofs.entry.Answering.{room, too_many, too_small, unknown, served}
 use Rattle.edges.proofs.entry.update_edge_indices.Goals as goal

@@ -1,5 +1,4 @@
 -- `link_sides`: the links among the grouped sides are the links among the sides.
-use borrow.Author.Rules.{rules}
 use Prim.Native.Nat.{◌<◌}
 use mathlib.Core.Path.{◌∙◌}
 use lib.ListN.{length}

@@ -1,5 +1,4 @@
 -- `links_by_chains`: the chains are of the sides, so that what is linked are they; a side that is not there has no link.
-use borrow.Author.Rules.{rules}
 use mathlib.Core.Path.{refl, ◌∙◌}
 use Rattle.sides.specs.Sides.{key_of, sides_of}
 use Rattle.side_chains.proofs.chains.Entering.{still_enterable}

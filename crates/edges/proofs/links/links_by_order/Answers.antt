@@ -1,5 +1,4 @@
 -- `links_by_order`: the sides have their keys and are in order, so that they can be linked; a side that is not there has no link.
-use borrow.Author.Rules.{rules}
 use mathlib.Core.Path.{◌≡◌, sym, ◌∙◌}
 use lib.ListN.{length, take}
 use lib.Seq.{length-take-le}

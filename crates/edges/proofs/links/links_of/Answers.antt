@@ -1,5 +1,4 @@
 -- `links_of`: by chains where there is a word for each vertex.
-use borrow.Author.Rules.{rules}
 use mathlib.Core.Path.{◌≡◌, sym, ◌∙◌}
 use lib.ListN.{length, take}
 use lib.Seq.{length-take-le}

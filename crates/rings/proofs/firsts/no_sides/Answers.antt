@@ -1,13 +1,11 @@
 -- `firsts::no_sides` meets its contract. The loop's invariant: the vertices before i have no side.
 use mathlib.Core.Path.{◌≡◌, refl, ◌∙◌}
-use Prim.Native.Nat.{ℕ, ◌-◌, ◌≤◌, ◌<◌}
-use mathlib.Core.List.{List}
+use Prim.Native.Nat.{ℕ, ◌<◌}
 use lib.ListN.{length, get_or, set, length-set}
 use lib.Seq.{get_or-set_same, get_or-set_other}
 use borrow.Author.Count.{below_more}
 use native.Mathlib.Omega.{arith}
 use Rattle.rings.specs.Firsts.{no_side}
-use borrow.Author.Rules.{rules}
 use Rattle.rings.proofs.firsts.no_sides.Goals as goal
 
 pub loop-i-init : goal.loop-i-init

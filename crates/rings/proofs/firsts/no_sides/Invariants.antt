@@ -1,13 +1,9 @@
 -- `firsts::no_sides` meets its contract. The loop's invariant: the vertices before i have no side.
-use mathlib.Core.Path.{◌≡◌, refl, ◌∙◌}
+use mathlib.Core.Path.{◌≡◌}
 use Prim.Native.Nat.{ℕ, ◌-◌, ◌≤◌, ◌<◌}
 use mathlib.Core.List.{List}
-use lib.ListN.{length, get_or, set, length-set}
-use lib.Seq.{get_or-set_same, get_or-set_other}
-use borrow.Author.Count.{below_more}
-use native.Mathlib.Omega.{arith}
+use lib.ListN.{length, get_or}
 use Rattle.rings.specs.Firsts.{no_side}
-use borrow.Author.Rules.{rules}
 use Rattle.rings.proofs.firsts.no_sides.Given as goal
 
 pub record Clearing (v : ℕ) (before firsts : List ℕ) (i : ℕ) : Type 0 where

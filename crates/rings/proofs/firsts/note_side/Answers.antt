@@ -6,7 +6,6 @@ use lib.ListN.{get_or, set}
 use borrow.Author.Tests.{lt-ltb, le-ltb, eq-eqb, ne_eqb}
 use Rattle.rings.specs.Firsts.{no_side}
 use Rattle.rings.specs.Steps.Stored.{noted}
-use borrow.Author.Rules.{rules}
 use Rattle.rings.proofs.firsts.note_side.Goals as goal
 
 pub returns-then-firsts-i : goal.returns-then-firsts-i

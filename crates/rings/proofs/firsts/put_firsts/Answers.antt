@@ -1,12 +1,11 @@
 -- `firsts::put_firsts` meets its contract. The loop's invariant: the list holds the first sides of those below s.
 use mathlib.Core.Path.{◌≡◌, refl, sym, ap, subst, ◌∙◌}
-use Prim.Native.Nat.{ℕ, ◌+◌, ◌-◌, ◌*◌, ◌≤◌}
+use Prim.Native.Nat.{ℕ, ◌+◌, ◌*◌}
 use mathlib.Core.List.{List}
 use lib.ListN.{length, get_or}
 use native.Mathlib.Omega.{arith}
 use Rattle.rings.specs.Steps.Stored.{noted, Firsts}
 use Rattle.rings.proofs.FirstLaws.{length_noted, one_side}
-use borrow.Author.Rules.{rules}
 use Rattle.rings.proofs.firsts.put_firsts.Goals as goal
 
 pub loop-s-init : goal.loop-s-init

@@ -1,7 +1,6 @@
 -- `moving::along` meets its contract: what the two operators ensure.
 use mathlib.Core.Path.{ap, ◌∙◌}
 use Rattle.math.specs.Vec3s.{add_of}
-use borrow.Author.Rules.{rules}
 use Rattle.rings.proofs.moving.along.Goals as goal
 
 pub returns : goal.returns

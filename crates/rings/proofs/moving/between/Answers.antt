@@ -1,5 +1,4 @@
 -- `moving::between` meets its contract: each arm by its test; of three normals there is one triple.
-use borrow.Author.Rules.{rules}
 use mathlib.Core.Bool.{Bool, cond}
 use mathlib.Core.Path.{sym, ap, ◌∙◌}
 use lib.Ieee.{Float, lt, binary32}

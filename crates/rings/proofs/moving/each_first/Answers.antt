@@ -5,10 +5,9 @@ use Rattle.math.specs.declared.vec3.Vec3.{Vec3}
 use Rattle.rings.specs.declared.moving.Reach.{Reach}
 use Rattle.rings.specs.Moving.{each_first, each_second}
 use Rattle.rings.specs.Steps.Stored.{normals_from}
-use Rattle.rings.proofs.MovingLaws.{Carried, carried, carry}
+use Rattle.rings.proofs.MovingLaws.{carried, carry}
 use Rattle.rings.proofs.Scanning.{begin, finished}
 use native.Mathlib.Omega.{arith}
-use borrow.Author.Rules.{rules}
 use Rattle.rings.proofs.moving.each_first.Goals as goal
 
 pub loop-i-init : goal.loop-i-init

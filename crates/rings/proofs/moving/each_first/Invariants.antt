@@ -1,14 +1,8 @@
 -- `moving::each_first` meets its contract. The loop's invariant: the normals left, taken into the best so far, give the whole.
-use mathlib.Core.Path.{◌≡◌, ap, ◌∙◌}
-use Prim.Native.Nat.{ℕ, ◌+◌, ◌-◌}
-use Rattle.math.specs.declared.vec3.Vec3.{Vec3}
-use Rattle.rings.specs.declared.moving.Reach.{Reach}
-use Rattle.rings.specs.Moving.{each_first, each_second}
+use Prim.Native.Nat.{◌-◌}
+use Rattle.rings.specs.Moving.{each_first}
 use Rattle.rings.specs.Steps.Stored.{normals_from}
-use Rattle.rings.proofs.MovingLaws.{Carried, carried, carry}
-use Rattle.rings.proofs.Scanning.{begin, finished}
-use native.Mathlib.Omega.{arith}
-use borrow.Author.Rules.{rules}
+use Rattle.rings.proofs.MovingLaws.{Carried}
 use Rattle.rings.proofs.moving.each_first.Given as goal
 
 abbrev pub invariant-loop-i : goal.invariant-loop-i

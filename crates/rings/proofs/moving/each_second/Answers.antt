@@ -4,10 +4,9 @@ use Prim.Native.Nat.{◌+◌, ◌-◌}
 use Rattle.math.specs.declared.vec3.Vec3.{Vec3}
 use Rattle.rings.specs.Moving.{each_third, each_second}
 use Rattle.rings.specs.Steps.Stored.{normals_from, reach_of}
-use Rattle.rings.proofs.MovingLaws.{Carried, carry}
+use Rattle.rings.proofs.MovingLaws.{carry}
 use Rattle.rings.proofs.Scanning.{begin, finished}
 use native.Mathlib.Omega.{arith}
-use borrow.Author.Rules.{rules}
 use Rattle.rings.proofs.moving.each_second.Goals as goal
 
 pub loop-i-init : goal.loop-i-init

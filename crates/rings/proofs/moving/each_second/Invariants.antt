@@ -1,13 +1,8 @@
 -- `moving::each_second` meets its contract. The loop's invariant: the normals left, taken into the best so far, give the whole.
-use mathlib.Core.Path.{ap, ◌∙◌}
-use Prim.Native.Nat.{◌+◌, ◌-◌}
-use Rattle.math.specs.declared.vec3.Vec3.{Vec3}
-use Rattle.rings.specs.Moving.{each_third, each_second}
-use Rattle.rings.specs.Steps.Stored.{normals_from, reach_of}
-use Rattle.rings.proofs.MovingLaws.{Carried, carry}
-use Rattle.rings.proofs.Scanning.{begin, finished}
-use native.Mathlib.Omega.{arith}
-use borrow.Author.Rules.{rules}
+use Prim.Native.Nat.{◌-◌}
+use Rattle.rings.specs.Moving.{each_second}
+use Rattle.rings.specs.Steps.Stored.{normals_from}
+use Rattle.rings.proofs.MovingLaws.{Carried}
 use Rattle.rings.proofs.moving.each_second.Given as goal
 
 abbrev pub invariant-loop-i : goal.invariant-loop-i

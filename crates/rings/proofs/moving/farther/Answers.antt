@@ -1,5 +1,4 @@
 -- `moving::farther` meets its contract: each arm by its test on the two ways.
-use borrow.Author.Rules.{rules}
 use Rattle.rings.proofs.MovingLaws.{farther_is, farther_not}
 use Rattle.rings.proofs.moving.farther.Goals as goal
 

@@ -2,7 +2,6 @@
 use mathlib.Core.Path.{ap, ap₂, ◌∙◌}
 use Rattle.math.specs.Vec3s.{◌⊘◌, one, add_of, scale_of, dot_of}
 use Rattle.rings.specs.Moving.{along_of}
-use borrow.Author.Rules.{rules}
 use Rattle.rings.proofs.moving.meet.Goals as goal
 
 pub returns : goal.returns

@@ -7,7 +7,6 @@ use Rattle.math.specs.Vec3s.{norm_of}
 use Rattle.rings.specs.Moving.{along_of, sum_from, between_of, each_first}
 use Rattle.rings.specs.Steps.Stored.{normals_from}
 use Rattle.rings.proofs.MovingLaws.{one_normal, two_normals, more_normals}
-use borrow.Author.Rules.{rules}
 use Rattle.rings.proofs.moving.moved.Goals as goal
 
 pub returns-then-count-eq1 : goal.returns-then-count-eq1

@@ -1,5 +1,4 @@
 -- `moving::reached` meets its contract: the point, and what `way` ensures.
-use borrow.Author.Rules.{rules}
 use Rattle.rings.proofs.moving.reached.Goals as goal
 
 pub returns : goal.returns

@@ -5,9 +5,8 @@ use Rattle.math.specs.declared.vec3.Vec3.{Vec3}
 use native.Mathlib.Omega.{arith}
 use Rattle.rings.specs.Moving.{sum_from}
 use Rattle.rings.specs.Steps.Stored.{normals_from}
-use Rattle.rings.proofs.Scanning.{Scan, begin, taken, finished}
+use Rattle.rings.proofs.Scanning.{begin, taken, finished}
 use Rattle.math.specs.Vec3s.{add_of}
-use borrow.Author.Rules.{rules}
 use Rattle.rings.proofs.moving.sum_from.Goals as goal
 
 pub loop-i-init : goal.loop-i-init

@@ -1,13 +1,8 @@
 -- `moving::sum_from` meets its contract. The loop's invariant: the normals left, added to the sum so far, give the whole.
-use mathlib.Core.Path.{ap, ◌∙◌}
-use Prim.Native.Nat.{◌+◌, ◌-◌}
-use Rattle.math.specs.declared.vec3.Vec3.{Vec3}
-use native.Mathlib.Omega.{arith}
+use Prim.Native.Nat.{◌-◌}
 use Rattle.rings.specs.Moving.{sum_from}
 use Rattle.rings.specs.Steps.Stored.{normals_from}
-use Rattle.rings.proofs.Scanning.{Scan, begin, taken, finished}
-use Rattle.math.specs.Vec3s.{add_of}
-use borrow.Author.Rules.{rules}
+use Rattle.rings.proofs.Scanning.{Scan}
 use Rattle.rings.proofs.moving.sum_from.Given as goal
 
 abbrev pub invariant-loop-i : goal.invariant-loop-i

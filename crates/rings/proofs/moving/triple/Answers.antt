@@ -1,5 +1,4 @@
 -- `moving::triple` meets its contract: each arm by its test on the determinant.
-use borrow.Author.Rules.{rules}
 use mathlib.Core.Bool.{Bool, cond}
 use mathlib.Core.Path.{sym, ap, ◌∙◌}
 use lib.Ieee.{lt}

@@ -2,7 +2,6 @@
 use mathlib.Core.Path.{ap, ◌∙◌}
 use Rattle.math.specs.declared.vec3.Vec3.{Vec3}
 use Rattle.math.specs.Vec3s.{dot_of}
-use borrow.Author.Rules.{rules}
 use Rattle.rings.proofs.moving.way.Goals as goal
 
 pub returns : goal.returns

@@ -2,7 +2,6 @@
 use mathlib.Core.Path.{ap, ap₂, ◌∙◌}
 use Rattle.math.specs.Vec3s.{cross_of, norm_of}
 use Rattle.rings.specs.Normals.{normal_of}
-use borrow.Author.Rules.{rules}
 use Rattle.rings.proofs.normals.normal.Goals as goal
 
 pub returns : goal.returns

@@ -4,7 +4,6 @@ use native.Mathlib.Omega.{arith}
 use Rattle.rings.specs.Normals.{normal_of}
 use Rattle.points.specs.Points.{vertex_at}
 use Rattle.rings.proofs.NormalLaws.{first_missing, second_missing, third_missing, all_there}
-use borrow.Author.Rules.{rules}
 use Rattle.rings.proofs.normals.polygon_normal.Goals as goal
 
 pub returns-then-a-v : goal.returns-then-a-v

@@ -1,7 +1,6 @@
 -- `normals::put_normal` meets its contract: three stores.
 use native.Mathlib.Omega.{arith}
 use lib.ListN.{length-set}
-use borrow.Author.Rules.{rules}
 use Rattle.rings.proofs.normals.put_normal.Goals as goal
 
 pub bounds-ns-at-2 : goal.bounds-ns-at-2

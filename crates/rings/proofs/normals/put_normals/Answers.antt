@@ -1,6 +1,6 @@
 -- `normals::put_normals` meets its contract. The loop's invariant: the normals before p are there.
 use mathlib.Core.Path.{◌≡◌, refl, sym, ap, subst, ◌∙◌}
-use Prim.Native.Nat.{ℕ, ◌+◌, ◌-◌, ◌≤◌, ◌<◌}
+use Prim.Native.Nat.{ℕ, ◌+◌, ◌<◌}
 use mathlib.Core.List.{List}
 use lib.ListN.{length}
 use lib.Ieee.{Float}
@@ -8,7 +8,6 @@ use native.Mathlib.Omega.{arith}
 use Rattle.rings.specs.Normals.{polygon_normal}
 use Rattle.rings.specs.Steps.Stored.{Normals}
 use Rattle.rings.proofs.NormalLaws.{length_normal, normal_more}
-use borrow.Author.Rules.{rules}
 use Rattle.rings.proofs.normals.put_normals.Goals as goal
 
 pub loop-p-init : goal.loop-p-init

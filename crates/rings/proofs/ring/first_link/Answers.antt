@@ -1,5 +1,4 @@
 -- `ring::first_link` meets its contract: the link over the side before, or where it is none the side's own.
-use borrow.Author.Rules.{rules}
 use mathlib.Core.Path.{sym, ap, ◌∙◌}
 use mathlib.Core.Bool.{Bool, cond}
 use Prim.Native.Nat.{ℕ}

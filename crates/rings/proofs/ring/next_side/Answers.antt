@@ -1,5 +1,4 @@
 -- `ring::next_side` meets its contract: each arm by its test.
-use borrow.Author.Rules.{rules}
 use mathlib.Core.Path.{◌∙◌, ap}
 use Prim.Native.Nat.{ℕ, ◌/◌}
 use Rattle.sides.proofs.SideLaws.{leads_on, leads_back}

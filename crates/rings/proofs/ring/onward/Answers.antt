@@ -1,5 +1,4 @@
 -- `ring::onward` meets its contract: by the side, the walker stays or goes over the other link.
-use borrow.Author.Rules.{rules}
 use mathlib.Core.Path.{◌≡◌, sym, ap, ◌∙◌}
 use mathlib.Core.Bool.{Bool, cond}
 use mathlib.Core.Logic.{⊎_elim}

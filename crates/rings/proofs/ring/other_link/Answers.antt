@@ -1,5 +1,4 @@
 -- `ring::other_link` meets its contract: the link, or where it leads back the next side's.
-use borrow.Author.Rules.{rules}
 use mathlib.Core.Path.{sym, ap, ◌∙◌}
 use mathlib.Core.Bool.{Bool, cond}
 use Prim.Native.Nat.{ℕ}

@@ -1,11 +1,10 @@
 -- `ring::ring` meets its contract. The loop's invariant: what is written, followed by the ring from the walker on, is the whole ring.
 use mathlib.Core.Path.{sym, subst}
-use Prim.Native.Nat.{ℕ, ◌+◌, ◌-◌, ◌/◌}
+use Prim.Native.Nat.{ℕ, ◌+◌, ◌/◌}
 use lib.ListN.{set}
 use Rattle.rings.specs.declared.ring.Walker.{Walker}
 use Rattle.rings.specs.Rings.{ring_of}
 use Rattle.rings.proofs.RingLaws.{Ringing, begun, ended, filled, here, again}
-use borrow.Author.Rules.{rules}
 use Rattle.rings.proofs.ring.ring.Goals as goal
 
 pub loop-count-init : goal.loop-count-init

@@ -1,5 +1,4 @@
 -- `ring::side_to` meets its contract: each return by the tests that led there.
-use borrow.Author.Rules.{rules}
 use mathlib.Core.Path.{sym, ◌∙◌}
 use borrow.Author.Tests.{eq-eqb, ne_eqb}
 use Rattle.rings.proofs.SideLaws.{side_to_is}

@@ -1,18 +1,16 @@
 -- `vertex::by_margin` meets its contract. The loop's invariant: the words of the vertices before i are written.
 use mathlib.Core.Path.{◌≡◌, refl, sym, ap, ◌∙◌}
-use Prim.Native.Nat.{ℕ, ◌+◌, ◌-◌, ◌*◌, ◌≤◌, ◌<◌}
-use mathlib.Core.List.{List}
-use lib.ListN.{length, take}
+use Prim.Native.Nat.{ℕ, ◌+◌, ◌*◌, ◌<◌}
+use lib.ListN.{take}
 use lib.Seq.{sets, take_all}
 use lib.Ieee.{Float, neg}
 use Rattle.math.specs.declared.vec3.Vec3.{Vec3}
 use native.Mathlib.Omega.{arith}
 use Rattle.corners.specs.Corners.{in_turn}
-use Rattle.rings.specs.Meshes.{Mesh, mesh_of, shrunk_at, by_margin}
+use Rattle.rings.specs.Meshes.{mesh_of, shrunk_at, by_margin}
 use Rattle.points.specs.Points.{words_of}
 use Rattle.points.proofs.PointLaws.{points_more}
 use Rattle.rings.proofs.VertexLaws.{movable_again}
-use borrow.Author.Rules.{rules}
 use Rattle.rings.proofs.vertex.by_margin.Goals as goal
 
 pub loop-i-init : goal.loop-i-init

@@ -1,18 +1,12 @@
 -- `vertex::by_margin` meets its contract. The loop's invariant: the words of the vertices before i are written.
-use mathlib.Core.Path.{◌≡◌, refl, sym, ap, ◌∙◌}
-use Prim.Native.Nat.{ℕ, ◌+◌, ◌-◌, ◌*◌, ◌≤◌, ◌<◌}
+use mathlib.Core.Path.{◌≡◌}
+use Prim.Native.Nat.{ℕ, ◌-◌, ◌*◌, ◌≤◌}
 use mathlib.Core.List.{List}
 use lib.ListN.{length, take}
-use lib.Seq.{sets, take_all}
 use lib.Ieee.{Float, neg}
-use Rattle.math.specs.declared.vec3.Vec3.{Vec3}
-use native.Mathlib.Omega.{arith}
 use Rattle.corners.specs.Corners.{in_turn}
-use Rattle.rings.specs.Meshes.{Mesh, mesh_of, shrunk_at, by_margin}
+use Rattle.rings.specs.Meshes.{Mesh, mesh_of, shrunk_at}
 use Rattle.points.specs.Points.{words_of}
-use Rattle.points.proofs.PointLaws.{points_more}
-use Rattle.rings.proofs.VertexLaws.{movable_again}
-use borrow.Author.Rules.{rules}
 use Rattle.rings.proofs.vertex.by_margin.Given as goal
 
 pub record Moving (mesh : Mesh) (margin by : Float) (ring₀ : List ℕ) (ns₀ : List Float) (points₀ ring : List ℕ) (ns : List Float) (points : List ℕ)
@@ -26,7 +20,7 @@ pub record Moving (mesh : Mesh) (margin by : Float) (ring₀ : List ℕ) (ns₀ 
   pub written : take (3 * i) points ≡ in_turn i (λ i. words_of (shrunk_at mesh (neg margin) i))
 
 abbrev pub invariant-loop-i : goal.invariant-loop-i
-invariant-loop-i l =     Moving (mesh_of l.corners l.links l.n l.vertices l.v) l.margin l.by l.initial.ring l.initial.ns l.initial.points l.ring l.ns l.points l.i
+invariant-loop-i l = Moving (mesh_of l.corners l.links l.n l.vertices l.v) l.margin l.by l.initial.ring l.initial.ns l.initial.points l.ring l.ns l.points l.i
 
 abbrev pub decreases-loop-i : goal.decreases-loop-i
 decreases-loop-i l = l.v - l.i

@@ -1,6 +1,6 @@
 -- `vertex::gather` meets its contract. The loop's invariant: the first k + 1 normals are gathered.
 use mathlib.Core.Path.{◌≡◌, refl, sym, ap, subst, ◌∙◌}
-use Prim.Native.Nat.{ℕ, ◌+◌, ◌-◌, ◌*◌, ◌≤◌, ◌<◌}
+use Prim.Native.Nat.{ℕ, ◌+◌, ◌<◌}
 use native.Mathlib.Numerals.{add-one}
 use mathlib.Core.List.{List}
 use lib.ListN.{length}
@@ -9,7 +9,6 @@ use native.Mathlib.Omega.{arith}
 use Rattle.rings.specs.Steps.Gathering.{gathered, Gathered}
 use Rattle.rings.specs.Steps.Stored.{normal_at}
 use Rattle.rings.proofs.NormalLaws.{length_normal, normal_more}
-use borrow.Author.Rules.{rules}
 use Rattle.rings.proofs.vertex.gather.Goals as goal
 
 pub normal_at-requires : goal.normal_at-requires

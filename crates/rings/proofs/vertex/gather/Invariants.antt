@@ -1,15 +1,10 @@
 -- `vertex::gather` meets its contract. The loop's invariant: the first k + 1 normals are gathered.
-use mathlib.Core.Path.{◌≡◌, refl, sym, ap, subst, ◌∙◌}
-use Prim.Native.Nat.{ℕ, ◌+◌, ◌-◌, ◌*◌, ◌≤◌, ◌<◌}
-use native.Mathlib.Numerals.{add-one}
+use mathlib.Core.Path.{◌≡◌}
+use Prim.Native.Nat.{ℕ, ◌+◌, ◌-◌, ◌*◌, ◌≤◌}
 use mathlib.Core.List.{List}
 use lib.ListN.{length}
 use lib.Ieee.{Float}
-use native.Mathlib.Omega.{arith}
-use Rattle.rings.specs.Steps.Gathering.{gathered, Gathered}
-use Rattle.rings.specs.Steps.Stored.{normal_at}
-use Rattle.rings.proofs.NormalLaws.{length_normal, normal_more}
-use borrow.Author.Rules.{rules}
+use Rattle.rings.specs.Steps.Gathering.{Gathered}
 use Rattle.rings.proofs.vertex.gather.Given as goal
 
 pub record Gathering (normals : List Float) (poly : ℕ) (ring : List ℕ) (count : ℕ) (before ns : List Float) (k : ℕ) : Type 0 where

@@ -4,7 +4,6 @@ use native.Mathlib.Omega.{arith}
 use Rattle.rings.specs.Meshes.{mesh_of, normal_in}
 use Rattle.rings.specs.Moving.{moved_of}
 use Rattle.rings.proofs.VertexLaws.{stays, moves, side_in, ring_within, ring_few, own_normal, ring_normals, written_within}
-use borrow.Author.Rules.{rules}
 use Rattle.rings.proofs.vertex.shrunk_at.Goals as goal
 
 pub vertex_at-from-requires : goal.vertex_at-from-requires
