@@ -11,19 +11,18 @@ use Rattle.bvh_shape.proofs.link_and_sort.Goals as goal
 
 pub reorder_bytes-requires : goal.reorder_bytes-requires
 reorder_bytes-requires c =
-    let t = c in
-    let s = c.requires t.enum_told.given.0.0 t.enum_told.given.1 in
+    let s = c.requires c.in-Built.field-0 c.in-Built.is in
     (s.work.few, s.long, s.for_sorted, s.places_below)
 
 pub returns-in-Built : goal.returns-in-Built
 returns-in-Built c =
-    let is = sym c.enum_told-1.given.1 in
-    let s = c.requires c.enum_told-1.given.0.0 c.enum_told-1.given.1 in
+    let is = sym c.in-Built.is in
+    let s = c.requires c.in-Built.field-0 c.in-Built.is in
     let a = c.args in
     record {
       linked_are =
           links_made _ _ _ _ _ _ _ s.work s.known _ _ c.update_edge_indices.ensures
-          ∙ ap (λ (x : Build). linked_if x a.p a.polygons-out.now) is;
+          ∙ ap (λ (x : Build). linked_if x a.p a.polygons_out.now) is;
       numbers_are =
           c.reorder_bytes.ensures
           ∙ ap (λ (x : Build). kept x (in_order (take a.p a.order.now) a.numbers.now) a.sorted.now) is;

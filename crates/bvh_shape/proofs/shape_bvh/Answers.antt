@@ -6,10 +6,10 @@ use Rattle.bvh_shape.proofs.shape_bvh.Goals as goal
 
 pub link_and_sort-requires : goal.link_and_sort-requires
 link_and_sort-requires c =
-    let k = c.rebuild_bvh-built.kept in
+    let k = c.rebuild_bvh-built.auto in
     sortable _ _ _ _ _ _ _ _ c.requires.0 _ c.args.bound _ _ _ c.rebuild_bvh-built.ensures _ _ _ _ _
-    k.1.1.1.1.1.1.0 k.1.1.1.1.1.1.1.1.1.1.0 k.1.1.1.1.1.1.1.1.1.1.1.0
-    k.1.1.1.1.1.1.1.1.1.1.1.1.0 k.1.1.1.1.1.1.1.1.1.1.1.1.1.0 k.1.1.1.1.1.1.1.1.1.1.1.1.1.1.0
+    k.out k.entries k.places
+    k.temp k.stack k.rows
 
 pub returns : goal.returns
 returns c =

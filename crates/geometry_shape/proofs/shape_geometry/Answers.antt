@@ -23,9 +23,9 @@ slice_bounds-shrink_and_store-end-2 c =
 
 pub shrink_and_store-requires : goal.shrink_and_store-requires
 shrink_and_store-requires c =
-    let k = c.link_mesh.kept in
-    shapeable _ _ _ _ _ _ _ c.link_mesh.ensures c.requires _ _ _ k.1.1.1.0 k.1.1.1.1.0 k.1.1.1.1.1.0 k.1.1.1.1.1.1.0
-    k.1.1.1.1.1.1.1.0
+    let k = c.link_mesh.auto in
+    shapeable _ _ _ _ _ _ _ c.link_mesh.ensures c.requires _ _ _ k.corners k.keys k.sides k.spare
+    k.links
 
 pub returns : goal.returns
 returns c =
