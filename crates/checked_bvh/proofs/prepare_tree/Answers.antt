@@ -13,7 +13,7 @@ shape_bvh-built-requires c =
         mesh_of a.bound a.counts a.polygons.now a.numbers.now a.mats.now a.vertices.now in
     let before : Lists = 
         let a = c.args in
-        lists a.list.now a.indices.now a.polygons-out.now a.stored.now a.floats.now in
+        lists a.list.now a.indices.now a.polygons_out.now a.stored.now a.floats.now in
     let trees : Outputs = let a = c.args in outputs a.node_bytes.now a.tree_bytes.now a.order.now in
     let work : BvhWork = 
         let a = c.args in
@@ -27,7 +27,7 @@ finish_tree-requires c =
         mesh_of a.bound a.counts a.polygons.now a.numbers.now a.mats.now a.vertices.now in
     let before : Lists = 
         let a = c.args in
-        lists a.list.now a.indices.now a.polygons-out.now a.stored.now a.floats.now in
+        lists a.list.now a.indices.now a.polygons_out.now a.stored.now a.floats.now in
     let trees : Outputs = let a = c.args in outputs a.node_bytes.now a.tree_bytes.now a.order.now in
     let work : BvhWork = 
         let a = c.args in
@@ -41,7 +41,7 @@ returns c =
         mesh_of a.bound a.counts a.polygons.now a.numbers.now a.mats.now a.vertices.now in
     let before : Lists = 
         let a = c.args in
-        lists a.list.now a.indices.now a.polygons-out.now a.stored.now a.floats.now in
+        lists a.list.now a.indices.now a.polygons_out.now a.stored.now a.floats.now in
     let trees : Outputs = let a = c.args in outputs a.node_bytes.now a.tree_bytes.now a.order.now in
     let work : BvhWork = 
         let a = c.args in
