@@ -41,7 +41,7 @@ mesh s =
 abbrev before : tie.Start → Lists
 before s =
     let a = s.args in
-    lists a.list.now a.indices.now a.polygons-out.now a.stored.now a.floats.now
+    lists a.list.now a.indices.now a.polygons_out.now a.stored.now a.floats.now
 
 abbrev hulls : tie.Start → Hull
 hulls s = let a = s.args in hull a.shrunk.now a.shrunk_floats.now a.octants.now

@@ -18,7 +18,7 @@ returns-in-Fails c =
         mesh_of a.bound a.counts a.polygons.now a.numbers.now a.mats.now a.vertices.now in
     let before : Lists = 
         let a = c.args in
-        lists a.list.now a.indices.now a.polygons-out.now a.stored.now a.floats.now in
+        lists a.list.now a.indices.now a.polygons_out.now a.stored.now a.floats.now in
     let trees : Outputs = let a = c.args in outputs a.node_bytes.now a.tree_bytes.now a.order.now in
     let work : BvhWork = 
         let a = c.args in
@@ -33,7 +33,7 @@ finish_empty-requires c =
         mesh_of a.bound a.counts a.polygons.now a.numbers.now a.mats.now a.vertices.now in
     let before : Lists = 
         let a = c.args in
-        lists a.list.now a.indices.now a.polygons-out.now a.stored.now a.floats.now in
+        lists a.list.now a.indices.now a.polygons_out.now a.stored.now a.floats.now in
     let trees : Outputs = let a = c.args in outputs a.node_bytes.now a.tree_bytes.now a.order.now in
     let work : BvhWork = 
         let a = c.args in
@@ -49,7 +49,7 @@ returns-then-counts-eq0 c =
         mesh_of a.bound a.counts a.polygons.now a.numbers.now a.mats.now a.vertices.now in
     let before : Lists = 
         let a = c.args in
-        lists a.list.now a.indices.now a.polygons-out.now a.stored.now a.floats.now in
+        lists a.list.now a.indices.now a.polygons_out.now a.stored.now a.floats.now in
     let trees : Outputs = let a = c.args in outputs a.node_bytes.now a.tree_bytes.now a.order.now in
     let work : BvhWork = 
         let a = c.args in
@@ -67,7 +67,7 @@ prepare_tree-requires c =
         mesh_of a.bound a.counts a.polygons.now a.numbers.now a.mats.now a.vertices.now in
     let before : Lists = 
         let a = c.args in
-        lists a.list.now a.indices.now a.polygons-out.now a.stored.now a.floats.now in
+        lists a.list.now a.indices.now a.polygons_out.now a.stored.now a.floats.now in
     let trees : Outputs = let a = c.args in outputs a.node_bytes.now a.tree_bytes.now a.order.now in
     let work : BvhWork = 
         let a = c.args in
