@@ -1,5 +1,5 @@
 -- What a build wrote is what the walk reads: the record at a number is that of the row, or of the range, with that number.
-use Rattle.std.specs.Prelude.{◌≡◌, ℕ, ◌+◌, ◌*◌, ◌<◌, List, ◌∷◌, ◌++◌, take, drop, pos}
+use Rattle.std.specs.Prelude.{◌≡◌, ℕ, ◌*◌, ◌<◌, List, ◌∷◌, ◌++◌, take, drop, pos}
 use mathlib.Core.List.{append_assoc}
 use mathlib.Core.Path.{ap, ◌∙◌}
 use mir.Syntax.{w16}

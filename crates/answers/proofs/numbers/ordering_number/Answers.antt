@@ -1,5 +1,4 @@
 -- `numbers::ordering_number` meets its contract: a number for each case.
-use borrow.Author.Rules.{rules}
 use Rattle.answers.proofs.numbers.ordering_number.Goals as goal
 
 pub returns-in-Less : goal.returns-in-Less

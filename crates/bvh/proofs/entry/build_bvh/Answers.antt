@@ -4,7 +4,7 @@ use lib.Seq.{sets}
 use Rattle.bvh.specs.Entry.{taken_of, entries_in, outputs, lent, lengths_of, AnsweredBy}
 use Rattle.bvh.specs.Items.{absent, item_words}
 use Rattle.rows.specs.Ranges.{range_limit}
-use Rattle.bvh.proofs.ItemWords.{apart, length_apart, apart_next}
+use Rattle.bvh.proofs.ItemWords.{apart, apart_next}
 use Rattle.bvh.proofs.EntryWords.{taken_fits, answers}
 use Rattle.bvh.proofs.entry.build_bvh.Goals as goal
 

@@ -1,5 +1,4 @@
 -- `entry::put_item` meets its contract: a store of the mark, and the box after it, are one run of stores.
-use borrow.Author.Rules.{rules}
 use native.Mathlib.Numerals.{add-one}
 use lib.ListN.{length-set}
 use mathlib.Core.Path.{◌∙◌}

@@ -1,5 +1,4 @@
 -- `entry::taken` meets its contract: each test of the code is one of the definition's.
-use borrow.Author.Rules.{rules}
 use Rattle.std.specs.Prelude.{◌*◌}
 use borrow.Author.Tests.{le-leb, lt-leb}
 use native.Mathlib.Omega.{arith}

@@ -1,5 +1,5 @@
 -- `items::gather` meets its contract. The loop's invariant, `Gathering`: the places so far, followed by those still to be marked, are all.
-use Rattle.std.specs.Prelude.{ℕ, ◌+◌, ◌-◌, ◌*◌, get_or, set}
+use Rattle.std.specs.Prelude.{ℕ, ◌+◌, ◌*◌, get_or, set}
 use mathlib.Core.Path.{subst, sym}
 use Rattle.bvh.specs.Items.{is_marked}
 use Rattle.bvh.proofs.items.Gathering.{Gathering, begin, next, done, one_or_none}

@@ -1,9 +1,6 @@
 -- `items::gather` meets its contract. The loop's invariant, `Gathering`: the places so far, followed by those still to be marked, are all.
-use Rattle.std.specs.Prelude.{ℕ, ◌+◌, ◌-◌, ◌*◌, get_or, set}
-use mathlib.Core.Path.{subst, sym}
-use Rattle.bvh.specs.Items.{is_marked}
-use Rattle.bvh.proofs.items.Gathering.{Gathering, begin, next, done, one_or_none}
-use native.Mathlib.Omega.{arith}
+use Rattle.std.specs.Prelude.{◌-◌}
+use Rattle.bvh.proofs.items.Gathering.{Gathering}
 use Rattle.bvh.proofs.items.gather.Given as goal
 
 abbrev pub invariant-loop-p : goal.invariant-loop-p

@@ -1,5 +1,4 @@
 -- `core::build_core` meets its contract: each test refuses by the definition's (Answering), and the outputs are written last.
-use borrow.Author.Rules.{rules}
 use Rattle.std.specs.Prelude.{◌≡◌, ◌<◌, ◌≤◌, false}
 use mathlib.Core.Path.{sym, ◌∙◌}
 use lib.Seq.{length-take-le}

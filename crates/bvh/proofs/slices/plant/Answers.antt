@@ -1,5 +1,4 @@
 -- `core::plant` meets its contract: what is gathered is what grows.
-use borrow.Author.Rules.{rules}
 use Rattle.std.specs.Prelude.{◌≤◌, length}
 use mathlib.Core.Path.{sym}
 use Rattle.bvh.proofs.slices.Planting.{gathered_long, grow_room, planted}

@@ -1,5 +1,4 @@
 -- `lines::put_counts` meets its contract: its parts are put one after the other.
-use borrow.Author.Rules.{rules}
 use Rattle.listing.specs.Lines.{counts_line}
 use Rattle.listing.proofs.Putting.{put_then}
 use Rattle.listing.proofs.lines.put_counts.Goals as goal

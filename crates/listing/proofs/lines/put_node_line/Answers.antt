@@ -1,5 +1,4 @@
 -- `lines::put_node_line` meets its contract: the line of a record of this kind.
-use borrow.Author.Rules.{rules}
 use Rattle.listing.specs.Lines.{node_word, node_line}
 use Rattle.listing.proofs.Lining.{record_put}
 use Rattle.listing.proofs.lines.put_node_line.Goals as goal

@@ -1,11 +1,8 @@
 -- `lines::put_node_lines` meets its contract: the lines of the first i records are put.
-use Rattle.std.specs.Prelude.{ℕ, ◌-◌, ◌*◌, List}
-use mathlib.Core.Path.{ap}
+use Rattle.std.specs.Prelude.{◌-◌, ◌*◌}
 use Rattle.records.specs.Records.{node_at}
-use Rattle.listing.specs.Lines.{node_line, node_lines}
-use Rattle.listing.proofs.Lining.{Lined, no_line, line_next, line_room, all_lines}
-use Rattle.listing.proofs.Putting.{put_as}
-use native.Mathlib.Omega.{arith}
+use Rattle.listing.specs.Lines.{node_line}
+use Rattle.listing.proofs.Lining.{Lined}
 use Rattle.listing.proofs.lines.put_node_lines.Given as goal
 
 abbrev pub invariant-loop-i : goal.invariant-loop-i

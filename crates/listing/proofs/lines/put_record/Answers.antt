@@ -1,5 +1,4 @@
 -- `lines::put_record` meets its contract: its parts are put one after the other.
-use borrow.Author.Rules.{rules}
 use mathlib.Core.Path.{refl}
 use Rattle.listing.specs.Lines.{record_line}
 use Rattle.listing.proofs.Lining.{field_put}

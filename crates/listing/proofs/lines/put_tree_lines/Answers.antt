@@ -1,9 +1,9 @@
 -- `lines::put_tree_lines` meets its contract: the lines of the first i records are put.
-use Rattle.std.specs.Prelude.{ℕ, ◌-◌, ◌*◌, List}
+use Rattle.std.specs.Prelude.{ℕ, ◌*◌, List}
 use mathlib.Core.Path.{ap}
 use Rattle.records.specs.Records.{tree_at}
 use Rattle.listing.specs.Lines.{tree_line, tree_lines}
-use Rattle.listing.proofs.Lining.{Lined, no_line, line_next, line_room, all_lines}
+use Rattle.listing.proofs.Lining.{no_line, line_next, line_room, all_lines}
 use Rattle.listing.proofs.Putting.{put_as}
 use native.Mathlib.Omega.{arith}
 use Rattle.listing.proofs.lines.put_tree_lines.Goals as goal

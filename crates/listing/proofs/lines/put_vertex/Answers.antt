@@ -1,5 +1,4 @@
 -- `lines::put_vertex` meets its contract: three fields, one after the other.
-use borrow.Author.Rules.{rules}
 use Rattle.listing.specs.Lines.{vertex_fields}
 use Rattle.listing.proofs.Lining.{field_put}
 use Rattle.listing.proofs.Putting.{put_then}

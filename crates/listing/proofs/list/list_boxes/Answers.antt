@@ -1,5 +1,4 @@
 -- `list::list_boxes` meets its contract: the text of each case is put at the start of the buffer.
-use borrow.Author.Rules.{rules}
 use Rattle.listing.proofs.Whole.{whole_text, over_limit, ragged, served}
 use native.Mathlib.Omega.{arith}
 use Rattle.listing.proofs.list.list_boxes.Goals as goal

@@ -1,5 +1,4 @@
 -- `list::put_records` meets its contract: the three parts are put one after the other.
-use borrow.Author.Rules.{rules}
 use mathlib.Core.Path.{refl}
 use Rattle.listing.specs.Lines.{records_text}
 use Rattle.listing.proofs.Putting.{put_as, put_then}

@@ -1,5 +1,4 @@
 -- `reading::child_box` meets its contract: two corners, the second 16 bytes behind the first.
-use borrow.Author.Rules.{rules}
 use Rattle.listing.specs.Reading.{child_box}
 use Rattle.listing.proofs.reading.child_box.Goals as goal
 

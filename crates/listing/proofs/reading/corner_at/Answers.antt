@@ -1,5 +1,4 @@
 -- `reading::corner_at` meets its contract: three words, each where it stands.
-use borrow.Author.Rules.{rules}
 use Rattle.listing.specs.Reading.{corner_at}
 use Rattle.listing.proofs.reading.corner_at.Goals as goal
 

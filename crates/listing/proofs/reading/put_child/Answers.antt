@@ -1,5 +1,4 @@
 -- `reading::put_child` meets its contract: a store of the mark, and the box after it, are one run of stores.
-use borrow.Author.Rules.{rules}
 use native.Mathlib.Numerals.{add-one}
 use mathlib.Core.Path.{◌∙◌}
 use lib.ListN.{length-set}

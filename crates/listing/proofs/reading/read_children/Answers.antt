@@ -1,6 +1,5 @@
 -- `reading::read_children` meets its contract: the first i records are read.
-use Rattle.std.specs.Prelude.{◌-◌}
-use Rattle.listing.proofs.Children.{Children, no_child, child_next, all_children}
+use Rattle.listing.proofs.Children.{no_child, child_next, all_children}
 use native.Mathlib.Omega.{arith}
 use Rattle.listing.proofs.reading.read_children.Goals as goal
 

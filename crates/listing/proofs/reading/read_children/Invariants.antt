@@ -1,7 +1,6 @@
 -- `reading::read_children` meets its contract: the first i records are read.
 use Rattle.std.specs.Prelude.{◌-◌}
-use Rattle.listing.proofs.Children.{Children, no_child, child_next, all_children}
-use native.Mathlib.Omega.{arith}
+use Rattle.listing.proofs.Children.{Children}
 use Rattle.listing.proofs.reading.read_children.Given as goal
 
 abbrev pub invariant-loop-i : goal.invariant-loop-i

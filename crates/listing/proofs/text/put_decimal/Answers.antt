@@ -1,5 +1,4 @@
 -- `text::put_decimal` meets its contract: the fewest digits that hold n are copied.
-use borrow.Author.Rules.{rules}
 use mathlib.Core.Path.{◌∙◌}
 use Rattle.listing.proofs.Decimals.{digits_are, few_digits}
 use Rattle.listing.proofs.Putting.{put_as}

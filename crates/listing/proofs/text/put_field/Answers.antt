@@ -1,5 +1,4 @@
 -- `text::put_field` meets its contract: a space, and the number after it.
-use borrow.Author.Rules.{rules}
 use Rattle.std.specs.Prelude.{◌∷◌, ℤ}
 use mathlib.Core.Path.{ap}
 use mir.Facts.{to_z-of_z}

@@ -1,5 +1,4 @@
 -- `text::put_signed` meets its contract: the number's 16 bits in two's complement are below 32768 where it is not below 0.
-use borrow.Author.Rules.{rules}
 use Rattle.std.specs.Prelude.{◌≡◌}
 use Rattle.float32.specs.Casts.{low16bits}
 use Rattle.records.proofs.Fields.{short_read}

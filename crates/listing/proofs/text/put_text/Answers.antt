@@ -1,7 +1,6 @@
 -- `text::put_text` meets its contract: the first i bytes are copied.
-use Rattle.std.specs.Prelude.{◌-◌, length}
 use mathlib.Core.Path.{refl}
-use Rattle.listing.proofs.Putting.{Copied, copy_next, copied_all}
+use Rattle.listing.proofs.Putting.{copy_next, copied_all}
 use native.Mathlib.Omega.{arith}
 use Rattle.listing.proofs.text.put_text.Goals as goal
 

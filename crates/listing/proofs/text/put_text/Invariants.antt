@@ -1,8 +1,6 @@
 -- `text::put_text` meets its contract: the first i bytes are copied.
 use Rattle.std.specs.Prelude.{◌-◌, length}
-use mathlib.Core.Path.{refl}
-use Rattle.listing.proofs.Putting.{Copied, copy_next, copied_all}
-use native.Mathlib.Omega.{arith}
+use Rattle.listing.proofs.Putting.{Copied}
 use Rattle.listing.proofs.text.put_text.Given as goal
 
 abbrev pub invariant-loop-i : goal.invariant-loop-i
