@@ -14,7 +14,7 @@ returns-in-Fails c =
     mesh_of a.bound a.counts a.polygons.now a.numbers.now a.mats.now a.vertices.now in
     let before : Lists =
     let a = c.args in
-    lists a.list.now a.indices.now a.polygons-out.now a.stored.now a.floats.now in
+    lists a.list.now a.indices.now a.polygons_out.now a.stored.now a.floats.now in
     let hulls : Hull = let a = c.args in hull a.shrunk.now a.shrunk_floats.now a.octants.now in
     let work : GeometryWork =
     let a = c.args in
