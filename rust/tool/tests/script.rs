@@ -9,25 +9,30 @@ use std::process::{Command, Output};
 const ROOT: &str = concat!(env!("CARGO_MANIFEST_DIR"), "/../..");
 
 /// What the script calls, beside rt, cargo and rustc.
-const TOOLS: [&str; 15] = [
-    "bash", "sh", "awk", "cat", "chmod", "date", "dirname", "env", "find", "mkdir", "printf", "readlink", "tail",
+const TOOLS: [&str; 16] = [
+    "bash", "sh", "awk", "cat", "chmod", "cp", "date", "dirname", "env", "find", "mkdir", "printf", "readlink", "tail",
     "tee", "touch",
 ];
 
-/// rt as it speaks: a line a crate, those that did not change, and the archive.
+/// rt as it speaks: a crate's functions and its verdict, nothing of a library that did not change, and the archive.
 const RT: &str = r#"#!/bin/sh
-echo "rt $*" >> "$CALLS"
-[ ! -e "$FAIL" ] || { echo 'fn base::put: not proved'; echo 'rt: base is not proved'; exit 1; }
-echo "fn base::little_endian::put_le: proved"
-echo "library std: modules loaded=0 checked=0"
-for name in base math; do
-    if [ -e "target/$name" ]; then echo "rt: $name proved (unchanged since it was last proved)"
-    else echo "rt: $name proved (90 s)"; touch "target/$name"; fi
+echo "rt $* in $PWD" >> "$CALLS"
+[ ! -e "$FAIL" ] || { echo 'fn base::put: not proved'; echo 'logic=not-proved'; echo 'rt: the library base did not build'; exit 1; }
+said() {
+    echo "fn $1::words::put: proved"
+    echo "statements std: modules loaded=23 checked=0"
+    echo "crate $1: modules loaded=0 checked=9"
+    echo "logic=proved functions=1 statements=trusted"
+}
+name=${PWD##*/}
+for below in base math; do
+    [ -e "../$below/out" ] || said $below
+    mkdir -p "../$below/out"
 done
-[ "$2" = bounds ] || echo "rt: prepared proved (180 s)"
-mkdir -p target/staticlib
-echo archive > "target/staticlib/lib$2.a"
-echo "rt: target/staticlib/lib$2.a has the functions of $2 that are marked #[no_mangle] pub extern \"C\""
+[ $name = bounds ] || said prepared
+said $name
+mkdir -p out
+echo archive > "out/lib$name.a"
 "#;
 
 /// cargo, which builds a command that says how it was called, and leaves alone one that is there.
@@ -49,11 +54,13 @@ impl Repository {
     fn new(name: &str) -> Repository {
         let root = std::env::temp_dir().join(format!("bounds-script-{name}-{}", std::process::id()));
         let _ = fs::remove_dir_all(&root);
-        for folder in ["crates/base", "rust/bounds/src", "rust/tool/src", "bin", "elsewhere"] {
+        let crates = ["base", "math", "prepared", "bounds", "bounds_prepare"].map(|name| format!("crates/{name}"));
+        let others = ["rust/bounds/src", "rust/tool/src", "bin", "elsewhere"].map(String::from);
+        for folder in crates.iter().chain(&others) {
             fs::create_dir_all(root.join(folder)).expect("a folder");
         }
         let repository = Repository(root);
-        repository.write("crates.txt", "# NAME: what it depends on\nbase:\nmath: base\nprepared: base math\nother: math\nbounds: base math\nbounds_prepare: base prepared\n");
+        repository.write("crates.txt", "# NAME: what it depends on\nbase:\nmath: base\nprepared: base math\nother: math\nbounds staticlib: base math\nbounds_prepare staticlib: base prepared\n");
         repository
             .write("rust/seconds.txt", "base 50\nmath 60\nprepared 240\nbounds 120\nbounds_prepare 240\nother 999\n");
         for file in [
@@ -121,6 +128,7 @@ fn said(output: &Output) -> String {
     String::from_utf8_lossy(&output.stderr).into_owned()
 }
 
+const PROVE: &str = "rt lib in /crates/bounds\n";
 const BUILD: &str = "cargo build --quiet --release --manifest-path /rust/Cargo.toml -p tool BOUNDS_LIB=\n";
 
 #[test]
@@ -128,22 +136,24 @@ fn the_first_run_proves_and_builds_and_the_second_runs_at_once() {
     let repository = Repository::new("twice");
     let first = repository.run(&["prepare", "a mesh.obj", "--out", "terrain"], &[]);
     let lines = [
-        "bounds: proves the library: 5 crates, some 6 minutes by the last run's times; later runs do without",
-        "bounds: 1 of 5 proved: base, 90 s; some 6 minutes left",
-        "bounds: 2 of 5 proved: math, 90 s; less than a minute left",
+        "bounds: proves the library: 5 crates, some 12 minutes by the last run's times; later runs do without",
+        "bounds: 1 of 5 proved: base, 0 s; some 11 minutes left",
+        "bounds: 2 of 5 proved: math, 0 s; less than a minute left",
         "bounds: 3 of 5 proved: bounds, 0 s; less than a minute left",
-        "bounds: 4 of 5 proved: prepared, 180 s; less than a minute left",
+        "bounds: 4 of 5 proved: prepared, 0 s; less than a minute left",
         "bounds: 5 of 5 proved: bounds_prepare, 0 s",
         "bounds: builds the command",
         "bounds: built, 0 s",
     ];
-    // Building takes a second where the machine has much to do.
-    assert_eq!(said(&first).replace("built, 1 s", "built, 0 s").lines().collect::<Vec<_>>(), lines);
+    // A step takes a second where the machine has much to do.
+    assert_eq!(said(&first).replace(", 1 s", ", 0 s").lines().collect::<Vec<_>>(), lines);
     assert_eq!(first.status.code(), Some(7), "the command's own");
     let folder = repository.path("elsewhere").canonicalize().expect("it is there");
     let answer = format!("in {}\n<prepare>\n<a mesh.obj>\n<--out>\n<terrain>\n", folder.display());
     assert_eq!(String::from_utf8_lossy(&first.stdout), answer);
-    assert_eq!(repository.calls(), format!("rt staticlib bounds\nrt staticlib bounds_prepare\n{BUILD}"));
+    assert_eq!(repository.calls(), format!("{PROVE}rt lib in /crates/bounds_prepare\n{BUILD}"));
+    let made = fs::read_to_string(repository.path("target/staticlib/libbounds_prepare.a")).expect("an archive");
+    assert_eq!(made, "archive\n");
     let second = repository.run(&["check"], &[]);
     assert_eq!((said(&second).as_str(), repository.calls().as_str()), ("", ""), "nothing is made again");
     assert_eq!(second.status.code(), Some(7));
@@ -155,14 +165,17 @@ fn what_changed_is_made_again_and_the_last_run_s_times_count() {
     repository.run(&[], &[]);
     repository.write("crates/base/lib.rt", "another\n");
     let proved = repository.run(&[], &[]);
-    assert!(repository.calls().starts_with("rt staticlib bounds\n") && repository.calls().ends_with(BUILD));
-    // 90 + 90 + 180 + 0 + 0 seconds, two at a time.
-    assert!(said(&proved).contains("5 crates, some 3 minutes by the last run's times"), "{}", said(&proved));
+    assert!(repository.calls().starts_with(PROVE) && repository.calls().ends_with(BUILD));
+    assert!(said(&proved).contains("5 crates, less than a minute by the last run's times"), "{}", said(&proved));
     assert!(
-        !said(&proved).contains("base, ") && said(&proved).contains("4 of 5 proved: prepared, 180 s"),
+        !said(&proved).contains("base, ") && said(&proved).contains("4 of 5 proved: prepared, "),
         "{}",
         said(&proved)
     );
+    // What rt leaves in a crate's folder is no change.
+    repository.write("crates/base/out/kept", "");
+    repository.run(&[], &[]);
+    assert_eq!(repository.calls(), "");
     repository.write("rust/tool/src/lib.rs", "another\n");
     repository.run(&[], &[]);
     assert_eq!(repository.calls(), BUILD, "the library is as it was");
@@ -203,7 +216,7 @@ fn without_rust_it_says_what_to_install_before_anything_is_proved() {
     let output = repository.run(&[], &[]);
     let words = "bounds: Rust is not installed. The command is written in Rust: install rustc and cargo, 1.88 or newer, with your \
                  system's package manager.\nbounds: Without Rust there is the proved program, which prepares the mesh in \
-                 crates/prepare/stdin:\nbounds:   rt check prepare && target/bin/prepare < crates/prepare/stdin\n";
+                 crates/prepare/stdin:\nbounds:   cd crates/prepare && rt run < stdin\n";
     assert_eq!(said(&output), words);
     assert_eq!((output.status.code(), repository.calls().as_str()), (Some(2), ""));
 }
@@ -235,10 +248,9 @@ fn what_is_not_proved_is_not_built() {
     repository.write("fail", "");
     let output = repository.run(&[], &[]);
     assert_eq!(output.status.code(), Some(2));
-    assert!(
-        said(&output).contains("rt: base is not proved\nbounds: the library is not proved; all that rt said is in ")
-    );
-    assert_eq!(repository.calls(), "rt staticlib bounds\n");
+    assert!(said(&output)
+        .contains("rt: the library base did not build\nbounds: the library is not proved; all that rt said is in "));
+    assert_eq!(repository.calls(), PROVE);
 }
 
 #[test]
@@ -247,8 +259,8 @@ fn the_repository_has_a_time_for_every_crate_of_the_library() {
     let (crates, seconds) = (read("crates.txt"), read("rust/seconds.txt"));
     let mut wanted = vec!["bounds", "bounds_prepare"];
     for line in crates.lines().rev() {
-        let (name, needs) = line.split_once(':').expect("NAME: what it depends on");
-        if wanted.contains(&name) {
+        let (said, needs) = line.split_once(':').expect("NAME: what it depends on");
+        if said.split_whitespace().next().is_some_and(|name| wanted.contains(&name)) {
             wanted.extend(needs.split_whitespace());
         }
     }
