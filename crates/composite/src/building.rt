@@ -7,8 +7,8 @@ ghost use Rattle.composite.specs.Trees.{child_limit, child_item, child_items, An
 
 use crate::children::computed_box;
 use base::numbers::Place;
-use bvh::slices::{Build, BuildRefusal};
 use bvh::items::BvhItem;
+use bvh::slices::{Build, BuildRefusal};
 use math::words3::Words3;
 use rows::ranges::RANGE_LIMIT;
 
