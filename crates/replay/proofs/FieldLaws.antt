@@ -1,5 +1,5 @@
 -- A text of words, each after a space: field i is the nine bytes from 9 * i on. Assumes nothing.
-use Rattle.std.proofs.Common.{◌≡◌, ℕ, zero, suc, ◌+◌, ◌-◌, ◌*◌, ◌<◌, ◌≤◌, List, [], ◌∷◌, ◌++◌, length, get_or, take, drop, set, sym, refl, ap, ◌∙◌, ap₂, append_assoc, append-nil, add-one, arith, length-append, length-drop, length-take-le, get_or-drop, drop-cons, drop-drop, take-suc-set, take_at, take-add, drop_at}
+use Rattle.std.proofs.Common.{◌≡◌, ℕ, zero, suc, ◌+◌, ◌*◌, ◌<◌, ◌≤◌, List, [], ◌∷◌, ◌++◌, length, get_or, take, drop, set, sym, refl, ap, ◌∙◌, ap₂, append_assoc, append-nil, add-one, arith, length-append, length-drop, length-take-le, get_or-drop, drop-cons, drop-drop, take-suc-set, take_at, take-add, drop_at}
 use lib.Seq.{drop-nil, take-length}
 use Rattle.io.specs.Digits.{last_digits}
 use Rattle.replay.specs.Lines.{field, fields_of, Spells}

@@ -1,9 +1,9 @@
 -- A text taken byte after byte: what is left of it, from where it was taken to, does what the whole does. Assumes nothing.
-use Rattle.std.proofs.Common.{◌≡◌, ℕ, ◌+◌, ◌%◌, ◌^◌, ◌<◌, ◌≤◌, true, false, List, [], ◌∷◌, ◌++◌, length, get_or, take, drop, set, sym, refl, ap, ◌∙◌, subst, ap₂, add-one, arith, length-take-le, take-suc-set, le-ltb, lt-ltb}
+use Rattle.std.proofs.Common.{◌≡◌, ℕ, ◌+◌, ◌%◌, ◌^◌, ◌<◌, ◌≤◌, List, [], length, get_or, take, drop, set, sym, refl, ap, ◌∙◌, subst, ap₂, add-one, arith, length-take-le, take-suc-set, le-ltb, lt-ltb}
 use lib.Seq.{drop-length}
 use Rattle.base.proofs.StoreLaws.{rest_one}
 use Rattle.replay.specs.Outcomes.{Judged}
-use Rattle.replay.specs.Tallies.{State, state_of, grown, After, Fed, Via, place_of, cases_after, misses_after, total_from}
+use Rattle.replay.specs.Tallies.{State, state_of, grown, After, Fed, place_of, cases_after, misses_after, total_from}
 use Rattle.replay.specs.declared.outcome.Outcome.{Outcome}
 use Rattle.replay.specs.declared.outcome.Outcome.TheVariants.{Match, Mismatch, Bad}
 use Rattle.replay.proofs.Numbering.{numbered}

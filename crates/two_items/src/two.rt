@@ -2,8 +2,8 @@
 ghost use Rattle.std.specs.Prelude.{[], ◌∷◌};
 ghost use Rattle.bvh.specs.Entry.{entries_of, outputs, lent, lengths_of, Answered};
 
-use bvh::slices::{Build, BuiltTree};
 use bvh::items::BvhItem;
+use bvh::slices::{Build, BuiltTree};
 use math::words3::Words3;
 
 // The tree of two items.

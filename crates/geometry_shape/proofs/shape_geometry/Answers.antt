@@ -8,8 +8,7 @@ use Rattle.geometry_shape.proofs.shape_geometry.Goals as goal
 
 pub link_mesh-requires : goal.link_mesh-requires
 link_mesh-requires c =
-    let d : tie.After-slice-known8 = c in
-    linkable d.before.before.before.before.before.before.before.before.before.before.requires
+    linkable c.requires
 
 pub returns-then-v-eq0 : goal.returns-then-v-eq0
 returns-then-v-eq0 c =

@@ -10,3 +10,4 @@ returns c = λ i. record {
   y = c.float_at-2.ensures i;
   z = c.float_at-3.ensures i;
   w = c.float_at-4.ensures i;
+}

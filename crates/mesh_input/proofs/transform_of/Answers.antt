@@ -10,3 +10,4 @@ returns c = λ i. record {
   row1 = c.row_at-2.ensures i;
   row2 = c.row_at-3.ensures i;
   row3 = c.row_at-4.ensures i;
+}

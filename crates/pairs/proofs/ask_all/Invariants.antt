@@ -1,5 +1,5 @@
 -- `ask_all` is safe and ends: k counts the queries.
-use Rattle.std.proofs.Common.{◌-◌, ◌≤◌, rules}
+use Rattle.std.proofs.Common.{◌-◌, ◌≤◌}
 use Rattle.pairs.proofs.ask_all.Given as goal
 
 abbrev pub invariant-loop-k : goal.invariant-loop-k

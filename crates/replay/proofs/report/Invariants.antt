@@ -1,5 +1,5 @@
 -- `report` is safe and ends: i counts the operations up to 35.
-use Rattle.std.proofs.Common.{◌-◌, ◌≤◌, rules}
+use Rattle.std.proofs.Common.{◌-◌, ◌≤◌}
 use Rattle.replay.proofs.report.Given as goal
 
 abbrev pub invariant-loop-i : goal.invariant-loop-i

@@ -1,5 +1,5 @@
 -- `draw::corner` meets its contract: each axis by its number.
-use Rattle.std.proofs.Common.{ℕ, ap, ◌∙◌, rules}
+use Rattle.std.proofs.Common.{ℕ, ap, ◌∙◌}
 use Rattle.pairs.specs.Drawing.{next_of, whole_of, corner_of}
 use Rattle.pairs.proofs.draw.corner.Goals as goal
 

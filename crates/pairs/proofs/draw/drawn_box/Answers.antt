@@ -1,5 +1,5 @@
 -- `draw::drawn_box` meets its contract: the least corner, and it with the sides, each scaled.
-use Rattle.std.proofs.Common.{ℕ, ap, ◌∙◌, ap₂, rules}
+use Rattle.std.proofs.Common.{ℕ, ap, ◌∙◌, ap₂}
 use lib.Ieee.{binary32, of_bits, neg}
 use Rattle.math.specs.declared.vec3.Vec3.{Vec3}
 use Rattle.math.specs.Vec3s.{add_of, scale_of, vadd_of}

@@ -1,5 +1,5 @@
 -- `draw::three_on` meets its contract: the next of the next of the next.
-use Rattle.std.proofs.Common.{ap, ◌∙◌, rules}
+use Rattle.std.proofs.Common.{ap, ◌∙◌}
 use Rattle.pairs.specs.Drawing.{next_of}
 use Rattle.pairs.proofs.draw.three_on.Goals as goal
 

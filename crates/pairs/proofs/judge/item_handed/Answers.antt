@@ -1,5 +1,5 @@
 -- `judge::item_handed` meets its contract: each way back is one case of `item_handed`.
-use Rattle.std.proofs.Common.{◌∙◌, arith, rules, le-leb}
+use Rattle.std.proofs.Common.{◌∙◌, arith, le-leb}
 use borrow.Author.Tests.{lt-leb}
 use Rattle.pairs.proofs.CountLaws.{chosen_first, chosen_second}
 use Rattle.pairs.proofs.judge.item_handed.Goals as goal

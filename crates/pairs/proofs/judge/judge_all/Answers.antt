@@ -1,6 +1,5 @@
 -- `judge::judge_all` meets its contract: the first i places are compared.
-use Rattle.std.proofs.Common.{◌-◌, ◌≤◌, arith, rules}
-use Rattle.pairs.specs.Judging.{Compared}
+use Rattle.std.proofs.Common.{arith}
 use Rattle.pairs.proofs.CountLaws.{compared_none, compared_at}
 use Rattle.pairs.proofs.judge.judge_all.Goals as goal
 

@@ -1,7 +1,6 @@
 -- `judge::judge_all` meets its contract: the first i places are compared.
-use Rattle.std.proofs.Common.{◌-◌, ◌≤◌, arith, rules}
+use Rattle.std.proofs.Common.{◌-◌, ◌≤◌}
 use Rattle.pairs.specs.Judging.{Compared}
-use Rattle.pairs.proofs.CountLaws.{compared_none, compared_at}
 use Rattle.pairs.proofs.judge.judge_all.Given as goal
 
 abbrev pub invariant-loop-i : goal.invariant-loop-i

@@ -1,5 +1,5 @@
 -- `judge::meets_at` meets its contract: the box of an entry that is not present is not compared.
-use Rattle.std.proofs.Common.{sym, ap, ◌∙◌, rules}
+use Rattle.std.proofs.Common.{sym, ap, ◌∙◌}
 use Rattle.math.specs.declared.aabb.Aabb.{Aabb}
 use Rattle.walk_steps.specs.Boxes.{meets_box}
 use Rattle.pairs.specs.Judging.{meets_at}

@@ -1,5 +1,4 @@
 -- `judge::plus_if` meets its contract, either way.
-use Rattle.std.proofs.Common.{rules}
 use Rattle.pairs.proofs.CountLaws.{plus_yes, plus_no}
 use Rattle.pairs.proofs.judge.plus_if.Goals as goal
 

@@ -1,5 +1,5 @@
 -- `lists::as_floats` meets its contract: both corners.
-use Rattle.std.proofs.Common.{◌≡◌, rules}
+use Rattle.std.proofs.Common.{◌≡◌}
 use Rattle.math.specs.declared.aabb.Aabb.{Aabb}
 use Rattle.math.specs.declared.vec3.Vec3.{Vec3}
 use Rattle.pairs.proofs.lists.as_floats.Goals as goal

@@ -1,5 +1,5 @@
 -- `lists::box_of` meets its contract: the words at the place, as floats.
-use Rattle.std.proofs.Common.{ap, ◌∙◌, rules}
+use Rattle.std.proofs.Common.{ap, ◌∙◌}
 use Rattle.tree.specs.Pair.{box_values}
 use Rattle.pairs.proofs.lists.box_of.Goals as goal
 

@@ -1,5 +1,5 @@
 -- `lists::presence` meets its contract, either way.
-use Rattle.std.proofs.Common.{sym, ◌∙◌, rules}
+use Rattle.std.proofs.Common.{sym, ◌∙◌}
 use Rattle.pairs.proofs.CountLaws.{chosen_first, chosen_second}
 use Rattle.pairs.proofs.lists.presence.Goals as goal
 

@@ -1,5 +1,5 @@
 -- `queries::query` meets its contract: each way back is one case of `query_box`.
-use Rattle.std.proofs.Common.{ℕ, ap, ◌∙◌, arith, rules, le-ltb, lt-ltb}
+use Rattle.std.proofs.Common.{ℕ, ap, ◌∙◌, arith, le-ltb, lt-ltb}
 use Rattle.math.specs.declared.aabb.Aabb.{Aabb}
 use Rattle.entries.specs.Boxes.{box_at}
 use Rattle.tree.specs.Pair.{box_values}
@@ -16,7 +16,7 @@ unfolding query_box
 returns-then-k-lt12 c =
     let start = c.args in
     let shape = start.shape in
-    let place_is = c.place_of-place.ensures.1 ∙ ap (λ (t : ℕ). below_of t shape.n) c.next.ensures in
+    let place_is = c.place_of-place.ensures.result_value ∙ ap (λ (t : ℕ). below_of t shape.n) c.next.ensures in
     let box_is = c.box_of.ensures ∙ ap (λ (p : ℕ). box_values (box_at start.list.now p)) place_is in
     c.at_box.ensures
     ∙ ap (λ (b : Aabb). at_box start.k b shape.grain) box_is

@@ -1,5 +1,5 @@
 -- `queries::wide` meets its contract: an arm for each number, and one for all from 5 on.
-use Rattle.std.proofs.Common.{◌≡◌, ℕ, ◌<◌, sym, ap, ◌∙◌, ap₂, arith, rules, ne_eqb}
+use Rattle.std.proofs.Common.{◌≡◌, ℕ, ◌<◌, sym, ap, ◌∙◌, ap₂, arith, ne_eqb}
 use lib.Ieee.{Float, binary32, of_bits, neg}
 use Rattle.math.specs.Vec3s.{◌⊗◌}
 use Rattle.pairs.specs.Drawing.{cube_of, wide_of}

@@ -1,5 +1,5 @@
 -- `answer::matrix` meets its contract: what the calls ensure, row by row.
-use Rattle.std.proofs.Common.{◌≡◌, ◌∙◌, ap₂, arith}
+use Rattle.std.proofs.Common.{◌≡◌, ◌∙◌, ap₂}
 use Rattle.math.specs.declared.mat4.Vec4.{Vec4}
 use Rattle.math.specs.declared.mat4.Mat4.{Mat4}
 use Rattle.replay.proofs.answer.matrix.Goals as goal

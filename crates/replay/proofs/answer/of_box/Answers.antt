@@ -1,5 +1,5 @@
 -- `answer::of_box` meets its contract: what the calls ensure, one after the other.
-use Rattle.std.proofs.Common.{ap, ◌∙◌, ap₂, arith}
+use Rattle.std.proofs.Common.{ap, ◌∙◌, ap₂}
 use Rattle.math.specs.Transform.{transform_box}
 use Rattle.math.specs.declared.vec3.Vec3.{Vec3}
 use Rattle.math.specs.declared.aabb.Aabb.{Aabb}

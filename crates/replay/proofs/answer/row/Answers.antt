@@ -1,5 +1,5 @@
 -- `answer::row` meets its contract: a point, and the word after it.
-use Rattle.std.proofs.Common.{ap₂, arith}
+use Rattle.std.proofs.Common.{ap₂}
 use lib.Ieee.{Float}
 use Rattle.math.specs.declared.vec3.Vec3.{Vec3}
 use Rattle.math.specs.declared.mat4.Vec4.{Vec4}

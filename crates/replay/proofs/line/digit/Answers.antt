@@ -1,5 +1,5 @@
 -- `line::digit` meets its contract: a case for each test, which are the definition's.
-use Rattle.std.proofs.Common.{arith, rules, le-ltb, lt-ltb}
+use Rattle.std.proofs.Common.{arith, le-ltb, lt-ltb}
 use Rattle.replay.proofs.line.digit.Goals as goal
 
 pub returns-then-c-lt48 : goal.returns-then-c-lt48

@@ -1,5 +1,5 @@
 -- `line::fields` meets its contract: the fields before i are those of the first i words. Where field i is none, the text is none of words.
-use Rattle.std.proofs.Common.{◌≡◌, ℕ, ◌+◌, ◌-◌, ◌*◌, ◌≤◌, List, length, get_or, take, drop, refl, ap, ◌∙◌, subst, arith, length-drop, length-set, length-take, rules}
+use Rattle.std.proofs.Common.{◌≡◌, ℕ, ◌+◌, ◌-◌, ◌*◌, List, get_or, take, drop, refl, ap, ◌∙◌, subst, arith, length-drop, length-set, length-take}
 use Rattle.replay.proofs.FieldLaws.{Read, read_more, read_whole, space_at, digits_at, part_digits, no_part}
 use Rattle.replay.specs.Lines.{Spells}
 use Rattle.replay.specs.declared.line.Spelled.TheVariants as S
@@ -24,7 +24,7 @@ returns-in_default c =
     let text = c.args.text.now in
     let k = 9 * i + 9 - (9 * i + 1) in
     let part = take k (drop (9 * i + 1) text) in
-    let none : Spells part S.Nothing = subst (Spells part) c.enum_told-1.given.1 c.number.ensures in
+    let none : Spells part S.Nothing = subst (Spells part) c.in_default.is c.number.ensures in
     let digits_are = ap (λ (s : List ℕ). take 8 (drop (9 * i + 1) s)) e ∙ digits_at i vs (omega arith) in
     no_part text (9 * i + 1) k (get_or vs i 0) (omega arith) (omega arith) none digits_are
 
@@ -35,8 +35,8 @@ loop-i-preserved c =
     let text = c.args.text.now in
     let k = 9 * i + 9 - (9 * i + 1) in
     let part = take k (drop (9 * i + 1) text) in
-    let w = c.word-1.given.0.0 in
-    let number : Spells part (S.Number w) = subst (Spells part) c.word-1.given.1 c.number.ensures in
+    let w = c.in-Number.word in
+    let number : Spells part (S.Number w) = subst (Spells part) c.in-Number.is c.number.ensures in
     let digits_are = part_digits text (9 * i + 1) k w (omega arith) (omega arith) number in
     let space = c.if-text-at-ne32.false in
     let more = read_more text words i w c.loop-i.invariant.2 (omega arith) (omega arith) space digits_are in

@@ -1,5 +1,5 @@
 -- `line::number` meets its contract: the bytes before i are digits and spell n. A byte that is no digit stands in no spelling.
-use Rattle.std.proofs.Common.{◌≡◌, ℕ, ◌+◌, ◌-◌, ◌*◌, ◌<◌, ◌≤◌, length, get_or, sym, ◌∙◌, subst, arith}
+use Rattle.std.proofs.Common.{◌≡◌, ℕ, ◌+◌, ◌*◌, ◌<◌, ◌≤◌, get_or, sym, ◌∙◌, subst, arith}
 use Rattle.replay.specs.Lines.{digit_of}
 use Rattle.replay.proofs.Spelling.{Spelling, none, more, fits, whole, none_at, digit_most}
 use Rattle.replay.proofs.line.number.Goals as goal

@@ -1,7 +1,6 @@
 -- `line::number` meets its contract: the bytes before i are digits and spell n. A byte that is no digit stands in no spelling.
-use Rattle.std.proofs.Common.{◌≡◌, ℕ, ◌+◌, ◌-◌, ◌*◌, ◌<◌, ◌≤◌, length, get_or, sym, ◌∙◌, subst, arith}
-use Rattle.replay.specs.Lines.{digit_of}
-use Rattle.replay.proofs.Spelling.{Spelling, none, more, fits, whole, none_at, digit_most}
+use Rattle.std.proofs.Common.{◌-◌, ◌≤◌, length}
+use Rattle.replay.proofs.Spelling.{Spelling}
 use Rattle.replay.proofs.line.number.Given as goal
 
 abbrev pub invariant-loop-i : goal.invariant-loop-i

@@ -1,5 +1,5 @@
 -- `operation::inputs` meets its contract: the table's entry at each operation's number.
-use Rattle.std.proofs.Common.{ℕ, get_or, ap, ◌∙◌, arith}
+use Rattle.std.proofs.Common.{ℕ, get_or, ap, ◌∙◌}
 use Rattle.replay.proofs.Numbering.{input_table, numbered}
 use Rattle.replay.proofs.operation.inputs.Goals as goal
 

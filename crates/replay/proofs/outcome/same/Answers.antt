@@ -1,5 +1,5 @@
 -- `outcome::same` meets its contract: the elements before i are the same.
-use Rattle.std.proofs.Common.{◌≡◌, ℕ, ◌-◌, ◌<◌, ◌≤◌, List, length, get_or, ap, arith, ext_get_or, below_none, below_more}
+use Rattle.std.proofs.Common.{ℕ, List, length, get_or, ap, arith, ext_get_or, below_none, below_more}
 use Rattle.replay.proofs.outcome.same.Goals as goal
 
 pub returns-then-a-b : goal.returns-then-a-b

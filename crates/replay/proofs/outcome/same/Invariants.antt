@@ -1,5 +1,5 @@
 -- `outcome::same` meets its contract: the elements before i are the same.
-use Rattle.std.proofs.Common.{◌≡◌, ℕ, ◌-◌, ◌<◌, ◌≤◌, List, length, get_or, ap, arith, ext_get_or, below_none, below_more}
+use Rattle.std.proofs.Common.{◌≡◌, ℕ, ◌-◌, ◌<◌, ◌≤◌, length, get_or}
 use Rattle.replay.proofs.outcome.same.Given as goal
 
 abbrev pub invariant-loop-i : goal.invariant-loop-i

@@ -1,5 +1,5 @@
 -- `tally::bump` meets its contract: the place's number, and one more stored there.
-use Rattle.std.proofs.Common.{ℕ, set, ap, rules}
+use Rattle.std.proofs.Common.{ℕ, set, ap}
 use Rattle.replay.specs.Tallies.{bumped}
 use Rattle.replay.proofs.tally.bump.Goals as goal
 

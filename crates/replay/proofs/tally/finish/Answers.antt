@@ -1,5 +1,5 @@
 -- `tally::finish` meets its contract: one more at place 0 where a line was begun.
-use Rattle.std.proofs.Common.{rules, le-ltb, lt-ltb}
+use Rattle.std.proofs.Common.{le-ltb, lt-ltb}
 use Rattle.replay.proofs.tally.finish.Goals as goal
 
 pub returns-then-at-gt0 : goal.returns-then-at-gt0

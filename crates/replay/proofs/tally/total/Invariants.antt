@@ -1,7 +1,6 @@
 -- `tally::total` meets its contract: the sum so far and the places that are left give the whole sum.
-use Rattle.std.proofs.Common.{◌≡◌, ◌-◌, ◌≤◌, length, drop, refl, arith, rules}
+use Rattle.std.proofs.Common.{◌≡◌, ◌-◌, ◌≤◌, length, drop}
 use Rattle.replay.specs.Tallies.{total_from}
-use Rattle.replay.proofs.TallyLaws.{summed, all_summed}
 use Rattle.replay.proofs.tally.total.Given as goal
 
 abbrev pub invariant-loop-i : goal.invariant-loop-i

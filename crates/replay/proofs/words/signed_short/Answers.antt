@@ -1,5 +1,5 @@
 -- `words::signed_short` meets its contract: an i16 is an i32, and is read as what it is.
-use Rattle.std.proofs.Common.{ap, ◌∙◌, rules}
+use Rattle.std.proofs.Common.{ap, ◌∙◌}
 use Rattle.replay.specs.Numbers.{signed_word}
 use Rattle.replay.proofs.SignedWords.{widen, read_wide}
 use Rattle.replay.proofs.words.signed_short.Goals as goal
