@@ -14,18 +14,18 @@ returns-in-Fails c =
     mesh_of a.bound a.counts a.polygons.now a.numbers.now a.mats.now a.vertices.now in
     let before : Lists =
     let a = c.args in
-    lists a.list.now a.indices.now a.polygons-out.now a.stored.now a.floats.now in
+    lists a.list.now a.indices.now a.polygons_out.now a.stored.now a.floats.now in
     let hulls : Hull = let a = c.args in hull a.shrunk.now a.shrunk_floats.now a.octants.now in
     let work : GeometryWork =
     let a = c.args in
     geometry_work a.entries.now a.places.now a.temp.now a.stack.now a.rows.now a.points.now a.centres.now a.olds.now
     a.news.now in
     let lengths : Lengths = geometry_lengths mesh before hulls work c.args.others in
-    geometry_refused mesh lengths before hulls _ (sym c.check-1.given.1 ∙ c.geometry_refusal-check.ensures)
+    geometry_refused mesh lengths before hulls _ (sym c.in-Fails.is ∙ c.geometry_refusal-check.ensures)
 
 pub prepare_checked-requires : goal.prepare_checked-requires
 prepare_checked-requires c =
-    record { passed = sym c.enum_told-1.given.1 ∙ c.geometry_refusal-check.ensures }
+    record { passed = sym c.in_default.is ∙ c.geometry_refusal-check.ensures }
 
 pub returns : goal.returns
 returns c = c.prepare_checked.ensures

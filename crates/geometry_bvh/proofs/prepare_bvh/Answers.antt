@@ -40,7 +40,7 @@ finish_empty-requires c =
     bvh_work a.entries.now a.places.now a.temp.now a.stack.now a.rows.now a.points.now a.sorted.now a.centres.now in
     let lengths : Lengths = bvh_lengths mesh before trees work c.args.others in
     let passed : c.bvh_refusal-check.result ≡ Passed → Passed ≡ bvh_check mesh.bound mesh.counts lengths mesh.polygons (materials_of mesh) = λ told. sym told ∙ c.bvh_refusal-check.ensures in
-    empty_rooms mesh before trees work c.args.others (passed c.in-Passed.is)
+    empty_rooms mesh before trees work c.args.others (passed c.in_default.is)
 
 pub returns-then-counts-eq0 : goal.returns-then-counts-eq0
 returns-then-counts-eq0 c =
@@ -57,7 +57,7 @@ returns-then-counts-eq0 c =
     let lengths : Lengths = bvh_lengths mesh before trees work c.args.others in
     let passed : c.bvh_refusal-check.result ≡ Passed → Passed ≡ bvh_check mesh.bound mesh.counts lengths mesh.polygons (materials_of mesh) = λ told. sym told ∙ c.bvh_refusal-check.ensures in
     let e = c.finish_empty.ensures in
-    empty_answered mesh before trees work c.args.others (passed c.in-Passed.is) c.if-counts-eq0.true _ _ _ _ _ e.0
+    empty_answered mesh before trees work c.args.others (passed c.in_default.is) c.if-counts-eq0.true _ _ _ _ _ e.0
     e.1
 
 pub prepare_tree-requires : goal.prepare_tree-requires
@@ -74,7 +74,7 @@ prepare_tree-requires c =
     bvh_work a.entries.now a.places.now a.temp.now a.stack.now a.rows.now a.points.now a.sorted.now a.centres.now in
     let lengths : Lengths = bvh_lengths mesh before trees work c.args.others in
     let passed : c.bvh_refusal-check.result ≡ Passed → Passed ≡ bvh_check mesh.bound mesh.counts lengths mesh.polygons (materials_of mesh) = λ told. sym told ∙ c.bvh_refusal-check.ensures in
-    record { passed = passed c.in-Passed.is; some = c.if-counts-eq0.false }
+    record { passed = passed c.in_default.is; some = c.if-counts-eq0.false }
 
 pub returns : goal.returns
 returns c = c.prepare_tree.ensures
