@@ -13,7 +13,6 @@ use Rattle.bvh.specs.declared.slices.Build.{Build}
 use Rattle.bvh.specs.declared.slices.Build.TheVariants.{Built, Refused}
 use Rattle.bvh.specs.declared.slices.BuildRefusal.TheVariants.{TooManyEntries, BufferTooShort, TooManyNodes}
 use Rattle.bvh.specs.declared.slices.Lengths.{Lengths}
-use Rattle.composite.specs.declared.building.CompositeTree.{CompositeTree}
 use Rattle.composite.specs.declared.building.CompositeTree.TheVariants.{NoTree, Tree}
 use Rattle.composite.specs.Trees.{child_limit, child_entries, build_by, tree_above_by}
 use Rattle.composite.proofs.ItemLaws.{length_items}

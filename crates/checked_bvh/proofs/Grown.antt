@@ -3,7 +3,6 @@ use Rattle.std.specs.Prelude.{◌≡◌, ℕ, false, List, length}
 use mathlib.Core.Path.{refl, sym}
 use Rattle.bvh.specs.Entry.{Outputs}
 use Rattle.bvh.specs.declared.slices.Build.{Build}
-use Rattle.bvh.specs.declared.slices.Build.TheVariants as Build
 use Rattle.finishing.specs.Steps.Finishing.{StoreRoom, ListRoom}
 use Rattle.meshes.specs.declared.Check.TheVariants.{Passed}
 use Rattle.meshes.specs.declared.GeometryLengths.{GeometryLengths}

@@ -1,5 +1,5 @@
 -- What each step of shaping a geometry asks and gives, over plain lists.
-use Prim.Native.Nat.{ℕ, ◌+◌, ◌*◌, ◌≤◌}
+use Prim.Native.Nat.{ℕ, ◌*◌, ◌≤◌}
 use native.Mathlib.Omega.{arith}
 use mathlib.Core.Bool.{Bool, cond}
 use mathlib.Core.List.{List, []}
@@ -10,7 +10,6 @@ use lib.ListN.{length, take}
 use lib.Seq.{take_all, length-take-le}
 use borrow.Author.Tests.{eq-eqb, ne_eqb}
 use Rattle.base.specs.Lists.{over}
-use Rattle.corners.specs.Corners.{corners_of}
 use Rattle.corners.proofs.CornerLaws.{length_corners}
 use Rattle.sides.specs.Links.{links_of}
 use Rattle.finishing.specs.Stored.{stored_bytes, floats_of}
@@ -22,7 +21,7 @@ use Rattle.meshes.specs.declared.Bound.{Bound}
 use Rattle.meshes.specs.Meshes.{geometry_of}
 use Rattle.octants.specs.declared.lists.OctantCounts.{OctantCounts}
 use Rattle.octants.specs.Octants.{counts_of}
-use Rattle.prepared.specs.Answers.{Hull, hull, geometry_work}
+use Rattle.prepared.specs.Answers.{Hull, geometry_work}
 use Rattle.prepared.specs.Shrunk.{shrunk_points, shrunk_bytes, shrunk_floats, shrunk_octant, octants_left}
 use Rattle.prepared.specs.Steps.Shapes.{GeometryRoom, GeometryShaped}
 use Rattle.rings.specs.Meshes.{mesh_of}

@@ -39,7 +39,6 @@ use Rattle.walk.specs.Walks.{Outcome, walk_of, unread, ended, too_many, too_shor
 use Rattle.walk.specs.Walks as W
 use Rattle.walk.specs.declared.slices.Counts.{Counts}
 use Rattle.walk.specs.declared.slices.Walk.{Walk}
-use Rattle.walk.specs.declared.slices.Walk.TheVariants as Walk
 use Rattle.walk_steps.specs.Boxes.{query_of}
 use Rattle.walk_steps.specs.Step.{Turn, lent_of, started}
 use Rattle.walk_steps.specs.declared.refusals.WalkRefusal.{WalkRefusal}

@@ -1,16 +1,14 @@
 -- What `prepare_bvh` answers of a mesh that passes the checks: a tree, none where there are no polygons, or one that has too many nodes. From the contracts of
 -- its parts.
-use Rattle.std.specs.Prelude.{◌≡◌, ℕ, ◌*◌, ◌≤◌, Bool, true, false, cond, eqb, ltb, List, [], map, length, take}
+use Rattle.std.specs.Prelude.{◌≡◌, ℕ, ◌≤◌, Bool, true, false, cond, eqb, ltb, List, map, length, take}
 use native.Mathlib.Omega.{arith}
-use mathlib.Core.Path.{refl, sym, ap, ap₂, subst, ◌∙◌}
+use mathlib.Core.Path.{refl, sym, ap, subst, ◌∙◌}
 use borrow.Author.Tests.{eq-eqb, ne_eqb}
 use lib.Seq.{take-take}
 use Rattle.base.specs.Lists.{over}
-use Rattle.bvh.specs.Build.{Entries, tree_of, built_of, order_written}
-use Rattle.bvh.specs.Build as B
+use Rattle.bvh.specs.Build.{Entries, tree_of, built_of}
 use Rattle.bvh.specs.Entry.{Outputs}
 use Rattle.bvh.specs.declared.slices.Build.{Build}
-use Rattle.bvh.specs.declared.slices.Build.TheVariants as Build
 use Rattle.bvh.specs.declared.slices.BuildRefusal.{BuildRefusal}
 use Rattle.bvh.specs.declared.slices.BuildRefusal.TheVariants as Why
 use Rattle.bvh.specs.declared.slices.BuiltTree.{BuiltTree}
@@ -22,30 +20,24 @@ use Rattle.finishing.specs.Steps.Finishing.{Stored, Listed}
 use Rattle.linking.specs.Written.{written_of}
 use Rattle.materials.specs.Materials.{value_at, values_of, list_of, indices_of}
 use Rattle.math.specs.declared.vec3.Vec3.{Vec3}
-use Rattle.meshes.specs.declared.Check.{Check}
-use Rattle.meshes.specs.declared.Check.TheVariants.{Passed, Fails}
+use Rattle.meshes.specs.declared.Check.TheVariants.{Passed}
 use Rattle.meshes.specs.declared.Frame.{Frame}
 use Rattle.meshes.specs.declared.Lengths.{Lengths}
-use Rattle.meshes.specs.declared.PrepareRefusal.{PrepareRefusal}
-use Rattle.meshes.specs.declared.PrepareRefusal.TheVariants.{UnknownKind, TooManyNodes}
-use Rattle.meshes.specs.Checks.{is_geometry, is_bvh, check_in, geometry_check, bvh_check}
+use Rattle.meshes.specs.declared.PrepareRefusal.TheVariants.{TooManyNodes}
+use Rattle.meshes.specs.Checks.{bvh_check}
 use Rattle.meshes.specs.Meshes.{Mesh, box_of, materials_of}
-use Rattle.octants.specs.declared.lists.OctantCounts.{OctantCounts}
-use Rattle.octants.specs.Octants.{counts_of}
 use Rattle.rebuild.specs.Rebuilding.{leaf_limit, tree_answer, tree_answer_by}
 use Rattle.rebuild.proofs.MaterialOrder.{values_in_order}
 use Rattle.reorder.specs.Reordering.{in_order}
 use Rattle.rows.specs.Tree.{size}
 use Rattle.vertices.specs.Vertices.{quantum_of_box}
-use Rattle.prepared.specs.declared.Prepare.{Prepare}
-use Rattle.prepared.specs.declared.Prepare.TheVariants.{Geometry, Bvh, Empty, Refused}
+use Rattle.prepared.specs.declared.Prepare.TheVariants.{Bvh, Empty, Refused}
 use Rattle.prepared.specs.declared.Values.{Values}
-use Rattle.prepared.specs.Answers.{with_tree, answer_after, answer_of, Lists, Hull, geometry_answer, bvh_answer, GeometryAnswered, BvhAnswered}
+use Rattle.prepared.specs.Answers.{with_tree, answer_after, Lists, bvh_answer, BvhAnswered}
 use Rattle.prepared.specs.Prepared.{PreparedMesh, prepared_of}
-use Rattle.prepared.specs.Rebuilt.{entries_of8, polygons_of8, materials_of8, tree_of8, frame_of}
-use Rattle.prepared.specs.Shrunk.{octants_left}
-use Rattle.prepared.specs.Steps.Shapes.{GeometryShaped, BvhShaped}
-use Rattle.prepared.proofs.Meshes.{geometry_mesh, bvh_mesh, empty_mesh, geometry_is, bvh_is, empty_is}
+use Rattle.prepared.specs.Rebuilt.{entries_of8, materials_of8, tree_of8, frame_of}
+use Rattle.prepared.specs.Steps.Shapes.{BvhShaped}
+use Rattle.prepared.proofs.Meshes.{bvh_mesh, empty_mesh, bvh_is, empty_is}
 use Rattle.prepared.proofs.Answering.{bvh_decides}
 use Rattle.prepared.proofs.MaterialLaws.{order, order_long, order_within, second_pass_in_order}
 

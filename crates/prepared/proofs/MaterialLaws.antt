@@ -20,7 +20,6 @@ use Rattle.meshes.specs.Meshes.{Mesh, materials_of}
 use Rattle.rebuild.proofs.MaterialOrder.{second_pass_values, list_length_in_order}
 use Rattle.rebuild.proofs.OrderLaws.{order_length, order_permutes, places_below}
 use Rattle.reorder.specs.Reordering.{in_order}
-use Rattle.prepared.specs.declared.Prepare.{Prepare}
 use Rattle.prepared.specs.declared.Prepare.TheVariants.{Refused}
 use Rattle.prepared.specs.Answers.{answer_after, answer_of, number_of, geometry_answer, bvh_answer}
 use Rattle.prepared.specs.Prepared.{rebuilds, used_of, prepared_of}

@@ -8,13 +8,12 @@ use Rattle.finishing.specs.Filled.{list_bytes}
 use Rattle.finishing.specs.Stored.{stored_bytes, floats_of}
 use Rattle.linking.specs.Written.{written_of}
 use Rattle.materials.specs.Materials.{list_of, indices_of}
-use Rattle.math.specs.declared.vec3.Vec3.{Vec3}
 use Rattle.meshes.specs.declared.Frame.{Frame}
-use Rattle.meshes.specs.Checks.{is_geometry, is_bvh}
+use Rattle.meshes.specs.Checks.{is_geometry}
 use Rattle.meshes.specs.Meshes.{Mesh, box_of, materials_of}
 use Rattle.rebuild.specs.Rebuilding.{leaf_limit}
 use Rattle.vertices.specs.Vertices.{quantum_of_box}
-use Rattle.prepared.specs.Prepared.{PreparedMesh, rebuilds, polygons_of, used_of, frame_for, quantum_for, of_geometry, of_tree, prepared_of}
+use Rattle.prepared.specs.Prepared.{PreparedMesh, rebuilds, polygons_of, used_of, frame_for, quantum_for, prepared_of}
 use Rattle.prepared.specs.Rebuilt.{entries_of8, order_of8, polygons_of8, materials_of8, tree_of8, frame_of}
 use Rattle.prepared.specs.Shrunk.{shrunk_bytes, shrunk_floats, shrunk_octant}
 

@@ -1,23 +1,21 @@
 -- The two entry points are one prepare: kind 8 to `prepare_bvh`, every other to `prepare_geometry`, answers what the definition does, refusal 6 included, and
 -- leaves every output as it says, those that are not lent too. Assumes nothing.
-use Rattle.std.specs.Prelude.{◌≡◌, ℕ, zero, suc, ◌+◌, ◌*◌, Bool, true, false, cond, eqb, List, [], ◌++◌, length, take, drop}
+use Rattle.std.specs.Prelude.{◌≡◌, ℕ, zero, suc, ◌+◌, ◌*◌, Bool, false, cond, eqb, List, [], ◌++◌, take, drop}
 use native.Mathlib.Omega.{arith}
 use mathlib.Core.List.{append_assoc}
 use mathlib.Core.Path.{refl, sym, ap, ◌∙◌}
-use borrow.Author.Tests.{eq-eqb, ne_eqb}
+use borrow.Author.Tests.{ne_eqb}
 use lib.ListN.{take-append-drop}
 use lib.Seq.{drop-drop}
-use Rattle.base.specs.Lists.{over}
 use Rattle.bvh.specs.Entry.{Outputs}
 use Rattle.meshes.specs.declared.Lengths.{Lengths}
 use Rattle.meshes.specs.declared.PrepareRefusal.TheVariants.{UnknownKind}
 use Rattle.meshes.specs.Checks.{is_geometry, is_bvh}
 use Rattle.meshes.specs.Meshes.{Mesh}
-use Rattle.octants.specs.Octants.{part_of, parts}
+use Rattle.octants.specs.Octants.{parts}
 use Rattle.prepared.specs.declared.Prepare.{Prepare}
 use Rattle.prepared.specs.declared.Prepare.TheVariants.{Geometry, Bvh, Empty, Refused}
-use Rattle.prepared.specs.Answers.{Lists, Hull, kept, kept_octants, answer_of, geometry_answer, bvh_answer, GeometryAnswered, BvhAnswered, Answered}
-use Rattle.prepared.specs.Prepared.{prepared_of}
+use Rattle.prepared.specs.Answers.{Lists, Hull, kept, kept_octants, answer_of, GeometryAnswered, BvhAnswered, Answered}
 use Rattle.prepared.specs.Shrunk.{octants_left}
 use Rattle.prepared.proofs.Meshes.{no_nodes, no_trees, no_order, no_shrunk, no_floats, no_octants}
 

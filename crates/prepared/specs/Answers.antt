@@ -1,10 +1,9 @@
 -- What preparing a mesh answers, and what every buffer then holds (01, Prepare). Definitions only.
-use Rattle.std.specs.Prelude.{◌≡◌, ℕ, ◌*◌, cond, List, length, ◌==◌}
+use Rattle.std.specs.Prelude.{◌≡◌, ℕ, cond, List, length, ◌==◌}
 use Rattle.std.specs.Prelude.{Float}
 use Rattle.base.specs.Lists.{over}
 use Rattle.bvh.specs.Entry.{Outputs}
 use Rattle.bvh.specs.declared.slices.Build.{Build}
-use Rattle.bvh.specs.declared.slices.Build.TheVariants as Build
 use Rattle.meshes.specs.declared.BvhLengths.{BvhLengths}
 use Rattle.meshes.specs.declared.Check.{Check}
 use Rattle.meshes.specs.declared.Check.TheVariants.{Passed, Fails}
@@ -18,7 +17,7 @@ use Rattle.rebuild.specs.Rebuilding.{tree_answer, tree_answer_by}
 use Rattle.prepared.specs.declared.Prepare.{Prepare}
 use Rattle.prepared.specs.declared.Prepare.TheVariants.{Geometry, Bvh, Empty, Refused}
 use Rattle.prepared.specs.declared.Values.{Values}
-use Rattle.prepared.specs.Prepared.{PreparedMesh, prepared_of}
+use Rattle.prepared.specs.Prepared.{prepared_of}
 use Rattle.prepared.specs.Rebuilt.{entries_of8}
 use Rattle.prepared.specs.Shrunk.{octants_left}
 

@@ -3,7 +3,6 @@ use Rattle.float32.specs.SortOrder.{cmp_of}
 use mathlib.Core.Path.{ap, ◌∙◌}
 use Rattle.answers.specs.Numbers.{ordering_number}
 use Rattle.bounds.proofs.Read.{ordering_read}
-use borrow.Author.Rules.{rules}
 use Rattle.bounds.proofs.bounds_cmp_f32.Goals as goal
 
 pub returns : goal.returns

@@ -1,7 +1,6 @@
 -- `bounds_relate` meets its contract: the number of the relation that the call ensures.
 use mathlib.Core.Path.{ap, ◌∙◌}
 use Rattle.answers.specs.Numbers.{relation_number}
-use borrow.Author.Rules.{rules}
 use Rattle.bounds.proofs.bounds_relate.Goals as goal
 
 pub returns : goal.returns

@@ -1,7 +1,6 @@
 -- `bounds_value_bits` meets its contract: what the two calls ensure, one after the other.
 use mathlib.Core.Path.{ap, ◌∙◌}
 use lib.Ieee.{binary32, to_bits}
-use borrow.Author.Rules.{rules}
 use Rattle.bounds.proofs.bounds_value_bits.Goals as goal
 
 pub returns : goal.returns

@@ -3,7 +3,6 @@ use Rattle.answers.proofs.WalkLaws.{walk_answered_over}
 use lib.ListN.{length}
 use Rattle.walk_steps.specs.declared.state.Sizes.{Sizes}
 use Rattle.walk.specs.Walks.{walk_of}
-use borrow.Author.Rules.{rules}
 use Rattle.bounds.proofs.bounds_walk.Goals as goal
 
 pub returns : goal.returns

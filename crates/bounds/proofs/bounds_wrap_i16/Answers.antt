@@ -5,7 +5,6 @@ use mir.Val.{to_z, of_z}
 use mir.Facts.{to_z-of_z}
 use Rattle.float32.specs.Casts.{low16}
 use Rattle.bounds.proofs.Read.{low16_read}
-use borrow.Author.Rules.{rules}
 use Rattle.bounds.proofs.bounds_wrap_i16.Goals as goal
 
 pub returns : goal.returns

@@ -1,5 +1,4 @@
 -- `link_and_sort` meets its contract: where there is a tree the links and the numbers, else nothing.
-use borrow.Author.Rules.{rules}
 use Rattle.bvh_shape.proofs.Shaping.{links_made}
 use mathlib.Core.Path.{sym, ap, ◌∙◌}
 use Rattle.std.specs.Prelude.{take}

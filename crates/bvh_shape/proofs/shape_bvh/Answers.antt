@@ -1,7 +1,5 @@
 -- `shape_bvh` meets its contract: the rebuild, and then the links and the numbers in its order (Shaping).
-use borrow.Author.Rules.{rules}
 use Rattle.bvh_shape.proofs.Shaping.{sortable, shaped}
-use mathlib.Core.Path.{◌∙◌}
 use Rattle.bvh_shape.proofs.shape_bvh.Goals as goal
 
 pub link_and_sort-requires : goal.link_and_sort-requires

@@ -14,38 +14,37 @@ use Rattle.checked_geometry.proofs.prepare_checked.Goals as goal
 pub shape_geometry-octant_counts-requires : goal.shape_geometry-octant_counts-requires
 shape_geometry-octant_counts-requires c =
     let mesh : Mesh =
-        let a = c.args in
-        mesh_of a.bound a.counts a.polygons.now a.numbers.now a.mats.now a.vertices.now in
+    let a = c.args in
+    mesh_of a.bound a.counts a.polygons.now a.numbers.now a.mats.now a.vertices.now in
     let before : Lists =
-        let a = c.args in
-        lists a.list.now a.indices.now a.polygons_out.now a.stored.now a.floats.now in
+    let a = c.args in
+    lists a.list.now a.indices.now a.polygons_out.now a.stored.now a.floats.now in
     let hulls : Hull = let a = c.args in hull a.shrunk.now a.shrunk_floats.now a.octants.now in
     let work : GeometryWork =
-        let a = c.args in
-        geometry_work a.entries.now a.places.now a.temp.now a.stack.now a.rows.now a.points.now a.centres.now a.olds.now
-        a.news.now in
+    let a = c.args in
+    geometry_work a.entries.now a.places.now a.temp.now a.stack.now a.rows.now a.points.now a.centres.now a.olds.now
+    a.news.now in
     let lengths : Lengths = geometry_lengths mesh before hulls work c.args.others in
     let well : (is_bvh mesh.bound.kind ≡ false) × Sound mesh.bound mesh.counts lengths mesh.polygons (materials_of mesh) =
-        geometry_sound mesh.bound mesh.counts lengths mesh.polygons (materials_of mesh) (sym c.requires.passed) in
+    geometry_sound mesh.bound mesh.counts lengths mesh.polygons (materials_of mesh) (sym c.requires.passed) in
     geometry_room mesh before hulls work c.args.others well.1
 
 pub finish-materials-requires : goal.finish-materials-requires
 finish-materials-requires c =
     let mesh : Mesh =
-        let a = c.args in
-        mesh_of a.bound a.counts a.polygons.now a.numbers.now a.mats.now a.vertices.now in
+    let a = c.args in
+    mesh_of a.bound a.counts a.polygons.now a.numbers.now a.mats.now a.vertices.now in
     let before : Lists =
-        let a = c.args in
-        lists a.list.now a.indices.now a.polygons_out.now a.stored.now a.floats.now in
+    let a = c.args in
+    lists a.list.now a.indices.now a.polygons_out.now a.stored.now a.floats.now in
     let hulls : Hull = let a = c.args in hull a.shrunk.now a.shrunk_floats.now a.octants.now in
     let work : GeometryWork =
-        let a = c.args in
-        geometry_work a.entries.now a.places.now a.temp.now a.stack.now a.rows.now a.points.now a.centres.now a.olds.now
-        a.news.now in
+    let a = c.args in
+    geometry_work a.entries.now a.places.now a.temp.now a.stack.now a.rows.now a.points.now a.centres.now a.olds.now
+    a.news.now in
     let lengths : Lengths = geometry_lengths mesh before hulls work c.args.others in
     let well : (is_bvh mesh.bound.kind ≡ false) × Sound mesh.bound mesh.counts lengths mesh.polygons (materials_of mesh) =
-        geometry_sound mesh.bound mesh.counts lengths mesh.polygons (materials_of mesh) (sym c.requires.passed) in
-    (
+    geometry_sound mesh.bound mesh.counts lengths mesh.polygons (materials_of mesh) (sym c.requires.passed) in (
       geometry_list_room mesh before hulls work c.args.others well.1,
       geometry_store_room mesh before hulls work c.args.others well.1,
     )
@@ -53,19 +52,19 @@ finish-materials-requires c =
 pub returns : goal.returns
 returns c =
     let mesh : Mesh =
-        let a = c.args in
-        mesh_of a.bound a.counts a.polygons.now a.numbers.now a.mats.now a.vertices.now in
+    let a = c.args in
+    mesh_of a.bound a.counts a.polygons.now a.numbers.now a.mats.now a.vertices.now in
     let before : Lists =
-        let a = c.args in
-        lists a.list.now a.indices.now a.polygons_out.now a.stored.now a.floats.now in
+    let a = c.args in
+    lists a.list.now a.indices.now a.polygons_out.now a.stored.now a.floats.now in
     let hulls : Hull = let a = c.args in hull a.shrunk.now a.shrunk_floats.now a.octants.now in
     let work : GeometryWork =
-        let a = c.args in
-        geometry_work a.entries.now a.places.now a.temp.now a.stack.now a.rows.now a.points.now a.centres.now a.olds.now
-        a.news.now in
+    let a = c.args in
+    geometry_work a.entries.now a.places.now a.temp.now a.stack.now a.rows.now a.points.now a.centres.now a.olds.now
+    a.news.now in
     let lengths : Lengths = geometry_lengths mesh before hulls work c.args.others in
     let well : (is_bvh mesh.bound.kind ≡ false) × Sound mesh.bound mesh.counts lengths mesh.polygons (materials_of mesh) =
-        geometry_sound mesh.bound mesh.counts lengths mesh.polygons (materials_of mesh) (sym c.requires.passed) in
+    geometry_sound mesh.bound mesh.counts lengths mesh.polygons (materials_of mesh) (sym c.requires.passed) in
     let four : mesh.bound.kind ≡ 4 = kind_four mesh.bound.kind well.1.kind well.0 in
     geometry_by mesh lengths four c.requires.passed _ c.quantum_of-quantum.ensures before _ hulls _ _ _
     c.shape_geometry-octant_counts.ensures c.finish-materials.ensures.0 c.finish-materials.ensures.1

@@ -21,11 +21,11 @@ returns-in-Fails c =
     geometry_work a.entries.now a.places.now a.temp.now a.stack.now a.rows.now a.points.now a.centres.now a.olds.now
     a.news.now in
     let lengths : Lengths = geometry_lengths mesh before hulls work c.args.others in
-    geometry_refused mesh lengths before hulls _ (sym c.check-1.given.1 ∙ c.geometry_refusal-check.ensures)
+    geometry_refused mesh lengths before hulls _ (sym c.in-Fails.is ∙ c.geometry_refusal-check.ensures)
 
 pub prepare_checked-requires : goal.prepare_checked-requires
 prepare_checked-requires c =
-    record { passed = sym c.enum_told-1.given.1 ∙ c.geometry_refusal-check.ensures }
+    record { passed = sym c.in_default.is ∙ c.geometry_refusal-check.ensures }
 
 pub returns : goal.returns
 returns c = c.prepare_checked.ensures

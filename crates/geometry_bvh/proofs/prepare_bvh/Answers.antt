@@ -1,5 +1,4 @@
 -- `prepare_bvh` meets its contract: a check that fails is the answer, and else what is made with a tree or without is the definition's (checked_bvh Grown).
-use borrow.Author.Rules.{rules}
 use mathlib.Core.Path.{◌≡◌, sym, ◌∙◌}
 use Rattle.bvh.specs.Entry.{Outputs, outputs}
 use Rattle.meshes.specs.Meshes.{Mesh, mesh_of, materials_of}

@@ -1,5 +1,4 @@
 -- `list_and_store` meets its contract: the lists and the stored points, side by side (HullLaws).
-use borrow.Author.Rules.{rules}
 use Rattle.geometry_hull.proofs.HullLaws.{left}
 use Rattle.geometry_hull.proofs.list_and_store.Goals as goal
 

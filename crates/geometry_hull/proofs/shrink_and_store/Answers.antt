@@ -1,7 +1,5 @@
 -- `shrink_and_store` meets its contract: what is listed and stored are the shrunk points (HullLaws).
-use borrow.Author.Rules.{rules}
-use mathlib.Core.Path.{◌∙◌}
-use Rattle.geometry_hull.proofs.HullLaws.{after_shrinking, of_points}
+use Rattle.geometry_hull.proofs.HullLaws.{of_points}
 use Rattle.geometry_hull.proofs.shrink_and_store.Goals as goal
 
 pub returns : goal.returns

@@ -1,5 +1,4 @@
 -- `shrink_linked` meets its contract: the mesh is that of the corners and links that stand there (HullLaws).
-use borrow.Author.Rules.{rules}
 use Prim.Native.Nat.{◌*◌}
 use mathlib.Core.Path.{sym}
 use lib.Seq.{length-take-le}

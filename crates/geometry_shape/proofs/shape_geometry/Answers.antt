@@ -1,7 +1,6 @@
 -- `shape_geometry` meets its contract: the mesh that is linked is the one that is shrunk; without vertices nothing is (Shaping).
-use borrow.Author.Rules.{rules}
 use Prim.Native.Nat.{◌*◌}
-use mathlib.Core.Path.{sym, ◌∙◌}
+use mathlib.Core.Path.{sym}
 use lib.Seq.{length-take-le}
 use Rattle.geometry_shape.proofs.Shaping.{linkable, shapeable, shaped, empty}
 use Rattle.geometry_shape.proofs.shape_geometry.Goals as goal

@@ -1,5 +1,4 @@
 -- `bound_of`: each part where it stands.
-use borrow.Author.Rules.{rules}
 use mathlib.Core.Path.{ap, ◌∙◌}
 use Rattle.math.specs.Stored.{values_of}
 use Rattle.mesh_input.specs.Input.{bound_of}

@@ -1,5 +1,4 @@
 -- `counts_of`: three words, each where it stands.
-use borrow.Author.Rules.{rules}
 use Rattle.mesh_input.specs.Input.{counts_of}
 use Rattle.mesh_input.proofs.counts_of.Goals as goal
 

@@ -1,5 +1,4 @@
 -- `float_at`: the float of a word.
-use borrow.Author.Rules.{rules}
 use Rattle.mesh_input.specs.Input.{float_at}
 use Rattle.mesh_input.proofs.float_at.Goals as goal
 

@@ -1,5 +1,4 @@
 -- `frame_of`: four points and a word.
-use borrow.Author.Rules.{rules}
 use Rattle.mesh_input.specs.Input.{frame_of}
 use Rattle.mesh_input.proofs.frame_of.Goals as goal
 

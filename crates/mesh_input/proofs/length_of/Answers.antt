@@ -1,5 +1,4 @@
 -- `length_of`: the counts are the header's.
-use borrow.Author.Rules.{rules}
 use Rattle.mesh_input.specs.Input.{counts_of}
 use native.Mathlib.Omega.{arith}
 use Rattle.mesh_input.proofs.length_of.Goals as goal

@@ -1,6 +1,5 @@
 -- `put_words`: the first i words are read.
-use Prim.Native.Nat.{◌-◌}
-use Rattle.mesh_input.proofs.Laws.{Reading, no_word, word_next, all_words}
+use Rattle.mesh_input.proofs.Laws.{no_word, word_next, all_words}
 use native.Mathlib.Omega.{arith}
 use Rattle.mesh_input.proofs.put_words.Goals as goal
 

@@ -1,7 +1,6 @@
 -- `put_words`: the first i words are read.
 use Prim.Native.Nat.{◌-◌}
-use Rattle.mesh_input.proofs.Laws.{Reading, no_word, word_next, all_words}
-use native.Mathlib.Omega.{arith}
+use Rattle.mesh_input.proofs.Laws.{Reading}
 use Rattle.mesh_input.proofs.put_words.Given as goal
 
 abbrev pub invariant-loop-i : goal.invariant-loop-i

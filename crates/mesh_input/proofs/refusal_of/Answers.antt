@@ -1,5 +1,4 @@
 -- `refusal_of`: the tests are the definition's, in its order.
-use borrow.Author.Rules.{rules}
 use mathlib.Core.Path.{sym, ◌∙◌}
 use borrow.Author.Tests.{lt-ltb, le-ltb, eq-eqb, ne_eqb}
 use Rattle.mesh_input.specs.Input.{refusal_of}

@@ -1,5 +1,4 @@
 -- `row_at`: four floats, each where it stands.
-use borrow.Author.Rules.{rules}
 use Rattle.mesh_input.specs.Input.{row_at}
 use Rattle.mesh_input.proofs.row_at.Goals as goal
 

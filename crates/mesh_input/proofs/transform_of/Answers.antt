@@ -1,5 +1,4 @@
 -- `transform_of`: four rows.
-use borrow.Author.Rules.{rules}
 use Rattle.mesh_input.specs.Input.{transform_of}
 use Rattle.mesh_input.proofs.transform_of.Goals as goal
 

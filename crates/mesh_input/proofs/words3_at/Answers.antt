@@ -1,5 +1,4 @@
 -- `words3_at`: three words, each where it stands.
-use borrow.Author.Rules.{rules}
 use Rattle.mesh_input.specs.Input.{words3_at}
 use Rattle.mesh_input.proofs.words3_at.Goals as goal
 

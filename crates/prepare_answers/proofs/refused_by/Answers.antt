@@ -1,5 +1,4 @@
 -- `refused_by` meets its contract: the number, and zeros.
-use borrow.Author.Rules.{rules}
 use lib.Ieee.{of_bits}
 use Rattle.prepare_answers.proofs.refused_by.Goals as goal
 

@@ -1,6 +1,5 @@
 -- What the shaping of each kind asks of the slices that it is lent, and what it leaves. Definitions only.
 use Rattle.std.specs.Prelude.{◌≡◌, ℕ, ◌+◌, ◌*◌, ◌≤◌, true, List, length, take}
-use Rattle.std.specs.Prelude.{Float}
 use Rattle.base.specs.Lists.{over}
 use Rattle.bvh.specs.Build as B
 use Rattle.bvh.specs.Build.{nodes_written, trees_written_by, order_written}

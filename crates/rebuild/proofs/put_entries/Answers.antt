@@ -1,5 +1,4 @@
 -- `put_entries` meets its contract: the words that the boxes are made over are where the vertices stand.
-use borrow.Author.Rules.{rules}
 use Rattle.std.specs.Prelude.{ℕ, ◌*◌, List}
 use mathlib.Core.Path.{sym, ap, ◌∙◌}
 use lib.Seq.{length-take-le}

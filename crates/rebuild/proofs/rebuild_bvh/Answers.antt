@@ -1,6 +1,4 @@
 -- `rebuild_bvh` meets its contract: the build over the boxes, and then the records in its order (AnswerLaws).
-use borrow.Author.Rules.{rules}
-use mathlib.Core.Path.{◌∙◌}
 use Rattle.rebuild.proofs.AnswerLaws.{over_boxes, rebuildable, rebuilt}
 use native.Mathlib.Omega.{arith}
 use Rattle.rebuild.proofs.rebuild_bvh.Goals as goal

@@ -1,5 +1,4 @@
 -- `bounds_child_boxes` meets its contract: the answer by its number.
-use borrow.Author.Rules.{rules}
 use Rattle.composite.proofs.BoxLaws.{numbered}
 use Rattle.bounds.proofs.composites.bounds_child_boxes.Goals as goal
 

@@ -1,5 +1,4 @@
 -- `bounds_composite_tree` meets its contract: the answer of `composite_tree` as a struct.
-use borrow.Author.Rules.{rules}
 use Rattle.bounds.proofs.CompositeLaws.{composed}
 use Rattle.bounds.proofs.composites.bounds_composite_tree.Goals as goal
 

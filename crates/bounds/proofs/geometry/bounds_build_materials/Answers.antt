@@ -1,5 +1,4 @@
 -- `bounds_build_materials` meets its contract: what the list's entry ensures, with the number for its answer (GeometryLaws).
-use borrow.Author.Rules.{rules}
 use Rattle.polygon_answers.proofs.GeometryLaws.{materials_answered}
 use Rattle.bounds.proofs.geometry.bounds_build_materials.Goals as goal
 

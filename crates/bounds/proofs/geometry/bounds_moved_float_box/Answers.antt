@@ -1,5 +1,4 @@
 -- `bounds_moved_float_box`: what its calls ensure; where a vertex is not there, a NaN stands for the float behind it.
-use borrow.Author.Rules.{rules}
 use mathlib.Core.Path.{◌∙◌}
 use Rattle.float_boxes.specs.Floats.{told_box, least_of, greatest_of, nan_in_sums}
 use Rattle.float_boxes.specs.declared.Vertices4.{Vertices4}

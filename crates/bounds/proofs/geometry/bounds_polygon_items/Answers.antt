@@ -1,5 +1,4 @@
 -- `bounds_polygon_items` meets its contract: what the list's entry ensures, with the number for its answer (GeometryLaws).
-use borrow.Author.Rules.{rules}
 use Rattle.polygon_answers.proofs.GeometryLaws.{items_answered}
 use Rattle.bounds.proofs.geometry.bounds_polygon_items.Goals as goal
 

@@ -1,5 +1,4 @@
 -- `bounds_triangle_float_box`: what its calls ensure; where a vertex is not there, a NaN stands for the float behind it.
-use borrow.Author.Rules.{rules}
 use mathlib.Core.Path.{◌∙◌}
 use Rattle.float_boxes.specs.Floats.{box_of_three, nan_in_three}
 use Prim.Native.Nat.{◌%◌}

@@ -1,5 +1,4 @@
 -- `bounds_update_edge_indices` meets its contract: what the links' entry ensures, with the number for its answer (GeometryLaws).
-use borrow.Author.Rules.{rules}
 use Rattle.polygon_answers.proofs.GeometryLaws.{edges_answered}
 use Rattle.bounds.proofs.geometry.bounds_update_edge_indices.Goals as goal
 

@@ -1,6 +1,5 @@
 -- `bounds_calculate_octants` meets its contract: what the octants' entry ensures, with the numbers for its answer (octants AnswerLaws).
 use Rattle.octants.proofs.AnswerLaws.{answered_in}
-use borrow.Author.Rules.{rules}
 use Rattle.bounds.proofs.octant_writing.bounds_calculate_octants.Goals as goal
 
 -- past the six slices that come back, two facts each, the call

@@ -1,5 +1,4 @@
 -- `bounds_write_octants` meets its contract: the answer by its number.
-use borrow.Author.Rules.{rules}
 use Rattle.octant_bytes.proofs.Numbering.{numbered}
 use Rattle.bounds.proofs.octant_writing.bounds_write_octants.Goals as goal
 

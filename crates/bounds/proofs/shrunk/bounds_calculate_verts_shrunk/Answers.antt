@@ -1,5 +1,4 @@
 -- `bounds_calculate_verts_shrunk` meets its contract: what the entry ensures, with the numbers for its answer (shrink_answers AnswerLaws).
-use borrow.Author.Rules.{rules}
 use Rattle.shrink_answers.proofs.AnswerLaws.{answered_in}
 use Rattle.bounds.proofs.shrunk.bounds_calculate_verts_shrunk.Goals as goal
 

@@ -1,5 +1,4 @@
 -- `finish_empty` meets its contract: what is written at the end, in the units of the given frame.
-use borrow.Author.Rules.{rules}
 use mathlib.Core.Path.{refl, ap}
 use Rattle.prepared.specs.declared.Prepare.TheVariants.{Empty}
 use Rattle.checked_bvh.proofs.Endings.{values_are, lists_written}

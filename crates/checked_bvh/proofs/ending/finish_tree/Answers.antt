@@ -1,5 +1,4 @@
 -- `finish_tree` meets its contract: with a tree what is written at the end in its frame, else nothing.
-use borrow.Author.Rules.{rules}
 use mathlib.Core.Path.{refl}
 use Rattle.checked_bvh.proofs.Endings.{ended_built, ended_refused}
 use Rattle.checked_bvh.proofs.ending.finish_tree.Goals as goal

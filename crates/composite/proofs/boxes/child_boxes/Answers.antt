@@ -1,5 +1,4 @@
 -- `child_boxes` meets its contract: the checks in their order, and then the boxes.
-use borrow.Author.Rules.{rules}
 use Rattle.composite.proofs.BoxLaws.{too_many, given_short, room_short, written}
 use Rattle.composite.proofs.boxes.child_boxes.Goals as goal
 

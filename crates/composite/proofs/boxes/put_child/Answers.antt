@@ -1,5 +1,4 @@
 -- `put_child` meets its contract: by the mark zeros, or two rows.
-use borrow.Author.Rules.{rules}
 use Rattle.composite.proofs.BoxLaws.{absent_stored, present_stored}
 use Rattle.composite.proofs.boxes.put_child.Goals as goal
 

@@ -1,6 +1,6 @@
 -- `put_children`, by the invariant `Putting`.
-use Rattle.std.specs.Prelude.{◌≡◌, ◌-◌, ◌≤◌}
-use Rattle.composite.proofs.BoxLaws.{Putting, start, one_more}
+use Rattle.std.specs.Prelude.{◌≡◌}
+use Rattle.composite.proofs.BoxLaws.{start, one_more}
 use native.Mathlib.Omega.{arith}
 use Rattle.composite.proofs.boxes.put_children.Goals as goal
 

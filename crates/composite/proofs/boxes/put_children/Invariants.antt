@@ -1,7 +1,6 @@
 -- `put_children`, by the invariant `Putting`.
-use Rattle.std.specs.Prelude.{◌≡◌, ◌-◌, ◌≤◌}
-use Rattle.composite.proofs.BoxLaws.{Putting, start, one_more}
-use native.Mathlib.Omega.{arith}
+use Rattle.std.specs.Prelude.{◌-◌, ◌≤◌}
+use Rattle.composite.proofs.BoxLaws.{Putting}
 use Rattle.composite.proofs.boxes.put_children.Given as goal
 
 abbrev pub invariant-loop-k : goal.invariant-loop-k

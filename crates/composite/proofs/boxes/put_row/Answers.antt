@@ -1,5 +1,4 @@
 -- `put_row` meets its contract: four runs of four stores, each from where the last one ended, are one run.
-use borrow.Author.Rules.{rules}
 use Rattle.base.specs.LittleEndian.{little_endian}
 use Rattle.base.proofs.LittleEndian.{joined, number_bytes}
 use Rattle.base.proofs.StoreLaws.{four_stores}

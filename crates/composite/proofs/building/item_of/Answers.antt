@@ -1,5 +1,4 @@
 -- `item_of` meets its contract: by the mark absent, or the words of the computed box.
-use borrow.Author.Rules.{rules}
 use mathlib.Core.Path.{◌∙◌}
 use borrow.Author.Tests.{eq-eqb, ne_eqb}
 use Rattle.math.specs.Stored.{bits_of}

@@ -1,8 +1,7 @@
 -- `put_items`, by the invariant `Making`.
-use Rattle.std.specs.Prelude.{◌≡◌, ◌-◌, ◌≤◌}
+use Rattle.std.specs.Prelude.{◌≡◌}
 use mathlib.Core.Path.{sym, ◌∙◌}
-use Rattle.composite.specs.Trees.{child_items}
-use Rattle.composite.proofs.ItemLaws.{length_items, item_at, Making, start, one_more}
+use Rattle.composite.proofs.ItemLaws.{length_items, item_at, start, one_more}
 use native.Mathlib.Omega.{arith}
 use Rattle.composite.proofs.building.put_items.Goals as goal
 

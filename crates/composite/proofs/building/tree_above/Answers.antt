@@ -1,5 +1,4 @@
 -- `tree_above` meets its contract: no tree, a refusal, or the build over the items' words (TreeLaws).
-use borrow.Author.Rules.{rules}
 use Rattle.composite.proofs.TreeLaws.{fits, none, too_many, too_short, by_build, over_items}
 use Rattle.composite.proofs.building.tree_above.Goals as goal
 

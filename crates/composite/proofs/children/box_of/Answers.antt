@@ -1,5 +1,4 @@
 -- `box_of` meets its contract: two points.
-use borrow.Author.Rules.{rules}
 use Rattle.composite.proofs.children.box_of.Goals as goal
 
 pub returns : goal.returns

@@ -1,5 +1,4 @@
 -- `child_box` meets its contract: by the two tests. The words of child k are those of the first child from k on (`first-of-rest`).
-use borrow.Author.Rules.{rules}
 use mathlib.Core.Bool.{and-false}
 use Rattle.std.specs.Prelude.{◌≡◌, ℕ, ◌+◌, ◌-◌, ◌*◌, ◌/◌, ◌<◌, ◌≤◌, List, length, get_or, take, drop}
 use mathlib.Core.Path.{ap, ◌∙◌}

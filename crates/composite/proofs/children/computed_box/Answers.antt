@@ -1,5 +1,4 @@
 -- `computed_box` meets its contract: what its calls promise, put together.
-use borrow.Author.Rules.{rules}
 use mathlib.Core.Path.{◌∙◌}
 use Rattle.math.specs.Stored.{values_of}
 use Rattle.math.specs.Transform.{transform_box}

@@ -1,5 +1,4 @@
 -- `matrix_at` meets its contract: four rows.
-use borrow.Author.Rules.{rules}
 use Rattle.composite.specs.Children.{matrix_at}
 use Rattle.composite.proofs.children.matrix_at.Goals as goal
 

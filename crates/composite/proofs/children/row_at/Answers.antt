@@ -1,5 +1,4 @@
 -- `row_at` meets its contract: four words as floats.
-use borrow.Author.Rules.{rules}
 use Rattle.composite.proofs.children.row_at.Goals as goal
 
 pub returns : goal.returns

@@ -1,5 +1,4 @@
 -- `printing::print_bvh`: each section has its lengths.
-use borrow.Author.Rules.{rules}
 use Rattle.dump_sections.proofs.printing.print_bvh.Goals as goal
 
 pub tree_lines-requires : goal.tree_lines-requires

@@ -1,5 +1,4 @@
 -- `printing::print_geometry`: each section has its lengths.
-use borrow.Author.Rules.{rules}
 use Rattle.dump_sections.proofs.printing.print_geometry.Goals as goal
 
 pub hull_lines-requires : goal.hull_lines-requires

@@ -1,6 +1,5 @@
 -- `frame_of`: the words as they are, and the centre and the radius as words.
 use Rattle.prepared.specs.Rebuilt.{frame_of}
-use borrow.Author.Rules.{rules}
 use Rattle.prepared.proofs.frames.frame_of.Goals as goal
 
 pub returns : goal.returns

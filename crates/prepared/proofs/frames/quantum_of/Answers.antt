@@ -1,5 +1,4 @@
 -- `quantum_of`: the quantum of the box as floats.
-use borrow.Author.Rules.{rules}
 use Rattle.prepared.proofs.frames.quantum_of.Goals as goal
 
 pub returns : goal.returns

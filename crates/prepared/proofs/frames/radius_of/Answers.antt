@@ -1,10 +1,9 @@
 -- `radius_of`: step after step as in the definition.
 use mathlib.Core.Path.{ap, ◌∙◌}
-use lib.Ieee.{Float, binary32, to_bits}
+use lib.Ieee.{binary32, to_bits}
 use Rattle.math.specs.declared.vec3.Vec3.{Vec3}
 use Rattle.math.specs.Vec3s.{sub_of, length_of}
 use Rattle.prepared.specs.Rebuilt.{radius_of}
-use borrow.Author.Rules.{rules}
 use Rattle.prepared.proofs.frames.radius_of.Goals as goal
 
 pub returns : goal.returns
