@@ -1,5 +1,6 @@
 -- `refusal_within`: the tests are the definition's, in its order (CheckLaws).
 use mathlib.Core.Path.{sym, ap, ◌∙◌}
+use Rattle.std.proofs.Common.{◌≤◌, arith}
 use borrow.Author.Tests.{lt-ltb, le-ltb}
 use lib.Dec.{ltb}
 use Rattle.meshes.proofs.CheckLaws.{unknown_polygon, too_full, no_end, all_well}
@@ -15,10 +16,12 @@ returns-then-count_materials-gt255 c =
 
 pub returns-then-margin_endless : goal.returns-then-margin_endless
 returns-then-margin_endless c =
-    let few = ap (ltb 255) (sym c.count_materials.ensures) ∙ le-ltb _ _ c.if-count_materials-gt255.false in
+    let most : c.count_materials.result ≤ 255 = omega arith in
+    let few = ap (ltb 255) (sym c.count_materials.ensures) ∙ le-ltb _ _ most in
     no_end _ _ _ _ (sym c.kinds_known.ensures ∙ c.if-not-kinds_known.false) few (sym c.margin_endless.ensures ∙ c.if-margin_endless.true)
 
 pub returns : goal.returns
 returns c =
-    let few = ap (ltb 255) (sym c.count_materials.ensures) ∙ le-ltb _ _ c.if-count_materials-gt255.false in
+    let most : c.count_materials.result ≤ 255 = omega arith in
+    let few = ap (ltb 255) (sym c.count_materials.ensures) ∙ le-ltb _ _ most in
     all_well _ _ _ _ (sym c.kinds_known.ensures ∙ c.if-not-kinds_known.false) few (sym c.margin_endless.ensures ∙ c.if-margin_endless.false)
