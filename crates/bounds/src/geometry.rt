@@ -172,14 +172,14 @@ pub extern "C" fn bounds_update_edge_indices(
 ) -> u32
     ensures { EdgesAnswered polygon_count
         (record {
-          polygons = length polygons.entry.now;
+          polygons = length polygons.old;
           corners = length corners.old;
           keys = length keys.old;
           sides = length sides.old;
           spare = length spare.old;
           links = length links.old;
         })
-        polygons.entry.now polygons.exit.now result }
+        polygons.old polygons.new result }
 {
     polygon_answers::edges_number(update_edge_indices(
         polygons,
@@ -207,12 +207,12 @@ pub extern "C" fn bounds_build_materials(
 ) -> MaterialsAnswer
     ensures { MaterialsAnswered polygon_count material_count
         (record {
-          numbers = length numbers.entry.now;
+          numbers = length numbers.now;
           mats = length mats.now;
           list = length list.old;
           indices = length indices.old;
         })
-        (values_of material_count mats.now polygon_count numbers.entry.now)
+        (values_of material_count mats.now polygon_count numbers.now)
         list.old list.new indices.old indices.new result }
 {
     polygon_answers::materials_answer(build_materials(

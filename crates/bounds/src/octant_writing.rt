@@ -30,7 +30,7 @@ pub extern "C" fn bounds_calculate_octants(
 ) -> OctantsAnswer
     ensures { AnsweredIn vertex_count
         (record {
-          vertices = length vertices.entry.now;
+          vertices = length vertices.now;
           lists = length lists.old;
           keys = length keys.old;
           rows = length rows.old;
@@ -38,7 +38,7 @@ pub extern "C" fn bounds_calculate_octants(
           temp = length temp.old;
           marks = length marks.old;
         })
-        vertices.entry.now lists.old lists.new result }
+        vertices.now lists.old lists.new result }
 {
     octants::answering::answer(octants::entry::calculate_octants(
         vertex_count,

@@ -34,9 +34,9 @@ pub extern "C" fn bounds_calculate_verts_shrunk(
     olds: &mut [f32],
     news: &mut [f32],
 ) -> ShrinkAnswer
-    ensures { AnsweredIn geometry polygon_count polygons.entry.now vertex_count vertices.now
+    ensures { AnsweredIn geometry polygon_count polygons.now vertex_count vertices.now
         (record {
-          polygons = length polygons.entry.now;
+          polygons = length polygons.now;
           vertices = length vertices.now;
           points = length points.old;
           corners = length corners.old;

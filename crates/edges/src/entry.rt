@@ -81,14 +81,14 @@ pub fn update_edge_indices(
 ) -> Edges
     ensures { Answered n
         (record {
-          polygons = length polygons.entry.now;
+          polygons = length polygons.old;
           corners = length corners.old;
           keys = length keys.old;
           sides = length sides.old;
           spare = length spare.old;
           links = length links.old;
         })
-        polygons.entry.now polygons.exit.now result }
+        polygons.old polygons.new result }
 {
     if n > 32767 {
         return Edges::TooManyPolygons;

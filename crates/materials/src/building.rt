@@ -82,12 +82,12 @@ pub fn build_materials(
 ) -> Materials
     ensures { Answered n m
         (record {
-          numbers = length numbers.entry.now;
+          numbers = length numbers.now;
           mats = length mats.now;
           list = length list.old;
           indices = length indices.old;
         })
-        (values_of m mats.now n numbers.entry.now)
+        (values_of m mats.now n numbers.now)
         list.old list.new indices.old indices.new result }
 {
     if too_many(n, m) {

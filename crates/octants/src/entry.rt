@@ -69,7 +69,7 @@ pub fn calculate_octants(
 ) -> Octants
     ensures { Answered n
         (record {
-          vertices = length vertices.entry.now;
+          vertices = length vertices.now;
           lists = length lists.old;
           keys = length keys.old;
           rows = length rows.old;
@@ -77,7 +77,7 @@ pub fn calculate_octants(
           temp = length temp.old;
           marks = length marks.old;
         })
-        vertices.entry.now lists.old lists.new result }
+        vertices.now lists.old lists.new result }
 {
     if n > 32768 {
         return Octants::Refused(OctantsRefusal::TooManyVertices);

@@ -15,7 +15,7 @@ use Rattle.base.proofs.EveryLaws.{every_sift}
 use Rattle.corners.specs.Corners.{next_of}
 use Rattle.sides.proofs.SideLaws.{leads_on, leads_back}
 use Rattle.sides.proofs.UpFromLaws.{counting_more, every_counting}
-use Rattle.rings.specs.Firsts.{no_side, first_group_of, first_side}
+use Rattle.rings.specs.Firsts.{no_side, first_or_no_side, first_side}
 use Rattle.rings.specs.Rings.{side_to}
 use Rattle.rings.specs.Steps.Stored.{or_side}
 
@@ -40,10 +40,10 @@ next_third p = let back : 3 * p + 2 - 2 ≡ 3 * p = omega arith in sym (leads_ba
 
 -- ---- the side that leads to a vertex
 
-first_sift : (test : ℕ → Bool) (x : ℕ) (xs : List ℕ) → first_group_of (sift test (x ∷ xs)) ≡ cond (test x) x (first_group_of (sift test xs))
+first_sift : (test : ℕ → Bool) (x : ℕ) (xs : List ℕ) → first_or_no_side (sift test (x ∷ xs)) ≡ cond (test x) x (first_or_no_side (sift test xs))
 first_sift test x xs = go (test x)
   where
-    go : (b : Bool) → first_group_of (cond b (x ∷ sift test xs) (sift test xs)) ≡ cond b x (first_group_of (sift test xs))
+    go : (b : Bool) → first_or_no_side (cond b (x ∷ sift test xs) (sift test xs)) ≡ cond b x (first_or_no_side (sift test xs))
     go true = refl
     go false = refl
 
@@ -94,7 +94,7 @@ module _ (cs : List ℕ) (i m : ℕ) where
   unfolding standing
   first_in = go standing below
     where
-      go : (xs : List ℕ) → Every (λ s. s < 0 + m) xs → (first_group_of xs ≡ no_side) ⊎ (first_group_of xs < m)
+      go : (xs : List ℕ) → Every (λ s. s < 0 + m) xs → (first_or_no_side xs ≡ no_side) ⊎ (first_or_no_side xs < m)
       go [] h = inl refl
       go (x ∷ xs) h = let l = h.0 in inr (omega arith)
 
@@ -103,12 +103,12 @@ module _ (cs : List ℕ) (i m : ℕ) where
   first_more few =
       let test : ℕ → Bool = λ s. eqb (get_or cs s 0) i in
       let z : 0 + m ≡ m = omega arith in
-      ap (λ (k : ℕ). first_group_of (sift test (up_from 0 k))) (add-one m)
-      ∙ ap first_group_of (counting_more test 0 m)
-      ∙ ap (λ (k : ℕ). first_group_of (standing ++ sift test (k ∷ []))) z
+      ap (λ (k : ℕ). first_or_no_side (sift test (up_from 0 k))) (add-one m)
+      ∙ ap first_or_no_side (counting_more test 0 m)
+      ∙ ap (λ (k : ℕ). first_or_no_side (standing ++ sift test (k ∷ []))) z
       ∙ go standing below (eqb (get_or cs m 0) i)
     where
-      go : (xs : List ℕ) → Every (λ s. s < 0 + m) xs → (b : Bool) → first_group_of (xs ++ cond b (m ∷ []) []) ≡ or_side (first_group_of xs) b m
+      go : (xs : List ℕ) → Every (λ s. s < 0 + m) xs → (b : Bool) → first_or_no_side (xs ++ cond b (m ∷ []) []) ≡ or_side (first_or_no_side xs) b m
       go [] h true = refl
       go [] h false = refl
       go (x ∷ xs) h b =

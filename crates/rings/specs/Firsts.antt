@@ -8,10 +8,10 @@ abbrev pub no_side : ℕ
 no_side = 0xffff_ffff
 
 -- the first side of a list
-abbrev pub first_group_of : List ℕ → ℕ
-first_group_of [] = no_side
-first_group_of (s ∷ ss) = s
+abbrev pub first_or_no_side : List ℕ → ℕ
+first_or_no_side [] = no_side
+first_or_no_side (s ∷ ss) = s
 
 -- Rule S3: of m sides the first at which vertex i stands, also in a triangle that has a corner past the vertices.
 abbrev pub first_side : List ℕ → ℕ → ℕ → ℕ
-first_side cs i m = first_group_of (sift (λ s. eqb (get_or cs s 0) i) (up_from 0 m))
+first_side cs i m = first_or_no_side (sift (λ s. eqb (get_or cs s 0) i) (up_from 0 m))

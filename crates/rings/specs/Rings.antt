@@ -3,11 +3,11 @@ use Rattle.std.specs.Prelude.{ℕ, zero, suc, ◌*◌, ◌/◌, cond, List, [], 
 use Rattle.base.specs.Lists.{sift, up_from}
 use Rattle.corners.specs.Corners.{none, next_of}
 use Rattle.rings.specs.declared.ring.Walker.{Walker}
-use Rattle.rings.specs.Firsts.{no_side, first_group_of}
+use Rattle.rings.specs.Firsts.{no_side, first_or_no_side}
 
 -- Rule S4 (`for j in 0..3`): the first side of polygon p that leads to vertex v.
 abbrev pub side_to : List ℕ → ℕ → ℕ → ℕ
-side_to cs p v = first_group_of (sift (λ s. eqb (get_or cs (next_of s) 0) v) (up_from (3 * p) 3))
+side_to cs p v = first_or_no_side (sift (λ s. eqb (get_or cs (next_of s) 0) v) (up_from (3 * p) 3))
 
 -- Rule S4 (new_neighbour): the link of side s, or the next side's where that leads back.
 abbrev pub other_link : List ℕ → ℕ → ℕ → ℕ

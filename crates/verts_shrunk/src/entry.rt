@@ -156,9 +156,9 @@ pub fn calculate_verts_shrunk(
     olds: &mut [f32],
     news: &mut [f32],
 ) -> Shrunk
-    ensures { Answered geometry n polygons.entry.now v vertices.now
+    ensures { Answered geometry n polygons.now v vertices.now
         (record {
-          polygons = length polygons.entry.now;
+          polygons = length polygons.now;
           vertices = length vertices.now;
           points = length points.old;
           corners = length corners.old;

@@ -93,8 +93,8 @@ module _ (l : Lent) (out : List ℕ) (s : WalkState) (g : Ready l out s) (e : mo
                     few_nodes = p.few_nodes;
                     few_trees = p.few_trees;
                     few_items = p.few_items;
-                    node_bytes_lem = p.node_bytes_lem;
-                    tree_bytes_lem = p.tree_bytes_lem;
+                    node_bytes = p.node_bytes;
+                    tree_bytes = p.tree_bytes;
                     last_in = step_last_within l s p.last_in;
                     handed_in = step_handed_within l s p.handed_in;
                     few_reads = omega (arith, step_reads l s, g.allowed);
@@ -168,8 +168,8 @@ module _ (l : Lent) (out : List ℕ) (s : WalkState) (upto : ℕ) (g : Ready l o
                       few_nodes = f.few_nodes;
                       few_trees = f.few_trees;
                       few_items = f.few_items;
-                      node_bytes_lem = f.node_bytes_lem;
-                      tree_bytes_lem = f.tree_bytes_lem;
+                      node_bytes = f.node_bytes;
+                      tree_bytes = f.tree_bytes;
                       last_in = f.last_in;
                       handed_in = f.handed_in;
                       few_reads = omega (arith, b.left_falls, g.allowed);
@@ -205,7 +205,7 @@ module _ (l : Lent) (out : List ℕ) (s : WalkState) (upto : ℕ) (g : Ready l o
           let f = g.fits in
           let c = passed in
           subst (λ (u : WalkState). (16 * u.tree + 16 ≤ length l.trees) × (u.tree < 65536) × (u.reads < 4294967296)) (sym k)
-          (omega (arith, f.tree_bytes_lem), omega (arith, f.few_trees), c.ready.fits.few_reads)
+          (omega (arith, f.tree_bytes), omega (arith, f.few_trees), c.ready.fits.few_reads)
 
       ahead_read : Came l s out out (step_of l (ahead_at t s)).state × (left l (step_of l (ahead_at t s)).state < left l s)
       ahead_read =

@@ -1,4 +1,4 @@
--- The answers of `core::build_core`: which test refuses, and that a build which passes all of them is the definition's.
+-- The answers of `slices::build_core`: which test refuses, and that a build which passes all of them is the definition's.
 use Rattle.std.specs.Prelude.{◌≡◌, ℕ, ◌+◌, ◌*◌, ◌<◌, ◌≤◌, true, false, ltb, List, length, take}
 use native.Mathlib.Omega.{arith}
 use mathlib.Core.Path.{refl, ap, ◌∙◌}

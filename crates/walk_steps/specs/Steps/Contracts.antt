@@ -13,8 +13,8 @@ pub record Steppable (z : Sizes) (nodes trees : List ℕ) (s : WalkState) : Type
   pub few_nodes : z.nodes ≤ 65535
   pub few_trees : z.trees ≤ 65535
   pub few_items : z.items ≤ 65535
-  pub node_bytes_lem : 16 * z.nodes ≤ length nodes
-  pub tree_bytes_lem : 16 * z.trees ≤ length trees
+  pub node_bytes : 16 * z.nodes ≤ length nodes
+  pub tree_bytes : 16 * z.trees ≤ length trees
   pub last_in : s.last ≤ z.nodes
   pub handed_in : s.handed ≤ z.items
   pub few_reads : s.reads < 4294967296

@@ -1,4 +1,4 @@
--- `core::build_core` meets its contract: each test refuses by the definition's (Answering), and the outputs are written last.
+-- `slices::build_core` meets its contract: each test refuses by the definition's (Answering), and the outputs are written last.
 use Rattle.std.specs.Prelude.{◌≡◌, ◌<◌, ◌≤◌, false}
 use mathlib.Core.Path.{sym, ◌∙◌}
 use lib.Seq.{length-take-le}

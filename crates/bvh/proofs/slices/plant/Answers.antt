@@ -1,4 +1,4 @@
--- `core::plant` meets its contract: what is gathered is what grows.
+-- `slices::plant` meets its contract: what is gathered is what grows.
 use Rattle.std.specs.Prelude.{◌≤◌, length}
 use mathlib.Core.Path.{sym}
 use Rattle.bvh.proofs.slices.Planting.{gathered_long, grow_room, planted}

@@ -1,4 +1,4 @@
--- `core::too_short` meets its contract: the tests are the definition's, in its order.
+-- `slices::too_short` meets its contract: the tests are the definition's, in its order.
 use borrow.Author.Tests.{lt-ltb, le-ltb}
 use Rattle.bvh.proofs.slices.too_short.Goals as goal
 

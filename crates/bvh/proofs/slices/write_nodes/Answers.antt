@@ -1,4 +1,4 @@
--- `core::write_nodes` meets its contract: the records, and at threshold 1 the padding stored behind them.
+-- `slices::write_nodes` meets its contract: the records, and at threshold 1 the padding stored behind them.
 use Rattle.bvh.proofs.slices.Writing.{nodes_padded, nodes_bare}
 use Rattle.bvh.proofs.slices.write_nodes.Goals as goal
 

@@ -1,4 +1,4 @@
--- `core::write_order` meets its contract: the places gathered again, or the leaf order.
+-- `slices::write_order` meets its contract: the places gathered again, or the leaf order.
 use Rattle.std.specs.Prelude.{◌≡◌, length, take}
 use mathlib.Core.Path.{sym}
 use Rattle.bvh.proofs.slices.Planting.{gathered_below, gathered_long}

@@ -1,4 +1,4 @@
--- `core::write_tree` meets its contract: the laws of Writing, at what the work buffers hold.
+-- `slices::write_tree` meets its contract: the laws of Writing, at what the work buffers hold.
 use native.Mathlib.Omega.{arith}
 use mathlib.Core.Path.{sym}
 use Rattle.bvh.proofs.slices.Writing.{nodes_most, leaves_long, rows_fit, order_fits, scannable, written}

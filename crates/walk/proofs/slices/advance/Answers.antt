@@ -14,7 +14,7 @@ pass_trees-t-requires c =
     let f = c.requires.ready.fits in
     let p = c.requires.s_value in
     let h = running.tree_in lent c.args.out.now c.args.s c.args.upto c.requires.ready p.2 p.0 p.1 in
-    record { from_le_upto = (omega arith, omega (arith, f.few_trees), omega (arith, f.tree_bytes_lem)); topped = c.requires.topped }
+    record { from_le_upto = (omega arith, omega (arith, f.few_trees), omega (arith, f.tree_bytes)); topped = c.requires.topped }
 
 pub ahead-p-requires : goal.ahead-p-requires
 ahead-p-requires c =

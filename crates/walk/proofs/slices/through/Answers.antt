@@ -19,7 +19,7 @@ at_node-step-requires c =
     let inside : inside_range c.loop-query.s ≡ true = sym c.inside.ensures ∙ c.loop-query-test.true in
     let f = c.loop-query.invariant.ready.fits in
     let h = inside_at c.loop-query.s inside in record {
-      at_in_bounds = (omega (arith, f.node_bytes_lem, f.last_in), omega (arith, f.few_nodes, f.last_in), f.few_reads);
+      at_in_bounds = (omega (arith, f.node_bytes, f.last_in), omega (arith, f.few_nodes, f.last_in), f.few_reads);
       handed_le = (f.handed_in, f.few_items);
       topped = c.requires.topped;
     }
