@@ -13,7 +13,7 @@ use bvh::slices::Build;
 use edges::entry::update_edge_indices;
 use meshes::{Bound, Counts};
 use rebuild::rebuild_bvh;
-use reorder::records::reorder_bytes;
+use reorder::renumbering::reorder_bytes;
 
 // Links the polygons that stand in the order of the leaves, and puts the numbers of their materials in it; nothing where the tree is refused.
 // The links are never refused here.

@@ -19,7 +19,7 @@ use math::mat4::Mat4;
 use math::vec3::Vec3;
 use points::put_positions;
 use polygon_items::put_items;
-use reorder::records::rebuild_records;
+use reorder::renumbering::rebuild_records;
 
 // Rule K2: a leaf has at most so many polygons.
 pub const LEAF_LIMIT: u32 = 4;

@@ -2,4 +2,4 @@
 #![tactic(auto)]
 
 pub mod lookup;
-pub mod records;
+pub mod renumbering;

@@ -4,7 +4,7 @@ use mathlib.Core.Path.{◌≡◌}
 use lib.ListN.{length, take}
 use Rattle.base.specs.Lists.{over}
 use Rattle.reorder.specs.Reordering.{rebuilt_records}
-use Rattle.reorder.proofs.records.reorder.Given as goal
+use Rattle.reorder.proofs.renumbering.reorder.Given as goal
 
 abbrev pub invariant-loop-i : goal.invariant-loop-i
 invariant-loop-i l = (l.i ≤ l.n) × (length l.out ≡ length l.initial.out) × (l.out ≡ over (rebuilt_records l.i (take l.n l.order) l.lookup l.polygons) l.initial.out)

@@ -5,7 +5,7 @@ use lib.Seq.{sets}
 use Rattle.polygon.specs.Polygons.{polygon_bytes}
 use Rattle.polygon.specs.declared.Polygon.{Polygon}
 use Rattle.reorder.specs.Reordering.{relinked}
-use Rattle.reorder.proofs.records.move_record.Goals as goal
+use Rattle.reorder.proofs.renumbering.move_record.Goals as goal
 
 pub returns : goal.returns
 returns c =

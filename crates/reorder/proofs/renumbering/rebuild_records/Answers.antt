@@ -8,7 +8,7 @@ use Rattle.base.specs.Lists.{over}
 use Rattle.reorder.specs.Reordering.{rebuilt_records}
 use Rattle.reorder.proofs.RecordLaws.{reorderable}
 use native.Mathlib.Omega.{arith}
-use Rattle.reorder.proofs.records.rebuild_records.Goals as goal
+use Rattle.reorder.proofs.renumbering.rebuild_records.Goals as goal
 
 pub slice_bounds-reorder-end-2 : goal.slice_bounds-reorder-end-2
 slice_bounds-reorder-end-2 c =

@@ -3,7 +3,7 @@ use mathlib.Core.Path.{ap, ◌∙◌}
 use Rattle.base.proofs.ShortLaws.{same_short}
 use Rattle.polygon.specs.declared.Polygon.TheVariants.{Triangle}
 use Rattle.reorder.specs.Reordering.{new_link}
-use Rattle.reorder.proofs.records.relinked_triangle.Goals as goal
+use Rattle.reorder.proofs.renumbering.relinked_triangle.Goals as goal
 
 pub returns : goal.returns
 returns c =

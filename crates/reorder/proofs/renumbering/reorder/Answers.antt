@@ -7,7 +7,7 @@ use Rattle.base.specs.Lists.{over}
 use Rattle.reorder.specs.Reordering.{rebuilt_records}
 use Rattle.reorder.proofs.RecordLaws.{records_next, order_at}
 use native.Mathlib.Omega.{arith}
-use Rattle.reorder.proofs.records.reorder.Goals as goal
+use Rattle.reorder.proofs.renumbering.reorder.Goals as goal
 
 pub loop-i-init : goal.loop-i-init
 loop-i-init c = (omega arith, refl, refl)

@@ -4,7 +4,7 @@ use mathlib.Core.Path.{◌≡◌}
 use lib.ListN.{length, take}
 use Rattle.base.specs.Lists.{over}
 use Rattle.reorder.specs.Reordering.{in_order}
-use Rattle.reorder.proofs.records.reorder_bytes.Given as goal
+use Rattle.reorder.proofs.renumbering.reorder_bytes.Given as goal
 
 abbrev pub invariant-loop-i : goal.invariant-loop-i
 invariant-loop-i l = (l.i ≤ l.n) × (length l.out ≡ length l.initial.out) × (l.out ≡ over (in_order (take l.i l.order) l.numbers) l.initial.out)

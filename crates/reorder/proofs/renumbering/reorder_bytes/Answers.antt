@@ -6,7 +6,7 @@ use Rattle.base.specs.Lists.{over}
 use Rattle.reorder.specs.Reordering.{in_order}
 use Rattle.reorder.proofs.RecordLaws.{numbers_next, order_at}
 use native.Mathlib.Omega.{arith}
-use Rattle.reorder.proofs.records.reorder_bytes.Goals as goal
+use Rattle.reorder.proofs.renumbering.reorder_bytes.Goals as goal
 
 pub loop-i-init : goal.loop-i-init
 loop-i-init c = (omega arith, refl, refl)

@@ -3,7 +3,7 @@ use mathlib.Core.Path.{ap, ◌∙◌}
 use Rattle.base.proofs.ShortLaws.{same_short}
 use Rattle.float32.specs.Casts.{low16bits, signed16}
 use Rattle.reorder.specs.Reordering.{renumbered, new_link}
-use Rattle.reorder.proofs.records.new_link.Goals as goal
+use Rattle.reorder.proofs.renumbering.new_link.Goals as goal
 
 pub returns : goal.returns
 unfolding new_link

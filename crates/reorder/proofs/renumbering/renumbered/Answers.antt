@@ -7,7 +7,7 @@ use native.Mathlib.Omega.{arith}
 use mathlib.Core.Path.{sym, ◌∙◌}
 use Rattle.base.proofs.NumberLaws.{below_at}
 use Rattle.reorder.proofs.RecordLaws.{renumbered_there, renumbered_past}
-use Rattle.reorder.proofs.records.renumbered.Goals as goal
+use Rattle.reorder.proofs.renumbering.renumbered.Goals as goal
 
 pub returns-then-old-lookup : goal.returns-then-old-lookup
 returns-then-old-lookup c = sym (renumbered_past _ _ c.if-old-lookup.true)
