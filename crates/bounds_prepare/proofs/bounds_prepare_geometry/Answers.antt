@@ -1,5 +1,4 @@
 -- `bounds_prepare_geometry` meets its contract: what the entry ensures, with the numbers for its answer (prepare_answers AnswerLaws).
-use borrow.Author.Rules.{rules}
 use Rattle.prepare_answers.proofs.AnswerLaws.{geometry_in}
 use Rattle.bounds_prepare.proofs.bounds_prepare_geometry.Goals as goal
 

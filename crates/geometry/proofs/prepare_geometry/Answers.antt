@@ -1,5 +1,4 @@
 -- `prepare_geometry` meets its contract: a check that fails is the answer, and else what is prepared of a mesh that passed is the definition's.
-use borrow.Author.Rules.{rules}
 use mathlib.Core.Path.{sym, ◌∙◌}
 use Rattle.meshes.specs.declared.Lengths.{Lengths}
 use Rattle.meshes.specs.Meshes.{Mesh, mesh_of}

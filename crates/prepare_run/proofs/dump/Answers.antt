@@ -1,5 +1,4 @@
 -- `dump`: an input that is not refused is whole.
-use borrow.Author.Rules.{rules}
 use mathlib.Core.Path.{sym, ap, ◌∙◌}
 use Rattle.mesh_input.specs.Input.{length_of}
 use Rattle.mesh_input.proofs.Laws.{not_refused}

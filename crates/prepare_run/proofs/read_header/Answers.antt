@@ -1,5 +1,4 @@
 -- `read_header`: a header has 148 bytes.
-use borrow.Author.Rules.{rules}
 use mathlib.Core.Path.{sym}
 use lib.Seq.{length-take-le}
 use Rattle.prepare_run.proofs.read_header.Goals as goal
