@@ -13,7 +13,7 @@ fn main() {
         println!("cargo::rerun-if-changed={}", archive.display());
         if !archive.is_file() {
             println!(
-                "cargo::error={} is missing: run `rt staticlib {name}` at the repository's root, or set BOUNDS_LIB to the folder that holds it",
+                "cargo::error={} is missing: rust/check makes it by `rt lib` in crates/{name}, or set BOUNDS_LIB to the folder that holds it",
                 archive.display()
             );
         }
