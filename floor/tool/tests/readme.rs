@@ -1,4 +1,4 @@
-//! README.md shows what the tool prints: each block that begins with a command is run again, in a folder in which the inputs
+//! floor/GUIDE.md shows what the tool prints: each block that begins with a command is run again, in a folder in which the inputs
 //! are where they are in the repository. `BLESS=1 cargo test -p tool` writes it anew. What docs/PREPARE.md shows of a program is in
 //! what that program must print.
 
@@ -19,7 +19,7 @@ fn page(name: &str) -> String {
 
 #[test]
 fn the_page_shows_what_the_tool_prints() {
-    let page = page("README.md");
+    let page = page("floor/GUIDE.md");
     let folder = Folder::with_inputs("readme");
     let inputs = Path::new(env!("CARGO_MANIFEST_DIR")).join("tests/inputs");
     std::fs::create_dir_all(folder.0.join("floor/tool/tests")).expect("a folder");
@@ -36,7 +36,7 @@ fn the_page_shows_what_the_tool_prints() {
     };
     let now = page.trim_end().split("\n\n").map(&mut again).collect::<Vec<_>>().join("\n\n") + "\n";
     assert!(run >= 3, "{run} blocks");
-    keep(&Path::new(env!("CARGO_MANIFEST_DIR")).join("../../README.md"), &now);
+    keep(&Path::new(env!("CARGO_MANIFEST_DIR")).join("../GUIDE.md"), &now);
 }
 
 #[test]

@@ -1,4 +1,4 @@
-//! docs/TELEPHONE.md shows what the tool prints: each block that begins with a command is run again, and so is the picture.
+//! floor/docs/TELEPHONE.md shows what the tool prints: each block that begins with a command is run again, and so is the picture.
 //! `BLESS=1 cargo test -p tool` writes both anew.
 
 mod common;
