@@ -14,7 +14,6 @@ mod page;
 mod plot;
 mod polygons;
 mod prepare;
-mod server;
 mod shrink;
 mod subjects;
 mod tuned;

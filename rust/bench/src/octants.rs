@@ -1,7 +1,8 @@
 //! Octants: in each of eight directions the vertices that no other one shadows.
 
-use crate::subjects::{agreeing, Kind, Subject, Work};
+use crate::subjects::{agreeing, vec3, Kind, Subject, Work};
 use bounds::octants::{calculate_octants_in, lists_len, work_len};
+use bounds::Vec3;
 use compare::points::{Points, Style};
 use oracle::geometry::{self as reference, VERTICES};
 use std::hint::black_box;
@@ -24,12 +25,12 @@ pub fn all() -> Vec<Subject> {
 
 /// Ours in buffers that are lent again and again; theirs in lists that it makes anew.
 fn octants(n: usize, style: Style, seed: u64) -> Work {
-    let vertices = Points::new(seed).of(n, style);
-    let theirs = reference::shadower(&vertices);
+    let points = Points::new(seed).of(n, style);
+    let vertices: Vec<Vec3> = points.iter().copied().map(vec3).collect();
     let (mut lists, mut work) = (vec![0; lists_len(n)], vec![0; work_len(n)]);
     let ours = move || {
         let counts = calculate_octants_in(black_box(&vertices), black_box(&mut lists), &mut work);
         counts.expect("a list within the limits").iter().sum()
     };
-    agreeing(ours, theirs, n)
+    agreeing(ours, reference::shadower(&points), n)
 }

@@ -38,13 +38,12 @@ pub fn tables(series: &[Series]) -> String {
     whole(&operations(series)) + &whole(&[steps(series)])
 }
 
-fn operations(series: &[Series]) -> [Part; 9] {
+fn operations(series: &[Series]) -> [Part; 8] {
     [
         ("Prepare", PREPARE, lists(series, Kind::Prepare, "size", "triangle or vertex")),
         ("Builds", BUILDS, lists(series, Kind::Build, "boxes", "box")),
         ("Walks", WALKS, walks(series)),
         ("Queries", QUERIES, queries(series)),
-        ("A server's loop", SERVER, loops(series)),
         ("Polygons", POLYGONS, calls(series, Kind::Polygon, "operation", "polygons")),
         ("Shrinking", SHRINKING, lists(series, Kind::Shrink, "vertices", "vertex")),
         ("Octants", OCTANTS, lists(series, Kind::Octants, "vertices", "vertex")),
@@ -76,7 +75,7 @@ are those of one box.
 ";
 
 const WALKS: &str = "\
-The reference has no walk. Plain: the walk in plain Rust that the library's is compared with (rust/plain). Tuned: one
+The reference has no walk. Plain: the walk in plain Rust that the library's is compared with (rust/oracle). Tuned: one
 with SSE2 intrinsics over the same bytes (rust/bench/src/tuned.rs), with the same counts, positions and refusals. The
 synthetic tree was not built, and its size counts the records read; the others are queries over so many random boxes,
 threshold 4. Times and instructions are those of one record.
@@ -88,20 +87,6 @@ meet some 1, 10 or 100 boxes. Means of one query, and thousand queries a second.
 hands out all items of a leaf that meets: more than brute force finds, and who wants the exact answer compares the boxes
 of what was handed out. So a small query over many boxes takes as long as its tree records, and the lead over brute
 force grows with the boxes and shrinks with what is met.
-";
-
-const SERVER: &str = "\
-Sixteen wheels drive over a hilly terrain of so many triangles and ask in turn, 100,000 times, which polygons are at their
-place: in a column 0.7 long, 0.3 wide and as high as all. The tree is one of a prepared mesh, loaded from the bytes of its
-files. By the records: `PreparedTree::candidates_into`, which hands out the polygons of every leaf that meets. With the filter:
-`query_into`, which compares the boxes of these as floats, and finds those that meet and no other. Brute force compares all
-boxes. Means of one query; the ratio is the time with the filter by brute force's.
-
-The same loop as programs, in Rust and in C, over any folder that `bounds prepare MESH --out DIR` wrote: in rust/ these print
-the nanoseconds of one query.
-
-    cargo run --release -p bounds --example server -- DIR
-    cc -std=c11 -O2 -Ibounds/include bounds/examples/server.c ../target/staticlib/libbounds.a -o server && ./server DIR
 ";
 
 const POLYGONS: &str = "\
@@ -240,20 +225,6 @@ fn queries(series: &[Series]) -> String {
         let mut cells = vec![r.size.to_string(), q.trees.to_string()];
         cells.extend([q.met, q.handed, q.reads].map(|mean| cell(Some(mean), 1)));
         cells.extend([cell(ours, 1), cell(force, 1), cell(Some(force? / ours?), 3)]);
-        Some(row(name, &cells))
-    })
-}
-
-fn loops(series: &[Series]) -> String {
-    let columns =
-        ["polygons", "by the records, ns", "with the filter, ns", "handed out", "met", "brute force, ns", "ratio"];
-    rows(series, Kind::Server, head("set", &columns), |name, r| {
-        let q = r.queries?;
-        let force = r.time(Side::Force)? / BY_FORCE as f64;
-        let [records, filtered] = [Side::Library, Side::Filtered].map(|side| r.each(side));
-        let mut cells = vec![r.size.to_string(), cell(records, 0), cell(filtered, 0)];
-        cells.extend([q.handed, q.met].map(|mean| cell(Some(mean), 2)));
-        cells.extend([cell(Some(force), 0), cell(Some(filtered? / force), 4)]);
         Some(row(name, &cells))
     })
 }

@@ -3,7 +3,7 @@
 use crate::measure::Series;
 use crate::subjects::{Kind, Side};
 use crate::walks::{QUERIES, SYNTHETIC};
-use tool::draw::svg::Svg;
+use std::fmt::Write;
 
 /// Of the drawing inside a panel, with room on its right for the lines' names.
 const SIZE: (f64, f64) = (330.0, 330.0);
@@ -163,15 +163,20 @@ pub fn svg(series: &[Series]) -> String {
     let all = [prepares(series), builds(series), walks(series)];
     let panels: Vec<Panel> = all.into_iter().filter(|p| p.lines.iter().any(|l| !l.points.is_empty())).collect();
     let one = LEFT + SIZE.0 + NAMES;
-    let mut out = Svg::new(11.0);
+    let (width, height) = (one * panels.len() as f64, TOP + SIZE.1 + BOTTOM);
+    let mut out = format!(
+        "<svg xmlns=\"http://www.w3.org/2000/svg\" width=\"{width}\" height=\"{height}\" viewBox=\"0 0 {width} {height}\" \
+         font-family=\"sans-serif\" font-size=\"11\">\n<rect width=\"100%\" height=\"100%\" fill=\"white\"/>\n"
+    );
     for (i, panel) in panels.iter().enumerate() {
         drawn(&mut out, panel, LEFT + one * i as f64);
     }
-    out.finish(one * panels.len() as f64, TOP + SIZE.1 + BOTTOM)
+    out += "</svg>\n";
+    out
 }
 
-fn text(out: &mut Svg, at: (f64, f64), anchor: &str, style: &str, words: &str) {
-    out.text(at, &format!("text-anchor=\"{anchor}\" {style}"), words);
+fn text(out: &mut String, (x, y): (f64, f64), anchor: &str, style: &str, words: &str) {
+    let _ = writeln!(out, "<text x=\"{x:.1}\" y=\"{y:.1}\" text-anchor=\"{anchor}\" {style}>{words}</text>");
 }
 
 /// Where a panel's sizes and ratios stand.
@@ -197,13 +202,12 @@ impl Frame {
     }
 
     /// A line across at a ratio.
-    fn across(&self, out: &mut Svg, ratio: f64, style: &str) {
-        let y = self.y(ratio);
-        out.line((self.left, y), (self.left + SIZE.0, y), style);
+    fn across(&self, out: &mut String, ratio: f64, style: &str) {
+        let _ = writeln!(out, "<path d=\"M{} {:.1}h{}\" {style}/>", self.left, self.y(ratio), SIZE.0);
     }
 }
 
-fn drawn(out: &mut Svg, panel: &Panel, left: f64) {
+fn drawn(out: &mut String, panel: &Panel, left: f64) {
     let frame = Frame::new(panel, left);
     text(out, (left, 22.0), "start", "font-weight=\"bold\" font-size=\"13\"", panel.title);
     text(out, (left, 40.0), "start", "fill=\"#555\"", "below 1 the library is faster; sizes by powers");
@@ -218,10 +222,10 @@ fn drawn(out: &mut Svg, panel: &Panel, left: f64) {
     named(out, &frame, &panel.lines);
 }
 
-fn grid(out: &mut Svg, frame: &Frame) {
+fn grid(out: &mut String, frame: &Frame) {
     for size in frame.sizes.marks() {
         let x = frame.x(size);
-        out.line((x, TOP), (x, TOP + SIZE.1), "stroke=\"#eee\"");
+        let _ = writeln!(out, "<path d=\"M{x:.1} {TOP}v{}\" stroke=\"#eee\"/>", SIZE.1);
         text(out, (x, TOP + SIZE.1 + 16.0), "middle", "", &thousands(size));
     }
     for ratio in frame.ratios.marks() {
@@ -233,16 +237,19 @@ fn grid(out: &mut Svg, frame: &Frame) {
     }
 }
 
-fn line_drawn(out: &mut Svg, frame: &Frame, Line { colour, dashed, points, .. }: &Line) {
+fn line_drawn(out: &mut String, frame: &Frame, Line { colour, dashed, points, .. }: &Line) {
     let at: Vec<(f64, f64)> = points.iter().map(|p| (frame.x(p.0), frame.y(p.1))).collect();
+    let path: Vec<String> = at.iter().map(|(x, y)| format!("{x:.1},{y:.1}")).collect();
     let dashes = if *dashed { " stroke-dasharray=\"6 3\"" } else { "" };
     let style = format!("fill=\"none\" stroke=\"{colour}\" stroke-width=\"2\"{dashes}");
-    out.lines(&at, &style);
-    at.into_iter().for_each(|place| out.circle(place, 3.0, &format!("fill=\"{colour}\"")));
+    let _ = writeln!(out, "<polyline points=\"{}\" {style}/>", path.join(" "));
+    for (x, y) in at {
+        let _ = writeln!(out, "<circle cx=\"{x:.1}\" cy=\"{y:.1}\" r=\"3\" fill=\"{colour}\"/>");
+    }
 }
 
 /// The lines' names on the right, each as near to its line's end as the others let it, and a hair from one to the other.
-fn named(out: &mut Svg, frame: &Frame, lines: &[Line]) {
+fn named(out: &mut String, frame: &Frame, lines: &[Line]) {
     let end = |l: &Line| l.points.last().map(|p| (frame.x(p.0), frame.y(p.1)));
     let mut ends: Vec<_> = lines.iter().filter_map(|l| Some((l, end(l)?))).collect();
     ends.sort_by(|a, b| a.1 .1.total_cmp(&b.1 .1));
@@ -250,7 +257,7 @@ fn named(out: &mut Svg, frame: &Frame, lines: &[Line]) {
     let edge = frame.left + SIZE.0 + 14.0;
     for ((Line { name, colour, .. }, (x, y)), at) in ends.iter().zip(apart(&wanted, TOP + 4.0, TOP + SIZE.1 - 2.0)) {
         let hair = format!("stroke=\"{colour}\" stroke-width=\"0.5\"");
-        out.line((x + 4.0, *y), (edge, at), &hair);
+        let _ = writeln!(out, "<path d=\"M{:.1} {y:.1}L{edge} {at:.1}\" {hair}/>", x + 4.0);
         text(out, (edge + 3.0, at + 4.0), "start", &format!("fill=\"{colour}\""), name);
     }
 }

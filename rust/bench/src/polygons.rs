@@ -1,10 +1,10 @@
 //! Polygons: links between triangles, lists of materials, boxes and records. The library on records and in lent buffers,
 //! the reference on its own structs.
 
-use crate::lists::{inputs, square, Tame};
-use crate::subjects::{both, each, Kind, Subject, Work};
-use bounds::geometry::{edges_work_len, MATERIALS_LEN};
-use bounds::{build_materials, polygon_items, update_edge_indices, BoundMaterial, BvhItem, Polygon};
+use crate::lists::{inputs, Tame};
+use crate::subjects::{vec3, Kind, Pass, Side, Subject, Work};
+use bounds::geometry::{edges_work_len, BoundMaterial, Polygon, MATERIALS_LEN};
+use bounds::{build_materials, polygon_items, update_edge_indices, BvhItem, Vec3};
 use compare::random::Random;
 use oracle::geometry::VERTICES;
 use oracle::polygon as reference;
@@ -44,7 +44,15 @@ pub fn all() -> Vec<Subject> {
 
 /// So many triangles of a square grid, two in each cell.
 fn grid(triangles: usize) -> Vec<[u16; 3]> {
-    square(triangles).triangles.into_iter().map(|v| v.map(|v| v as u16)).collect()
+    let wide = (1..).find(|w| 2 * w * w >= triangles).expect("a square is large enough");
+    let triangle = |i: usize| {
+        let cell = i / 2;
+        let low = cell / wide * (wide + 1) + cell % wide;
+        let high = low + wide + 1;
+        let corners = if i.is_multiple_of(2) { [low, low + 1, high] } else { [low + 1, high + 1, high] };
+        corners.map(|v| v as u16)
+    };
+    (0..triangles).map(triangle).collect()
 }
 
 /// The same with numbers up to the highest that there are: over three times as high as there are triangles.
@@ -89,11 +97,30 @@ fn of_kind(kind: usize, ([a, b, c, d], radius): ([u16; 4], f32)) -> Polygon {
     }
 }
 
+/// The reference's, by way of the record.
+fn theirs(polygon: &Polygon) -> reference::Polygon {
+    reference::read(&polygon.to_bytes()).expect("a record of a known kind")
+}
+
+fn both(ours: Pass, theirs: Pass, units: usize) -> Work {
+    Work { passes: vec![(Side::Library, ours), (Side::Reference, theirs)], units, queries: None }
+}
+
+/// A call for each input, one after another.
+fn each<T: Send + 'static, R>(inputs: Vec<T>, call: impl Fn(&T) -> R + Send + 'static) -> Pass {
+    Box::new(move || {
+        for input in &inputs {
+            black_box(call(black_box(input)));
+        }
+    })
+}
+
 /// Links are stored where they were: a pass finds the last one's, which it does not read.
 fn links(corners: &[[u16; 3]]) -> Work {
     let n = corners.len();
     let list: Vec<Polygon> = corners.iter().copied().map(triangle).collect();
     let mut records: Vec<u8> = list.iter().flat_map(Polygon::to_bytes).collect();
+    let list: Vec<_> = list.iter().map(theirs).collect();
     let mut work = vec![0; edges_work_len(n)];
     update_edge_indices(&mut records, n, &mut work).expect("a list within the limits");
     let linked = reference::edges(&list).expect("a list within the limits");
@@ -107,15 +134,15 @@ fn links(corners: &[[u16; 3]]) -> Work {
 fn materials(n: usize, given: usize, seed: u64) -> Work {
     let mut random = Random::new(seed);
     let numbers: Vec<u8> = (0..n).map(|_| random.below(given) as u8).collect();
-    let material = |data1| BoundMaterial { data1, data2: random.u32() };
-    let given: Vec<BoundMaterial> = (0..given as u32).map(material).collect();
+    let pairs: Vec<reference::Material> = (0..given as u32).map(|number| (number, random.u32())).collect();
+    let own: Vec<_> = pairs.iter().map(|&(data1, data2)| BoundMaterial { data1, data2 }).collect();
     let (mut list, mut indices) = (vec![0; MATERIALS_LEN], vec![0; n]);
-    let count = build_materials(&numbers, &given, &mut list, &mut indices).expect("a list within the limits");
-    let built = reference::materials(&numbers, &given).expect("a list within the limits");
+    let count = build_materials(&numbers, &own, &mut list, &mut indices).expect("a list within the limits");
+    let built = reference::materials(&numbers, &pairs).expect("a list within the limits");
     assert_eq!((count, &indices), (built.list.len(), &built.indices), "the same materials");
-    let mut theirs = reference::lister(&numbers, &given);
+    let mut theirs = reference::lister(&numbers, &pairs);
     let ours = move || {
-        let built = build_materials(black_box(&numbers), &given, &mut list, black_box(&mut indices));
+        let built = build_materials(black_box(&numbers), &own, &mut list, black_box(&mut indices));
         black_box(built).expect("a list within the limits");
     };
     let theirs = move || {
@@ -126,32 +153,35 @@ fn materials(n: usize, given: usize, seed: u64) -> Work {
 
 /// Over vertices that are spread, as many as there may be.
 fn boxes(polygons: &[Polygon], seed: u64) -> Work {
-    let vertices = inputs(VERTICES, seed, Tame::point);
+    let points: Vec<[f32; 3]> = inputs(VERTICES, seed, Tame::point);
+    let vertices: Vec<Vec3> = points.iter().copied().map(vec3).collect();
     for p in &polygons[..100] {
-        let b = reference::bbox(*p, &vertices);
-        assert_eq!(p.bbox(&vertices), (b.min, b.max), "the same box");
+        let b = reference::bbox(theirs(p), &points);
+        assert_eq!(p.bbox(&vertices), (vec3(b.min), vec3(b.max)), "the same box");
     }
-    let theirs = reference::boxer(polygons, &vertices);
-    both(each(polygons.to_vec(), move |p| p.bbox(black_box(&vertices))), theirs, polygons.len())
+    let ours = each(polygons.to_vec(), move |p| p.bbox(black_box(&vertices)));
+    let list: Vec<_> = polygons.iter().map(theirs).collect();
+    both(ours, reference::boxer(&list, &points), polygons.len())
 }
 
 /// The boxes of a list as the items of a build, over the same vertices.
 fn items(polygons: &[Polygon], seed: u64) -> Work {
     let n = polygons.len();
-    let vertices = inputs(VERTICES, seed, Tame::point);
+    let points: Vec<[f32; 3]> = inputs(VERTICES, seed, Tame::point);
+    let vertices: Vec<Vec3> = points.iter().copied().map(vec3).collect();
     let records: Vec<u8> = polygons.iter().flat_map(Polygon::to_bytes).collect();
     let mut items = vec![BvhItem::ABSENT; n];
     polygon_items(&records, n, &vertices, &mut items).expect("a list within the limits");
-    for (p, item) in polygons.iter().zip(&items).take(100) {
-        let b = reference::bbox(*p, &vertices);
-        assert_eq!((item.min, item.max), (b.min, b.max), "the same box");
+    let list: Vec<_> = polygons.iter().map(theirs).collect();
+    for (p, item) in list.iter().zip(&items).take(100) {
+        let b = reference::bbox(*p, &points);
+        assert_eq!((item.min, item.max), (vec3(b.min), vec3(b.max)), "the same box");
     }
-    let theirs = reference::itemizer(polygons, &vertices);
     let ours = move || {
         let answer = polygon_items(black_box(&records), n, &vertices, black_box(&mut items));
         black_box(answer).expect("a list within the limits");
     };
-    both(Box::new(ours), theirs, n)
+    both(Box::new(ours), reference::itemizer(&list, &points), n)
 }
 
 fn records(polygons: &[Polygon]) -> Vec<[u8; 16]> {
@@ -164,10 +194,11 @@ fn reads(polygons: &[Polygon]) -> Work {
 }
 
 fn writes(polygons: &[Polygon]) -> Work {
-    let written: Vec<_> = polygons.iter().copied().map(reference::to_bytes).collect();
+    let list: Vec<_> = polygons.iter().map(theirs).collect();
+    let written: Vec<_> = list.iter().copied().map(reference::to_bytes).collect();
     assert_eq!(records(polygons), written, "the same records");
     let ours = each(polygons.to_vec(), Polygon::to_bytes);
-    both(ours, each(polygons.to_vec(), |&p| reference::to_bytes(p)), polygons.len())
+    both(ours, each(list, |&p| reference::to_bytes(p)), polygons.len())
 }
 
 #[cfg(test)]

@@ -1,12 +1,12 @@
 //! Prepare: grids of kind 8, which have a tree, spheres of kind 4, which shrink, and meshes made to be slow.
 
-use crate::lists::square;
 use crate::shrink::{ball, shell, SPHERES};
-use crate::subjects::{agreeing, Kind, Subject, Work};
+use crate::subjects::{agreeing, vec3, Kind, Subject, Work};
 use bounds::prepare::{prepare, Bound, Buffers, Lengths, Mesh};
-use bounds::{BoundMaterial, Geometry, Polygon, Vec3};
-use compare::shapes::rings;
-use oracle::geometry as reference;
+use bounds::{BoundMaterial, Mat4, Vec3};
+use compare::shapes::{rings, sheet};
+use oracle::geometry::{self as reference, Geometry};
+use oracle::polygon::{to_bytes, Polygon};
 use std::hint::black_box;
 
 const GRIDS: &[usize] = &[1_000, 10_000, 32_000];
@@ -32,23 +32,16 @@ pub fn all() -> Vec<Subject> {
 }
 
 /// So many triangles of a square that is not flat, with eight materials.
-pub fn grid(triangles: usize) -> Geometry {
-    let mut mesh = square(triangles);
+fn grid(triangles: usize) -> Geometry {
+    let cells = (1..).find(|c| 2 * c * c >= triangles).expect("a square is large enough");
+    let mut mesh = sheet(cells);
+    mesh.triangles.truncate(triangles);
     mesh.vertices.iter_mut().for_each(|v| v[2] = (v[0] * 0.1).sin() + (v[1] * 0.3).cos());
     let mut geometry = mesh.geometry(8, 0.04);
-    geometry.materials = (0..8).map(|i| BoundMaterial { data1: i, data2: 1 }).collect();
+    geometry.materials = (0..8).map(|i| (i, 1)).collect();
     for (i, p) in geometry.polygons.iter_mut().enumerate() {
-        *p = p.with_material((i / 50 % 8) as u8);
-    }
-    geometry
-}
-
-/// The grid's triangles with other corners, by their numbers.
-fn with_corners(triangles: usize, corners: impl Fn(usize) -> [u16; 3]) -> Geometry {
-    let mut geometry = grid(triangles);
-    for (i, p) in geometry.polygons.iter_mut().enumerate() {
-        if let Polygon::Triangle { v, .. } = p {
-            *v = corners(i);
+        if let Polygon::Triangle { material, .. } = p {
+            *material = (i / 50 % 8) as u8;
         }
     }
     geometry
@@ -56,19 +49,31 @@ fn with_corners(triangles: usize, corners: impl Fn(usize) -> [u16; 3]) -> Geomet
 
 /// All around one edge.
 fn fan(triangles: usize) -> Geometry {
-    with_corners(triangles, |i| [0, 1, (i % 400 + 2) as u16])
+    let mut geometry = grid(triangles);
+    for (i, p) in geometry.polygons.iter_mut().enumerate() {
+        if let Polygon::Triangle { v, .. } = p {
+            *v = [0, 1, (i % 400 + 2) as u16];
+        }
+    }
+    geometry
 }
 
 /// All the same triangle: no split of their boxes parts them.
 fn equal(triangles: usize) -> Geometry {
-    with_corners(triangles, |_| [0, 1, 2])
+    let mut geometry = grid(triangles);
+    for p in &mut geometry.polygons {
+        if let Polygon::Triangle { v, .. } = p {
+            *v = [0, 1, 2];
+        }
+    }
+    geometry
 }
 
 /// A grid in which a vertex has no x.
 fn one_nan(triangles: usize) -> Geometry {
     let mut geometry = grid(triangles);
     let middle = geometry.vertices.len() / 2;
-    geometry.vertices[middle].x = f32::NAN;
+    geometry.vertices[middle][0] = f32::NAN;
     geometry
 }
 
@@ -76,7 +81,7 @@ fn one_nan(triangles: usize) -> Geometry {
 fn chain(spheres: usize) -> Geometry {
     let mut geometry = grid(spheres);
     let far = |i: usize| 3f32.powi((i % 160) as i32 - 80);
-    geometry.vertices.iter_mut().enumerate().for_each(|(i, v)| *v = Vec3::new(far(i), 0.0, 0.0));
+    geometry.vertices.iter_mut().enumerate().for_each(|(i, v)| *v = [far(i), 0.0, 0.0]);
     let vertices = geometry.vertices.len();
     for (i, p) in geometry.polygons.iter_mut().enumerate() {
         *p = Polygon::Sphere { material: (i % 8) as u8, index: (i % vertices) as u16, radius: 0.0 };
@@ -87,10 +92,26 @@ fn chain(spheres: usize) -> Geometry {
 /// Ours in buffers that are lent again and again, from records to bytes; theirs of a copy of the geometry, since it prepares
 /// in place, into lists that it makes anew and that are not yet bytes.
 fn prepares(g: Geometry, units: usize) -> Work {
-    let theirs = reference::preparer(&g);
-    let polygons: Vec<u8> = g.polygons.iter().flat_map(Polygon::to_bytes).collect();
-    let numbers: Vec<u8> = g.polygons.iter().map(Polygon::material).collect();
-    let of = Lengths::of(numbers.len(), g.vertices.len());
+    let bound = Bound {
+        kind: g.kind as u32,
+        box_min: vec3(g.box_min),
+        box_max: vec3(g.box_max),
+        box_center: vec3(g.box_center),
+        sphere_center: vec3(g.sphere_center),
+        sphere_radius: g.sphere_radius,
+        margin: g.margin,
+        center_geom: vec3(g.center_geom),
+        transform: Mat4(g.transform),
+    };
+    let vertices: Vec<Vec3> = g.vertices.iter().copied().map(vec3).collect();
+    let materials: Vec<_> = g.materials.iter().map(|&(data1, data2)| BoundMaterial { data1, data2 }).collect();
+    let polygons: Vec<u8> = g.polygons.iter().flat_map(|&p| to_bytes(p)).collect();
+    let number = |p: &Polygon| match p {
+        Polygon::Triangle { material, .. } | Polygon::Sphere { material, .. } => *material,
+        _ => 0,
+    };
+    let numbers: Vec<u8> = g.polygons.iter().map(number).collect();
+    let of = Lengths::of(numbers.len(), vertices.len());
     let (mut list, mut indices, mut records) = (vec![0; of.materials], vec![0; of.indices], vec![0; of.polygons]);
     let (mut stored, mut floats) = (vec![0; of.vertices], vec![Vec3::ZERO; of.floats]);
     let (mut shrunk, mut shrunk_floats) = (vec![0; of.shrunk], vec![Vec3::ZERO; of.shrunk_floats]);
@@ -98,12 +119,12 @@ fn prepares(g: Geometry, units: usize) -> Work {
     let (mut order, mut work) = (vec![0; of.order], vec![0; of.work]);
     let ours = move || {
         let mesh = Mesh {
-            bound: Bound::of(&g),
+            bound,
             polygon_count: numbers.len(),
             polygons: &polygons,
             numbers: &numbers,
-            materials: &g.materials,
-            vertices: black_box(&g.vertices),
+            materials: &materials,
+            vertices: black_box(&vertices),
         };
         let to = Buffers {
             materials: &mut list,
@@ -123,5 +144,5 @@ fn prepares(g: Geometry, units: usize) -> Work {
         let nodes = values.built.map_or(0, |built| built.nodes_count as usize);
         values.materials_count + values.octants.iter().sum::<usize>() + nodes
     };
-    agreeing(ours, theirs, units)
+    agreeing(ours, reference::preparer(&g), units)
 }

@@ -1,10 +1,11 @@
 //! Shrunk vertices: spheres, which pass with the first margin, and meshes that no or only a small margin passes for.
 
-use crate::subjects::{agreeing, Kind, Subject, Work};
-use bounds::shrink::{calculate_verts_shrunk_in, work_len};
-use bounds::{Geometry, Polygon, ShrinkBound, Vec3};
+use crate::subjects::{agreeing, vec3, Kind, Subject, Work};
+use bounds::shrink::{calculate_verts_shrunk_in, work_len, ShrinkBound};
+use bounds::{Mat4, Vec3};
 use compare::shapes::{rings, sheets, sphere, Mesh};
-use oracle::geometry::{self as reference, summed};
+use oracle::geometry::{self as reference, summed, Geometry};
+use oracle::polygon::to_bytes;
 use std::hint::black_box;
 
 /// Of 2 + k (k + 1) vertices.
@@ -42,22 +43,28 @@ fn late(vertices: usize) -> Mesh {
 pub fn shell(vertices: usize) -> Geometry {
     let cells = (1..).find(|c| 2 * (c + 1) * (c + 1) >= vertices).expect("a sheet is large enough");
     let mut geometry = sheets(cells, 0.01).geometry(4, 1.0);
-    (geometry.box_min.z, geometry.box_max.z) = (-2.0, 2.0);
+    (geometry.box_min[2], geometry.box_max[2]) = (-2.0, 2.0);
     geometry
 }
 
 /// Ours in buffers that are lent again and again; theirs in lists that it makes anew. Both make the links.
 fn shrinks(geometry: Geometry) -> Work {
-    let theirs = reference::shrinker(&geometry);
-    let bound = ShrinkBound::of(&geometry);
-    let records: Vec<u8> = geometry.polygons.iter().flat_map(Polygon::to_bytes).collect();
-    let Geometry { vertices, polygons, .. } = geometry;
-    let (p, v) = (polygons.len(), vertices.len());
+    let g = &geometry;
+    let bound = ShrinkBound {
+        box_min: vec3(g.box_min),
+        box_max: vec3(g.box_max),
+        center_geom: vec3(g.center_geom),
+        margin: g.margin,
+        transform: Mat4(g.transform),
+    };
+    let vertices: Vec<Vec3> = g.vertices.iter().copied().map(vec3).collect();
+    let records: Vec<u8> = g.polygons.iter().flat_map(|&p| to_bytes(p)).collect();
+    let (p, v) = (g.polygons.len(), vertices.len());
     let (mut points, mut work) = (vec![Vec3::ZERO; v], vec![0; work_len(p, v)]);
     let ours = move || {
         let (points, vertices) = (black_box(&mut points), black_box(&vertices));
         calculate_verts_shrunk_in(&bound, &records, p, vertices, points, &mut work).expect("within the limits");
-        summed(points.iter().copied())
+        summed(points.iter().map(|p| [p.x, p.y, p.z]))
     };
-    agreeing(ours, theirs, v)
+    agreeing(ours, reference::shrinker(&geometry), v)
 }

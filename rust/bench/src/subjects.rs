@@ -1,9 +1,9 @@
 //! What is timed: the sides of an operation over the same inputs.
 
 use crate::lists::{self, inputs, spread, Tame};
-use crate::{composites, octants, polygons, prepare, server, shrink, walks};
+use crate::{composites, octants, polygons, prepare, shrink, walks};
 use bounds::bvh::{build_bvh, records_len, work_len, BvhItem};
-use bounds::{float, math};
+use bounds::{float, math, Mat4, Vec3};
 use oracle::{float as source, math as reference, tree, Aabb};
 use std::cell::Cell;
 use std::hint::black_box;
@@ -17,12 +17,10 @@ pub enum Side {
     /// The proved library.
     Library,
     Reference,
-    /// The plain Rust walk of rust/plain.
+    /// The plain Rust walk of rust/compare.
     Plain,
     /// The walk tuned by hand.
     Tuned,
-    /// The library's walk, and the boxes of what it handed out compared.
-    Filtered,
     /// Every box compared.
     Force,
 }
@@ -34,7 +32,6 @@ impl Side {
             Side::Reference => "reference",
             Side::Plain => "plain",
             Side::Tuned => "tuned",
-            Side::Filtered => "with the filter",
             Side::Force => "brute force",
         }
     }
@@ -44,7 +41,6 @@ impl Side {
 pub enum Kind {
     Build,
     Walk,
-    Server,
     Polygon,
     Shrink,
     Octants,
@@ -91,11 +87,18 @@ const LONGEST: usize = 32_767;
 /// At threshold 1 more boxes would make too many nodes.
 const SINGLES: &[usize] = &[1_000, 4_000, 16_384];
 
+pub fn vec3(p: [f32; 3]) -> Vec3 {
+    Vec3::new(p[0], p[1], p[2])
+}
+
 /// Both builds over the same lists of n boxes, one list after another: ours into buffers that are lent again and again, theirs
 /// without turning its records into bytes.
-fn builds(lists: Vec<Vec<BvhItem>>, n: usize, threshold: u32) -> Work {
-    let mut builders: Vec<_> = lists.iter().map(|list| tree::builder(list, threshold)).collect();
+fn builds(lists: &[Vec<Aabb>], n: usize, threshold: u32) -> Work {
+    let present = |list: &Vec<Aabb>| list.iter().copied().map(Some).collect::<Vec<_>>();
+    let mut builders: Vec<_> = lists.iter().map(|list| tree::builder(&present(list), threshold as usize)).collect();
     let theirs = move || builders.iter_mut().map(|build| build()).sum();
+    let item = |b: &Aabb| BvhItem::new(vec3(b.min), vec3(b.max));
+    let lists: Vec<Vec<BvhItem>> = lists.iter().map(|list| list.iter().map(item).collect()).collect();
     let units = n * lists.len();
     let (mut nodes, mut trees) = (vec![0; records_len(n)], vec![0; records_len(n)]);
     let (mut order, mut work) = (vec![0; n], vec![0; work_len(n)]);
@@ -111,14 +114,14 @@ fn builds(lists: Vec<Vec<BvhItem>>, n: usize, threshold: u32) -> Work {
 
 /// Lists by one seed after another, as many as have the boxes of the longest: of one short list, built again and again, the
 /// processor learns the branches, and a list is built once.
-fn several(n: usize, seed: u64, threshold: u32, list: fn(usize, u64) -> Vec<BvhItem>) -> Work {
+fn several(n: usize, seed: u64, threshold: u32, list: fn(usize, u64) -> Vec<Aabb>) -> Work {
     let seeds = seed..seed + (LONGEST / n) as u64;
-    builds(seeds.map(|seed| list(n, seed)).collect(), n, threshold)
+    builds(&seeds.map(|seed| list(n, seed)).collect::<Vec<_>>(), n, threshold)
 }
 
-fn one(list: Vec<BvhItem>, threshold: u32) -> Work {
+fn one(list: Vec<Aabb>, threshold: u32) -> Work {
     let n = list.len();
-    builds(vec![list], n, threshold)
+    builds(&[list], n, threshold)
 }
 
 /// The two sides, each of which answers a number: nodes of a tree, indices in all, a sum of points. They are the same at each
@@ -131,37 +134,31 @@ pub fn agreeing(ours: impl FnMut() -> usize + 'static, theirs: impl FnMut() -> u
         })
     }
     let agreed = Rc::default();
-    both(pass(ours, Rc::clone(&agreed)), pass(theirs, agreed), units)
-}
-
-/// The library's pass and the reference's.
-pub fn both(ours: Pass, theirs: Pass, units: usize) -> Work {
-    Work { passes: vec![(Side::Library, ours), (Side::Reference, theirs)], units, queries: None }
+    let passes = [(Side::Library, pass(ours, Rc::clone(&agreed))), (Side::Reference, pass(theirs, agreed))];
+    Work { passes: passes.into(), units, queries: None }
 }
 
 /// One call after another: `black_box` keeps the compiler from taking several at once, or none.
-pub fn each<T: 'static, R>(inputs: Vec<T>, call: impl Fn(&T) -> R + 'static) -> Pass {
-    Box::new(move || {
-        for input in &inputs {
-            black_box(call(black_box(input)));
-        }
-    })
-}
-
-/// A call of each side for each input.
-fn calls<T: Copy + 'static, A, B>(
+fn calls<T: Copy + Send + 'static, A, B>(
     inputs: Vec<T>,
-    ours: impl Fn(T) -> A + 'static,
-    theirs: impl Fn(T) -> B + 'static,
+    ours: impl Fn(T) -> A + Send + 'static,
+    theirs: impl Fn(T) -> B + Send + 'static,
 ) -> Work {
+    fn each<T: Copy + Send + 'static, R>(inputs: Vec<T>, step: impl Fn(T) -> R + Send + 'static) -> Pass {
+        Box::new(move || {
+            for &input in &inputs {
+                black_box(step(black_box(input)));
+            }
+        })
+    }
     let units = inputs.len();
-    both(each(inputs.clone(), move |&input| ours(input)), each(inputs, move |&input| theirs(input)), units)
+    let passes = [(Side::Library, each(inputs.clone(), ours)), (Side::Reference, each(inputs, theirs))];
+    Work { passes: passes.into(), units, queries: None }
 }
 
 pub fn all() -> Vec<Subject> {
-    let lists = builds_of_lists().into_iter().chain(walks::all()).chain(server::all());
+    let lists = builds_of_lists().into_iter().chain(walks::all()).chain(polygons::all());
     lists
-        .chain(polygons::all())
         .chain(shrink::all())
         .chain(octants::all())
         .chain(composites::all())
@@ -199,18 +196,18 @@ fn steps() -> Vec<Subject> {
         }),
         step("vmin", |n, seed| {
             let x = inputs(n, seed, |t| (t.point(), t.point()));
-            calls(x, |(a, b)| math::vmin(a, b), |(a, b)| reference::vmin(a, b))
+            calls(x, |(a, b)| math::vmin(vec3(a), vec3(b)), |(a, b)| reference::vmin(a, b))
         }),
-        step("abs", |n, seed| calls(inputs(n, seed, Tame::point), bounds::Vec3::abs, reference::abs)),
-        step("norm", |n, seed| calls(inputs(n, seed, Tame::point), math::norm, reference::norm)),
+        step("abs", |n, seed| calls(inputs(n, seed, Tame::point), |v| vec3(v).abs(), reference::abs)),
+        step("norm", |n, seed| calls(inputs(n, seed, Tame::point), |v| math::norm(vec3(v)), reference::norm)),
         step("transform_point", |n, seed| {
             let x = inputs(n, seed, |t| (t.matrix(), t.point()));
-            calls(x, |(m, p)| m.transform_point(p), |(m, p)| reference::transform_point(&m, p))
+            calls(x, |(m, p)| Mat4(m).transform_point(vec3(p)), |(m, p)| reference::transform_point(&m, p))
         }),
         step("transform_box", |n, seed| {
             let x = inputs(n, seed, |t| (t.point(), t.point(), t.matrix()));
             let theirs = |(min, max, m)| reference::transform_box(Aabb { min, max }, &m);
-            calls(x, |(min, max, m)| math::transform_box(min, max, &m), theirs)
+            calls(x, |(min, max, m)| math::transform_box(vec3(min), vec3(max), &Mat4(m)), theirs)
         }),
     ]
 }

@@ -1,7 +1,7 @@
-//! The walk of [`plain::walk`] tuned by hand: the anchor that the library's is measured by. Over the same bytes it gives
+//! The walk of [`oracle::walk`] tuned by hand: the anchor that the library's is measured by. Over the same bytes it gives
 //! the same counts, positions and refusals. It has SSE2 instructions, so it is only there where those are.
 
-use plain::walk::{Walk, Walked};
+use compare::walk::{Walk, Walked};
 
 pub type Side = fn(&Walk, &mut [u16]) -> Walked;
 
@@ -17,8 +17,7 @@ pub const WALK: Option<Side> = None;
 #[cfg(target_arch = "x86_64")]
 mod sse2 {
     use super::*;
-    use bounds::walk::Records;
-    use plain::walk::Span;
+    use compare::walk::quantise;
     use std::arch::x86_64::*;
 
     /// Most nodes, trees and items.
@@ -40,8 +39,8 @@ mod sse2 {
         /// With the greatest second number of a record.
         #[target_feature(enable = "sse2")]
         fn new(walk: &Walk, second: usize) -> Lanes {
-            let Span { min, max: [a, b, c] } = walk.span();
-            let [d, e, f] = min.map(|x| !x);
+            let [a, b, c] = quantise(walk.query.max, walk.cen, walk.inverse);
+            let [d, e, f] = quantise(walk.query.min, walk.cen, walk.inverse).map(|x| !x);
             let second = second.min(i16::MAX as usize) as i16;
             let turn = _mm_setr_epi16(0, 0, 0, -1, -1, -1, -1, 0);
             Lanes { turn, most: _mm_setr_epi16(a, b, c, d, e, f, -1, second) }
@@ -70,15 +69,14 @@ mod sse2 {
     #[target_feature(enable = "sse2")]
     pub fn run(walk: &Walk, out: &mut [u16]) -> Walked {
         let refused = |refusal| Walked { refusal, ..Walked::default() };
-        let Records { node_bytes, nodes_count, tree_bytes, trees_count, items_count } = walk.records;
-        if nodes_count > LIMIT || trees_count > LIMIT || items_count > LIMIT {
+        if walk.node_count > LIMIT || walk.tree_count > LIMIT || walk.item_count > LIMIT {
             return refused(1);
         }
-        let (nodes, trees) = (node_bytes.as_chunks().0, tree_bytes.as_chunks().0);
-        if nodes.len() < nodes_count || trees.len() < trees_count || out.len() < items_count {
+        let (nodes, trees) = (walk.nodes.as_chunks().0, walk.trees.as_chunks().0);
+        if nodes.len() < walk.node_count || trees.len() < walk.tree_count || out.len() < walk.item_count {
             return refused(2);
         }
-        let (nodes, trees, out) = (&nodes[..nodes_count], &trees[..trees_count], &mut out[..items_count]);
+        let (nodes, trees, out) = (&nodes[..walk.node_count], &trees[..walk.tree_count], &mut out[..walk.item_count]);
         let (of_trees, of_nodes) = (Lanes::new(walk, nodes.len()), Lanes::new(walk, LIMIT));
         let mut walked = Walked::default();
         let mut rest = trees;

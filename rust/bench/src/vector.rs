@@ -73,17 +73,8 @@ fn judged(listing: &str) -> Result<String, String> {
     }
 }
 
-/// The functions whose names have one of these parts; `Err` where there is none.
-fn named<'a>(functions: &'a [Function], what: &str, parts: &[&str]) -> Result<Vec<&'a Function<'a>>, String> {
-    let of: Vec<_> = functions.iter().filter(|f| parts.iter().any(|part| f.name.contains(part))).collect();
-    match of.is_empty() {
-        true => Err(format!("{what}: no function named {} in the archive", parts.join(", "))),
-        false => Ok(of),
-    }
-}
-
-fn count(functions: &[&Function], name: &str) -> usize {
-    functions.iter().flat_map(|f| &f.code).filter(|i| i.name == name).count()
+fn named<'a>(functions: &'a [Function], parts: &[&str]) -> Vec<&'a Function<'a>> {
+    functions.iter().filter(|f| parts.iter().any(|part| f.name.contains(part))).collect()
 }
 
 fn names(functions: &[&Function]) -> String {
@@ -93,9 +84,11 @@ fn names(functions: &[&Function]) -> String {
 /// One compare for the eight numbers of a record, where trees are passed over and where nodes are read; and no number
 /// taken out of the vector, for which the loops would wait.
 fn walk(functions: &[Function]) -> Result<String, String> {
-    let of = named(functions, "walk", &["walk"])?;
-    let (found, taken) = (count(&of, "pcmpgtw"), count(&of, "pextrw"));
+    let of = named(functions, &["walk"]);
+    let count = |name: &str| of.iter().flat_map(|f| &f.code).filter(|i| i.name == name).count();
+    let (found, taken) = (count("pcmpgtw"), count("pextrw"));
     match found {
+        _ if of.is_empty() => Err("walk: no function of that name in the archive".to_string()),
         _ if taken > 0 => Err(format!(
             "walk: {taken} pextrw in {}, none is wanted: a record's numbers are taken out of the vector, and not read again",
             names(&of)
@@ -114,7 +107,10 @@ const COUNTS: [&str; 6] = ["count_below", "divide", "put_inner", "grow", "build_
 
 /// Four lanes of a centre loaded, compared and counted, with nothing computed on the way.
 fn counts(functions: &[Function]) -> Result<String, String> {
-    let of = named(functions, "counts", &COUNTS)?;
+    let of = named(functions, &COUNTS);
+    if of.is_empty() {
+        return Err(format!("counts: no function named {} in the archive", COUNTS.join(", ")));
+    }
     let mut nearly = None;
     for function in &of {
         for at in (0..function.code.len()).filter(|&at| function.code[at].name == "cmpltps") {
@@ -161,7 +157,10 @@ const AROUND: usize = 150;
 /// Four triangles at once: a division, and the products around it. The given and the shrunk triangles have a loop each, or
 /// one in a function that both call.
 fn rays(functions: &[Function]) -> Result<String, String> {
-    let of = named(functions, "rays", &RAYS)?;
+    let of = named(functions, &RAYS);
+    if of.is_empty() {
+        return Err(format!("rays: no function named {} in the archive", RAYS.join(", ")));
+    }
     let products = |code: &[Instruction], at: usize| {
         let near = &code[at.saturating_sub(AROUND)..code.len().min(at + AROUND)];
         near.iter().filter(|i| i.name == "mulps").count()
@@ -188,10 +187,12 @@ fn rays(functions: &[Function]) -> Result<String, String> {
 
 /// Both corners of a box in four lanes: so many minima and maxima, one fewer than it has vertices.
 fn corners(functions: &[Function], name: &str, wanted: usize) -> Result<String, String> {
-    let of = named(functions, "box", &[name])?;
-    let (low, high) = (count(&of, "minps"), count(&of, "maxps"));
+    let of = named(functions, &[name]);
+    let count = |name: &str| of.iter().flat_map(|f| &f.code).filter(|i| i.name == name).count();
+    let (low, high) = (count("minps"), count("maxps"));
     let found = format!("box: {low} minps and {high} maxps in {}", names(&of));
     match low.min(high) {
+        _ if of.is_empty() => Err(format!("box: no function named {name} in the archive")),
         enough if enough >= wanted => Ok(found),
         _ => Err(format!("{found}, {wanted} of each are wanted: a corner is made number by number")),
     }

@@ -4,16 +4,14 @@
 use crate::lists::{spread, Tame};
 use crate::subjects::{Kind, Pass, Queries, Side, Subject, Work};
 use crate::tuned;
-use bounds::tree::TreeRecords;
-use bounds::BvhItem;
 use compare::lists::Case;
 use compare::pairs::{library, reference};
-use compare::promises::over;
+use compare::promises::Tree;
 use compare::random::Random;
-use compare::records::Records;
+use compare::records::{Case as Lent, Records};
+use compare::walk::{Walk, Walked};
 use compare::walks;
 use oracle::Aabb;
-use plain::walk::{Walk, Walked};
 use std::hint::black_box;
 
 pub const SYNTHETIC: &str = "synthetic, 8,000 leaves";
@@ -41,23 +39,23 @@ pub fn all() -> Vec<Subject> {
 
 /// Queries over one tree of 8,000 leaves, until they have read about so many records.
 fn synthetic(reads: usize, seed: u64) -> Work {
-    let tree = Records::new(seed).whole(8_000);
+    let mut case = Records::new(seed).whole(8_000);
     let mut tame = Tame(Random::new(seed));
-    let mut out = vec![0; tree.items_count];
+    let mut out = vec![0; case.out];
     let (mut boxes, mut sum) = (Vec::new(), 0);
     while sum < reads {
-        let min = tame.floats().map(|x| x * 0.75);
-        let query = Aabb { min: min.into(), max: min.map(|low| low + tame.float().abs() / 5.0).into() };
-        sum += over(&tree, query).run(&mut out).reads;
-        boxes.push(query);
+        let min = tame.point().map(|x| x * 0.75);
+        case.query = Aabb { min, max: min.map(|low| low + tame.float().abs() / 5.0) };
+        sum += case.walk().run(&mut out).reads;
+        boxes.push(case.query);
     }
-    Work { passes: passes(&tree, &tree, &boxes), units: sum, queries: None }
+    Work { passes: passes(&case, &case, &boxes), units: sum, queries: None }
 }
 
 /// Queries over a tree of spread boxes at threshold 4.
 fn queries(boxes: usize, meeting: usize, seed: u64) -> Work {
     let list = spread(boxes, seed);
-    let case = Case::exact(list.clone(), 4);
+    let case = Case::exact(list.iter().copied().map(Some).collect(), 4);
     let (ours, theirs) = (library(&case, seed).expect("a tree"), reference(&case).expect("a tree"));
     let queries = cubes(boxes, meeting, seed);
     let (mut met, mut handed, mut reads) = (0, 0, 0);
@@ -69,13 +67,8 @@ fn queries(boxes: usize, meeting: usize, seed: u64) -> Work {
         (handed, reads) = (handed + walked.handed, reads + walked.reads);
     }
     let mean = |sum: usize| sum as f64 / A_PASS as f64;
-    let facts = Queries {
-        trees: ours.records.built.trees_count as usize,
-        met: mean(met),
-        handed: mean(handed),
-        reads: mean(reads),
-    };
-    let mut passes = passes(&ours.records, &theirs.records, &queries);
+    let facts = Queries { trees: ours.tree_count, met: mean(met), handed: mean(handed), reads: mean(reads) };
+    let mut passes = passes(&lent(&ours), &lent(&theirs), &queries);
     let few = queries[..BY_FORCE].to_vec();
     let force = move || {
         for query in &few {
@@ -86,8 +79,16 @@ fn queries(boxes: usize, meeting: usize, seed: u64) -> Work {
     Work { passes, units: reads, queries: Some(facts) }
 }
 
+/// A tree's records, copied.
+fn lent(tree: &Tree) -> Lent {
+    let nothing = Aabb { min: [0.0; 3], max: [0.0; 3] };
+    let Walk { cen, inverse, nodes, node_count, trees, tree_count, item_count, .. } = tree.walk(nothing);
+    let (nodes, trees) = (nodes.to_vec(), trees.to_vec());
+    Lent { query: nothing, cen, inverse, nodes, node_count, trees, tree_count, item_count, out: item_count }
+}
+
 /// All walks of these queries, the tuned one where it is there.
-fn passes(ours: &TreeRecords, theirs: &TreeRecords, queries: &[Aabb]) -> Vec<(Side, Pass)> {
+fn passes(ours: &Lent, theirs: &Lent, queries: &[Aabb]) -> Vec<(Side, Pass)> {
     let mut passes: Vec<(Side, Pass)> = vec![
         (Side::Library, pass(ours, queries, walks::proved)),
         (Side::Plain, pass(theirs, queries, |walk, out| walk.run(out))),
@@ -96,17 +97,17 @@ fn passes(ours: &TreeRecords, theirs: &TreeRecords, queries: &[Aabb]) -> Vec<(Si
     passes
 }
 
-fn pass(tree: &TreeRecords, queries: &[Aabb], walk: fn(&Walk, &mut [u16]) -> Walked) -> Pass {
-    let (tree, queries, mut out) = (tree.clone(), queries.to_vec(), vec![0; tree.items_count]);
+fn pass(case: &Lent, queries: &[Aabb], walk: fn(&Walk, &mut [u16]) -> Walked) -> Pass {
+    let (case, queries, mut out) = (case.clone(), queries.to_vec(), vec![0; case.out]);
     Box::new(move || {
         for &query in &queries {
-            black_box(walk(&over(&tree, query), black_box(&mut out)));
+            black_box(walk(&Walk { query, ..case.walk() }, black_box(&mut out)));
         }
     })
 }
 
 /// Hands out the places of the boxes that meet, and answers how many. Without a branch, which would be guessed wrong often.
-pub fn brute_force(list: &[BvhItem], query: &Aabb, out: &mut [u16]) -> usize {
+fn brute_force(list: &[Aabb], query: &Aabb, out: &mut [u16]) -> usize {
     let mut handed = 0;
     for (place, b) in list.iter().enumerate() {
         let on = |axis: usize| (b.min[axis] <= query.max[axis]) & (query.min[axis] <= b.max[axis]);
@@ -121,9 +122,8 @@ fn cubes(boxes: usize, meeting: usize, seed: u64) -> Vec<Aabb> {
     let wide = (400.0 * (meeting as f32 / boxes as f32).cbrt() - 5.0).max(0.0);
     let mut tame = Tame(Random::new(seed ^ 0x0DD));
     let mut cube = || {
-        let middle = tame.floats().map(|x| x / 200.0);
-        let moved = |by: f32| middle.map(|x| x + by).into();
-        Aabb { min: moved(-(wide / 2.0)), max: moved(wide / 2.0) }
+        let middle = tame.point().map(|x| x / 200.0);
+        Aabb { min: middle.map(|x| x - wide / 2.0), max: middle.map(|x| x + wide / 2.0) }
     };
     (0..A_PASS).map(|_| cube()).collect()
 }
@@ -134,9 +134,9 @@ mod tests {
 
     #[test]
     fn brute_force_hands_out_what_meets() {
-        let at = |x: f32| BvhItem::new([x; 3].into(), [x + 1.0; 3].into());
-        let (query, mut out) = (Aabb { min: [1.0; 3].into(), max: [2.0; 3].into() }, [7; 3]);
-        assert_eq!(brute_force(&[at(0.0), at(5.0), at(1.0)], &query, &mut out), 2);
+        let at = |x: f32| Aabb { min: [x; 3], max: [x + 1.0; 3] };
+        let mut out = [7; 3];
+        assert_eq!(brute_force(&[at(0.0), at(5.0), at(1.0)], &at(1.0), &mut out), 2);
         assert_eq!(out[..2], [0, 2]);
     }
 

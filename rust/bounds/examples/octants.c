@@ -22,9 +22,10 @@ static uint64_t little_endian(const uint8_t *bytes, int count) {
 static void octants(void) {
     static const uint32_t one = 0x3F800000;
     const uint32_t vertices[9] = {0, 0, 0, one, one, one, one, one, one}; /* (0, 0, 0) and twice (1, 1, 1) */
-    uint32_t lists[24], work[30]; /* what the work buffer holds does not matter */
+    uint32_t lists[24], work[30];
     number("words to work in", bounds_octants_work_len(3), 30);
     memset(lists, 0x55, sizeof lists);
+    memset(work, 0, sizeof work);
     number("octants: one word short", bounds_calculate_octants_in(3, vertices, 9, lists, 24, work, 29).refusal, 2);
     number("octants: lists one short", bounds_calculate_octants_in(3, vertices, 9, lists, 23, work, 30).refusal, 2);
     number("octants: vertices one short", bounds_calculate_octants_in(3, vertices, 8, lists, 24, work, 30).refusal, 2);
@@ -84,6 +85,7 @@ static void composites(void) {
     enum { CHILDREN = 6, RECORDS = 16 * (2 * CHILDREN + 1), WORK = 30 * CHILDREN + 8 };
     uint32_t children[24 * CHILDREN], work[WORK];
     memset(children, 0, sizeof children);
+    memset(work, 0, sizeof work);
     for (int i = 0; i < 5; i++) /* the sixth stays absent */
         child(children + 24 * i, (float)(2 * i));
 

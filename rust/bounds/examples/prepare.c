@@ -51,20 +51,18 @@ static bounds_mesh pyramid(uint32_t kind) {
     return mesh;
 }
 
-static void *room(size_t bytes) {
+/* Buffers as long as they have to be, each of its own, full of A5. */
+static void *filled(size_t bytes) {
     void *at = malloc(bytes);
     if (at == NULL) {
         puts("no memory");
         exit(2);
     }
-    return at;
+    return memset(at, 0xA5, bytes);
 }
 
-/* Buffers as long as they have to be, each of its own; the outputs full of A5, so that it is seen where nothing is written. */
-static void *filled(size_t bytes) { return memset(room(bytes), 0xA5, bytes); }
-
-static bounds_buffers lent(size_t polygon_count, size_t vertex_count) {
-    bounds_buffers b = bounds_prepare_lengths(polygon_count, vertex_count);
+static bounds_buffers lent(void) {
+    bounds_buffers b = bounds_prepare_lengths(TRIANGLES, CORNERS);
     b.materials = filled(b.materials_len);
     b.indices = filled(b.indices_len);
     b.polygons = filled(b.polygons_len);
@@ -76,7 +74,7 @@ static bounds_buffers lent(size_t polygon_count, size_t vertex_count) {
     b.node_bytes = filled(b.node_bytes_len);
     b.tree_bytes = filled(b.tree_bytes_len);
     b.order = filled(2 * b.order_len);
-    b.work = room(4 * b.work_len); /* what it holds does not matter */
+    b.work = filled(4 * b.work_len);
     return b;
 }
 
@@ -89,7 +87,7 @@ static void returned(bounds_buffers b) {
 
 /* Each length one less, in turn: the lengths are the last fields of their structs. */
 static void refusals(uint32_t kind) {
-    bounds_buffers b = lent(TRIANGLES, CORNERS);
+    bounds_buffers b = lent();
     bounds_mesh mesh = pyramid(kind);
     size_t *lengths[16] = {&mesh.polygons_len, &mesh.numbers_len, &mesh.materials_len, &mesh.vertices_len,
                            &b.materials_len, &b.indices_len, &b.polygons_len, &b.vertices_len, &b.floats_len,
@@ -118,7 +116,7 @@ static void refusals(uint32_t kind) {
 }
 
 static void plain(void) {
-    bounds_buffers b = lent(TRIANGLES, CORNERS);
+    bounds_buffers b = lent();
     const bounds_mesh mesh = pyramid(4);
     const bounds_prepare_answer answer = bounds_prepare(&mesh, &b);
     number("kind 4: refusal", answer.refusal, 0);
@@ -140,7 +138,7 @@ static void plain(void) {
 }
 
 static void tree(void) {
-    bounds_buffers b = lent(TRIANGLES, CORNERS);
+    bounds_buffers b = lent();
     const bounds_mesh mesh = pyramid(8);
     const bounds_prepare_answer answer = bounds_prepare(&mesh, &b);
     number("kind 8: refusal", answer.refusal, 0);
@@ -162,53 +160,12 @@ static void tree(void) {
     returned(b);
 }
 
-/* The given numbers, one bit each, of the polygons that a walk at this x hands out. */
-static uint32_t given_at(const bounds_build_answer *tree, const bounds_buffers *b, float x) {
-    const bounds_aabb query = {{x, 0, 0}, {x, 0, 0}};
-    uint16_t found[8];
-    uint32_t given = 0;
-    const bounds_walk_answer walk = bounds_walk(query, tree->scale.cen, tree->scale.inverse, b->node_bytes, b->node_bytes_len,
-                                                tree->nodes, b->tree_bytes, b->tree_bytes_len, tree->trees, tree->present,
-                                                found, 8);
-    for (size_t k = 0; k < walk.handed; k++)
-        given |= 1u << b->order[found[k]];
-    return given;
-}
-
-/* Five spheres of radius 1, given at x = 0, 10, 20, 30, 40, with the centre (100, 0, 0): they stand at 100 to 140. */
-static void space(void) {
-    enum { SPHERES = 5 };
-    uint8_t records[16 * SPHERES], numbers[SPHERES] = {0};
-    uint32_t centres[3 * SPHERES] = {0};
-    bounds_buffers b = lent(SPHERES, SPHERES);
-    bounds_mesh mesh = pyramid(8);
-    for (uint16_t i = 0; i < SPHERES; i++) {
-        const bounds_polygon sphere = {1, word(1), i, 0, 0, 0, 0, 0};
-        number("space: a record", bounds_polygon_write(records + 16 * i, 16, sphere), 0);
-        centres[3 * i] = word(10 * (float)i);
-    }
-    mesh.bound.center.x = 100;
-    mesh.counts = (bounds_counts){SPHERES, SPHERES, 0};
-    mesh.polygons = records, mesh.polygons_len = sizeof records;
-    mesh.numbers = numbers, mesh.numbers_len = sizeof numbers;
-    mesh.vertices = centres, mesh.vertices_len = 3 * SPHERES;
-    mesh.materials = NULL, mesh.materials_len = 0; /* none are given */
-    const bounds_prepare_answer answer = bounds_prepare(&mesh, &b);
-    number("space: refusal", answer.refusal, 0);
-    number("space: the box, min x", answer.tree.min.x, word(99));
-    number("space: the box, max x", answer.tree.max.x, word(141));
-    number("space: at 140 the one given at 40", given_at(&answer.tree, &b, 140), 1 << 3 | 1 << 4);
-    number("space: at 40 the first three, not it", given_at(&answer.tree, &b, 40), 1 << 0 | 1 << 1 | 1 << 2);
-    returned(b);
-}
-
 int main(void) {
     number("words to work in", bounds_prepare_work_len(TRIANGLES, CORNERS), 55 * TRIANGLES + 13 * CORNERS + 8);
     refusals(4);
     refusals(8);
     plain();
     tree();
-    space();
     puts(wrong ? "some value is wrong" : "all values are right");
     return wrong;
 }

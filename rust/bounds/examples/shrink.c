@@ -3,7 +3,6 @@
 #include "bounds.h"
 #include <inttypes.h>
 #include <stdio.h>
-#include <stdlib.h>
 #include <string.h>
 
 static int wrong;
@@ -25,8 +24,7 @@ enum { CORNERS = 8, TRIANGLES = 12, MORE = TRIANGLES + 1, WORK = 36 * MORE + COR
 static const uint16_t sides[TRIANGLES][3] = {{0, 3, 1}, {0, 2, 3}, {4, 7, 6}, {4, 5, 7}, {0, 5, 4}, {0, 1, 5},
                                              {2, 7, 3}, {2, 6, 7}, {0, 6, 2}, {0, 4, 6}, {1, 7, 5}, {1, 3, 7}};
 
-static uint32_t vertices[3 * CORNERS], points[3 * CORNERS + 1];
-static uint32_t *work; /* what it holds does not matter */
+static uint32_t vertices[3 * CORNERS], points[3 * CORNERS + 1], work[WORK];
 static uint8_t polygons[16 * MORE];
 
 static bounds_geometry box(float x, float y, float z, float margin) {
@@ -51,12 +49,11 @@ static bounds_shrink_answer shrunk(bounds_geometry g, size_t polygon_count, size
 }
 
 int main(void) {
-    work = malloc(WORK * sizeof *work);
-    if (!work) return 2;
     for (int i = 0; i < TRIANGLES; i++)
         triangle(i, sides[i][0], sides[i][1], sides[i][2]);
     number("words to work in", bounds_shrink_work_len(TRIANGLES, CORNERS), 36 * TRIANGLES + CORNERS);
     memset(points, 0x55, sizeof points);
+    memset(work, 0xFF, sizeof work); /* as floats, NaN */
 
     bounds_geometry cube = box(1, 1, 1, 0.25f);
     number("cube: one word short", shrunk(cube, TRIANGLES, 36 * TRIANGLES + CORNERS - 1).refusal, 2);
@@ -97,7 +94,6 @@ int main(void) {
                                               WORK);
     number("no vertices: refusal", answer.refusal, 0);
     number("no vertices: by nothing", answer.by, 0);
-    free(work);
     puts(wrong ? "some value is wrong" : "all values are right");
     return wrong;
 }

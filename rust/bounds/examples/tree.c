@@ -56,7 +56,7 @@ int main(void) {
     uint16_t order[ENTRIES] = {0};
     number("work_len(2)", (int64_t)bounds_work_len(ENTRIES), 30 * ENTRIES + 8);
     size_t words = bounds_work_len(ENTRIES);
-    uint32_t *work = malloc(words * sizeof *work); /* what it holds does not matter */
+    uint32_t *work = calloc(words, sizeof *work);
     if (!work) return 2;
 
     number("size of an item", sizeof(bounds_item), 28);

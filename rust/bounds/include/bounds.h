@@ -1,25 +1,11 @@
 /* Collision-bound preparation, proved in Rattle: the C interface of libbounds.a, and of
  * libbounds_prepare.a, which has the functions under "prepare" and is needed for them alone.
  *
- * To link: cc -std=c11 main.c libbounds.a libbounds_prepare.a. The archives need three symbols: memcpy and memset of the C
- * library, and __udivti3, a division of 128 bits, of libgcc or compiler-rt. Compilers add these by themselves; with -nodefaultlibs
- * or -nostdlib give -lgcc and -lc behind the archives.
- *
  * Every function is total: it takes any argument and keeps no state. A float's word is its 32 bits. A function over
  * words that copies one keeps a NaN's bits; one that computes gives some NaN where it gives a NaN.
  *
- * A lent buffer is a pointer and a number of elements. It must be there and aligned, and overlap no other one of the
- * call. What is read from must be initialised; what is written to or worked in need not be: what it holds does not
- * matter. Nothing else is touched.
- *
- * EXPORTED FUNCTIONS TAKE NO NULL POINTER, ALSO WHERE THE LENGTH IS 0. They are those that are only declared here.
- * INLINE FUNCTIONS TAKE A NULL POINTER WHERE THE LENGTH IS 0. They are those that have a body here. A pointer to a struct
- * (a mesh, its buffers, a tree and its files) must be there for them too.
- *
- * ONE CONDITION IS NOT IN A CALL: THE FLOAT ENVIRONMENT of the calling thread. It must round to nearest, ties to even,
- * with neither flush-to-zero nor denormals-are-zero, as every program on x86-64 Linux begins. fesetround and _mm_setcsr
- * change it, and so does linking with -ffast-math or -Ofast, by which gcc and clang add crtfastmath.o: to the program, or to
- * a shared library that it loads. bounds_float_environment tells whether it holds.
+ * A lent buffer is a pointer and a number of elements. It must be there, aligned and initialised, and overlap no other
+ * one of the call; the pointer must not be null, also where the number is 0. Nothing else is touched.
  */
 #ifndef BOUNDS_H
 #define BOUNDS_H
@@ -31,22 +17,6 @@
 #ifdef __cplusplus
 extern "C" {
 #endif
-
-/* ---- lent pointers ----
- *
- * Every inline function hands pointers on through these two: a null pointer whose length is 0 becomes one to an aligned place
- * of the header's own, of which nothing is read or written.
- */
-
-static inline const void *bounds_lent_in(const void *at, size_t len) {
-    static const uint64_t none = 0;
-    return at != NULL || len != 0 ? at : (const void *)&none;
-}
-
-static inline void *bounds_lent_out(void *at, size_t len) {
-    static uint64_t none;
-    return at != NULL || len != 0 ? at : (void *)&none;
-}
 
 /* ---- words and values ---- */
 
@@ -115,68 +85,17 @@ static inline bounds_aabb bounds_transform_box(bounds_aabb b, bounds_mat4 m) {
                                      b.max.x, b.max.y, b.max.z);
 }
 
-/* The words of three floats: their bits as they are, a NaN's too. */
-static inline bounds_words3 bounds_words_of(bounds_vec3 v) {
-    bounds_words3 words;
-    memcpy(&words, &v, sizeof words);
-    return words;
-}
-
-/* 1 where the calling thread's float environment is the one that the library needs, else 0: assert it as a thread begins.
- * The sums and products are the library's own, so that no flag of the caller's compiler folds them:
- *   sums      1 + 2^-24 is a tie, and 1 to nearest; 1 + 3 * 2^-25 is then 1 + 2^-23, toward zero or down 1
- *   products  2^-126 / 2 is 2^-127, not flushed to 0; 2^-149 * 2^24 is 2^-125, not that of a 0 */
-static inline int bounds_float_environment(void) {
-    const bounds_vec3 one = {1.0f, 1.0f, 1.0f}, less = {5.9604644775390625e-8f, 8.94069671630859375e-8f, 0.0f};
-    const bounds_words3 small = {0x00800000, 0x00000001, 0};
-    bounds_vec3 values;
-    memcpy(&values, &small, sizeof values);
-    bounds_words3 sums = bounds_words_of(bounds_add(one, less));
-    bounds_words3 halved = bounds_words_of(bounds_scale(values, 0.5f)), raised = bounds_words_of(bounds_scale(values, 16777216.0f));
-    return sums.x == 0x3F800000 && sums.y == 0x3F800001 && halved.x == 0x00400000 && raised.y == 0x01000000;
-}
-
 /* ---- the tree over a list of boxes ----
  *
  * A refusal has a number: 1 list over its limit, 2 lent buffer too short, 3 threshold, 4 too many nodes. It changes no
  * output buffer. 0 stands for no refusal.
- *
- * No null pointer to bounds_build_bvh and bounds_tree_header, also where the length is 0; bounds_build_bvh_in takes one then.
  */
 
-/* A refusal in words: what was refused, and what to change. */
-static inline const char *bounds_refusal_text(uint32_t refusal) {
-    switch (refusal) {
-    case 0: return "not refused";
-    case 1: return "a list is over its limit (32,767 boxes or polygons, 32,768 vertices, 256 materials); split it";
-    case 2: return "a lent buffer is too short; lend the size that the operation names";
-    case 3: return "the threshold is outside 1 to 32,767; choose one within";
-    case 4: return "the tree would have over 32,767 nodes; give fewer boxes or a higher threshold";
-    case 5: return "the record has under 16 bytes; give all of it";
-    case 6: return "the kind is unknown; see the operation for those that are known";
-    case 7: return "the starting margin is infinite; give a finite margin or a finite box";
-    case 8: return "too many different materials are used; merge some";
-    case 9: return "a tree record's nodes are out of range; the records are damaged, build them anew";
-    case 10: return "a node record leads out of its tree or list; the records are damaged, build them anew";
-    case 11: return "more items would be handed out than there are; the records are damaged, build them anew";
-    case 12: return "the bytes would pass the last address; place them lower";
-    case 13: return "the input ends inside a record; its length must be a multiple of 32";
-    default: return "the library's refusal is not known here; build both from one version";
-    }
-}
-
-/* An entry of the list: a mark, 0 for absent, and the words of a box. It is known by its place in the list. It is seven words
- * without padding, so that a list of items is a list of entries. */
+/* An entry of the list: a mark, 0 for absent, and the words of a box. It is known by its place in the list. */
 typedef struct {
     uint32_t present;
     bounds_words3 min, max;
 } bounds_item;
-
-#ifdef __cplusplus
-static_assert(sizeof(bounds_item) == 7 * sizeof(uint32_t), "an item is seven words");
-#else
-_Static_assert(sizeof(bounds_item) == 7 * sizeof(uint32_t), "an item is seven words");
-#endif
 
 typedef struct { bounds_vec3 cen, inverse, quantum; } bounds_units;
 
@@ -244,14 +163,18 @@ static inline bounds_build_answer bounds_build_bvh_in(const bounds_item *items, 
                                                       uint16_t *order, size_t order_len,
                                                       uint32_t *work, size_t work_len) {
     size_t at[7];
-    uint32_t *parts = (uint32_t *)bounds_lent_out(work, work_len);
     bounds_build_parts(item_count, work_len, at);
-    return bounds_build_bvh((const bounds_item *)bounds_lent_in(items, item_count), item_count, threshold,
-                            (uint8_t *)bounds_lent_out(node_bytes, node_bytes_len), node_bytes_len,
-                            (uint8_t *)bounds_lent_out(tree_bytes, tree_bytes_len), tree_bytes_len,
-                            (uint16_t *)bounds_lent_out(order, order_len), order_len, parts, at[1],
-                            parts + at[1], at[2] - at[1], parts + at[2], at[3] - at[2], parts + at[3], at[4] - at[3],
-                            parts + at[4], at[5] - at[4], (float *)(parts + at[5]), at[6] - at[5]);
+    return bounds_build_bvh(items, item_count, threshold, node_bytes, node_bytes_len, tree_bytes, tree_bytes_len,
+                            order, order_len, work, at[1], work + at[1], at[2] - at[1], work + at[2], at[3] - at[2],
+                            work + at[3], at[4] - at[3], work + at[4], at[5] - at[4],
+                            (float *)(work + at[5]), at[6] - at[5]);
+}
+
+/* The words of three floats: their bits as they are, a NaN's too. */
+static inline bounds_words3 bounds_words_of(bounds_vec3 v) {
+    bounds_words3 words;
+    memcpy(&words, &v, sizeof words);
+    return words;
 }
 
 /* Writes the 128 bytes of a tree's header. Of a build these are its min and max, and the words of its scale.cen,
@@ -263,8 +186,6 @@ uint32_t bounds_tree_header(uint8_t *out, size_t out_len, bounds_bvh bvh);
  * Refusals 1 (over 65,535 nodes, trees or items), 2 (fewer bytes than 16 for each record, or an output shorter than the
  * item count) before anything is read; 9 (tree range), 10 (node record), 11 (more handed out than items) as records are
  * read. Those keep what was handed out before, and the counts so far, the refused record being one of those read.
- *
- * No null pointer to bounds_walk, also where the length is 0; bounds_walk_tree and bounds_query_tree, below, take one then.
  */
 
 typedef struct {
@@ -289,8 +210,6 @@ bounds_walk_answer bounds_walk(bounds_aabb query, bounds_vec3 cen, bounds_vec3 i
  * A walk over a build's records hands out every present item whose box meets the query as floats, if all present boxes
  * are finite with min at most max, no coordinate exceeds 2^100 in size, and on each axis the half extent of the box
  * around them all is 0 or at least 2^-100. Outside these premises items can be missed.
- *
- * No null pointer to bounds_ordinary, also where the length is 0; bounds_ordinary_items takes one then.
  */
 
 typedef struct {
@@ -305,322 +224,9 @@ typedef struct {
 /* Whether n entries, of seven words each as a build reads them, meet the premises. */
 bounds_premises bounds_ordinary(size_t entry_count, const uint32_t *entries, size_t entries_len);
 
-/* The same of n items, as bounds_build_bvh_in takes them. */
-static inline bounds_premises bounds_ordinary_items(const bounds_item *items, size_t item_count) {
-    const uint32_t *entries = (const uint32_t *)bounds_lent_in(items, item_count);
-    return bounds_ordinary(item_count, entries, item_count < 32768 ? 7 * item_count : 0); /* more are refused unread */
-}
-
-/* ---- a tree from files ----
- *
- * The files of a folder that `bounds prepare --out` or `bounds build --out` wrote, as bytes that the caller has read:
- * bounds_load_tree says whether they are whole, bounds_walk_tree and bounds_query_tree then query them. docs/FILES.md has each
- * file byte by byte. Nothing is copied: the bytes stay the caller's, at any address, and must stay as they are while the tree is
- * in use. Several threads may query one tree, each with an output of its own.
- *
- * All functions here are inline: a pointer to bytes may be null where its length is 0.
- */
-
-/* What a tree is over, as the second line of dump.txt says. */
-enum { BOUNDS_BOXES = 0, BOUNDS_MESH = 1, BOUNDS_COMPOSITE = 2 };
-
-typedef struct {
-    uint32_t kind;       /* BOUNDS_BOXES, BOUNDS_MESH, BOUNDS_COMPOSITE */
-    uint32_t threshold;  /* of boxes, as dump.txt has it; a mesh has 4 and a composite 1, whatever stands here */
-    size_t entries;      /* boxes in the list, absent ones included; polygons; children */
-    const uint8_t *header;  /* header.bin, 128 bytes */
-    const uint8_t *nodes;   /* nodes.bin, 16 bytes a record, with the padding */
-    const uint8_t *trees;   /* trees.bin, 16 bytes a record */
-    const uint8_t *order;   /* order.bin, 2 bytes a place; at threshold 1 it may be left out */
-    const uint8_t *boxes;   /* boxes.bin, 28 bytes an entry; it may be left out, and bounds_query_tree then refuses */
-    size_t header_len, nodes_len, trees_len, order_len, boxes_len;  /* in bytes; 0 for what is left out */
-} bounds_tree_files;
-
-typedef struct {
-    bounds_aabb box;     /* around all */
-    bounds_units scale;  /* centre, inverse, quantum */
-    size_t nodes, capacity, trees;  /* nodes, node records with the padding, ranges */
-    size_t items;        /* the item count that bounds_walk takes: the entries at threshold 1, else the places in order.bin */
-    size_t entries, places;         /* of the list; in the order list */
-    uint32_t kind, threshold;
-    const uint8_t *node_bytes, *tree_bytes, *order, *boxes;
-    size_t boxes_len;
-} bounds_tree;
-
-/* What is damaged, one number each. 1, 3, 6, 9, 10 and 11 stand for what the refusals of these numbers do; the others are no
- * refusal's. */
-typedef enum {
-    BOUNDS_LOADED = 0,
-    BOUNDS_LOAD_ENTRIES = 1,
-    BOUNDS_LOAD_HEADER_LENGTH = 2,
-    BOUNDS_LOAD_THRESHOLD = 3,
-    BOUNDS_LOAD_NODE_COUNT = 4,
-    BOUNDS_LOAD_CAPACITY = 5,
-    BOUNDS_LOAD_KIND = 6,
-    BOUNDS_LOAD_NODES_LENGTH = 7,
-    BOUNDS_LOAD_TREES_LENGTH = 8,
-    BOUNDS_LOAD_TREE_RANGE = 9,
-    BOUNDS_LOAD_NODE_RECORD = 10,
-    BOUNDS_LOAD_HELD_TWICE = 11,
-    BOUNDS_LOAD_TREE_OVERLAP = 12,
-    BOUNDS_LOAD_NOT_HELD = 13,
-    BOUNDS_LOAD_ORDER_LENGTH = 14,
-    BOUNDS_LOAD_ORDER_PLACE = 15,
-    BOUNDS_LOAD_ORDER_TWICE = 16,
-    BOUNDS_LOAD_BOXES_LENGTH = 17,
-    BOUNDS_LOAD_NODE_SIZE = 18,
-    BOUNDS_LOAD_NODE_OUTSIDE = 19,
-    BOUNDS_LOAD_TREE_WHOLE = 20
-} bounds_load_damage;
-
-typedef struct {
-    bounds_load_damage damage;  /* BOUNDS_LOADED, or what was found first */
-    size_t record;  /* its number: for 9, 12 and 20 in trees.bin, for 10, 11, 18 and 19 in nodes.bin, for 13, 15 and 16 in
-                     * order.bin; else 0 */
-} bounds_load_answer;
-
-/* A damage in words: what is damaged, and what it should be. */
-static inline const char *bounds_load_text(bounds_load_damage damage) {
-    switch (damage) {
-    case BOUNDS_LOADED: return "not damaged";
-    case BOUNDS_LOAD_ENTRIES: return "over 32,767 entries are named; a tree has at most so many";
-    case BOUNDS_LOAD_HEADER_LENGTH: return "header.bin has not 128 bytes";
-    case BOUNDS_LOAD_THRESHOLD: return "the threshold is outside 1 to 32,767; give that of dump.txt";
-    case BOUNDS_LOAD_NODE_COUNT: return "header.bin counts more nodes (bytes 8-11) than node records (bytes 12-15)";
-    case BOUNDS_LOAD_CAPACITY: return "header.bin counts over 65,535 node records (bytes 12-15)";
-    case BOUNDS_LOAD_KIND: return "the kind is none of boxes, mesh and composite";
-    case BOUNDS_LOAD_NODES_LENGTH: return "nodes.bin has not 16 bytes for each record that header.bin counts (bytes 12-15)";
-    case BOUNDS_LOAD_TREES_LENGTH: return "trees.bin has not 16 bytes for each record that header.bin counts (bytes 120-121)";
-    case BOUNDS_LOAD_TREE_RANGE: return "a tree record's nodes are out of range: first below 0, last below first or past all";
-    case BOUNDS_LOAD_NODE_RECORD: return "a node record leads past the nodes or past the items, or its id or count is below 0";
-    case BOUNDS_LOAD_HELD_TWICE: return "a node record holds a position that one before it holds, or an entry that order.bin has not";
-    case BOUNDS_LOAD_TREE_OVERLAP: return "a tree record's nodes begin before those of the record ahead of it end";
-    case BOUNDS_LOAD_NOT_HELD: return "no node record in a tree's range holds the item of this place in order.bin";
-    case BOUNDS_LOAD_ORDER_LENGTH: return "order.bin has not two bytes a place: one place a polygon of a mesh, else at most one an entry";
-    case BOUNDS_LOAD_ORDER_PLACE: return "a place in order.bin is past the entries";
-    case BOUNDS_LOAD_ORDER_TWICE: return "a place is in order.bin twice";
-    case BOUNDS_LOAD_BOXES_LENGTH: return "boxes.bin has not 28 bytes for each entry";
-    case BOUNDS_LOAD_NODE_SIZE: return "a node record counts other nodes than itself and those of its two children";
-    case BOUNDS_LOAD_NODE_OUTSIDE: return "a node record that lies in no tree's range is a leaf's";
-    case BOUNDS_LOAD_TREE_WHOLE: return "a tree record's nodes are not a node and all below it";
-    }
-    return "the number of the damage is not known here; take header and text from one version";
-}
-
-/* Numbers of two and four bytes and three floats, little-endian, at any address. */
-static inline uint16_t bounds_u16_at(const uint8_t *at) { return (uint16_t)(at[0] | at[1] << 8); }
-
-static inline uint32_t bounds_u32_at(const uint8_t *at) { return bounds_u16_at(at) | (uint32_t)bounds_u16_at(at + 2) << 16; }
-
-static inline bounds_vec3 bounds_vec3_at(const uint8_t *at) {
-    const bounds_words3 words = {bounds_u32_at(at), bounds_u32_at(at + 4), bounds_u32_at(at + 8)};
-    bounds_vec3 v;
-    memcpy(&v, &words, sizeof v);
-    return v;
-}
-
-/* A header's counts and points, as the reference's Bvh::read takes them: the two addresses, the fourth float of a point, the
- * trees' second count and the bytes between are not looked at. */
-static inline void bounds_read_header(const uint8_t *header, bounds_tree *tree) {
-    tree->nodes = bounds_u32_at(header + 8);
-    tree->capacity = bounds_u32_at(header + 12);
-    tree->box.min = bounds_vec3_at(header + 32);
-    tree->box.max = bounds_vec3_at(header + 48);
-    tree->scale.cen = bounds_vec3_at(header + 64);
-    tree->scale.inverse = bounds_vec3_at(header + 80);
-    tree->scale.quantum = bounds_vec3_at(header + 96);
-    tree->trees = bounds_u16_at(header + 120);
-}
-
-/* What the lengths of the files, the header's counts and the caller's numbers say of one another. */
-static inline bounds_load_damage bounds_load_lengths(const bounds_tree_files *f, bounds_tree *tree) {
-    const size_t places = f->order_len / 2;
-    if (f->entries > 32767) return BOUNDS_LOAD_ENTRIES;
-    if (f->kind > BOUNDS_COMPOSITE) return BOUNDS_LOAD_KIND;
-    tree->kind = f->kind;
-    tree->threshold = f->kind == BOUNDS_MESH ? 4 : f->kind == BOUNDS_COMPOSITE ? 1 : f->threshold;
-    if (tree->threshold < 1 || tree->threshold > 32767) return BOUNDS_LOAD_THRESHOLD;
-    if (f->header_len != 128) return BOUNDS_LOAD_HEADER_LENGTH;
-    bounds_read_header(f->header, tree);
-    if (tree->capacity > 65535) return BOUNDS_LOAD_CAPACITY;
-    if (tree->nodes > tree->capacity) return BOUNDS_LOAD_NODE_COUNT;
-    if (f->nodes_len != 16 * tree->capacity) return BOUNDS_LOAD_NODES_LENGTH;
-    if (f->trees_len != 16 * tree->trees) return BOUNDS_LOAD_TREES_LENGTH;
-    if (f->order_len % 2 != 0 || places > f->entries) return BOUNDS_LOAD_ORDER_LENGTH;
-    if (f->kind == BOUNDS_MESH && places != f->entries) return BOUNDS_LOAD_ORDER_LENGTH;
-    if (f->boxes_len != 0 && f->boxes_len != 28 * f->entries) return BOUNDS_LOAD_BOXES_LENGTH;
-    tree->entries = f->entries;
-    tree->places = places;
-    tree->items = tree->threshold == 1 ? f->entries : places;
-    tree->node_bytes = (const uint8_t *)bounds_lent_in(f->nodes, f->nodes_len);
-    tree->tree_bytes = (const uint8_t *)bounds_lent_in(f->trees, f->trees_len);
-    tree->order = (const uint8_t *)bounds_lent_in(f->order, f->order_len);
-    tree->boxes = (const uint8_t *)bounds_lent_in(f->boxes, f->boxes_len);
-    tree->boxes_len = f->boxes_len;
-    return BOUNDS_LOADED;
-}
-
-/* A set of numbers below 32,768: whether one is in it, and the same putting it in. */
-typedef struct { uint32_t words[1024]; } bounds_load_set;
-
-static inline int bounds_load_has(const bounds_load_set *set, size_t n) { return set->words[n / 32] >> n % 32 & 1; }
-
-static inline int bounds_load_put(bounds_load_set *set, size_t n) {
-    int there = bounds_load_has(set, n);
-    set->words[n / 32] |= (uint32_t)1 << n % 32;
-    return there;
-}
-
-static inline bounds_load_answer bounds_load_found(bounds_load_damage damage, size_t record) {
-    const bounds_load_answer answer = {damage, record};
-    return answer;
-}
-
-/* Whether each place in the order list is one of an entry, and none is there twice. At threshold 1, where positions are places,
- * what such a list has not goes into `held`: no leaf may have it. */
-static inline bounds_load_answer bounds_load_order(const bounds_tree *tree, bounds_load_set *held) {
-    bounds_load_set seen;
-    memset(&seen, 0, sizeof seen);
-    for (size_t k = 0; k < tree->places; k++) {
-        size_t place = bounds_u16_at(tree->order + 2 * k);
-        if (place >= tree->entries) return bounds_load_found(BOUNDS_LOAD_ORDER_PLACE, k);
-        if (bounds_load_put(&seen, place)) return bounds_load_found(BOUNDS_LOAD_ORDER_TWICE, k);
-    }
-    for (size_t place = 0; tree->threshold == 1 && tree->places > 0 && place < tree->entries; place++)
-        if (!bounds_load_has(&seen, place)) bounds_load_put(held, place);
-    return bounds_load_found(BOUNDS_LOADED, 0);
-}
-
-/* The nodes that node record `at` counts, itself included: 1 of a leaf. */
-static inline size_t bounds_load_size(const bounds_tree *tree, size_t at) {
-    const uint8_t *record = tree->node_bytes + 16 * at;
-    const int id = (int16_t)bounds_u16_at(record + 12), count = (int16_t)bounds_u16_at(record + 14);
-    return count == 0 && id > 1 ? (size_t)id : 1;
-}
-
-/* Whether a walk would refuse node record `at` with 10; and whether an inner one counts itself and the nodes of its two children,
- * which stand behind it, one after the other. */
-static inline bounds_load_damage bounds_load_node(const bounds_tree *tree, size_t at) {
-    const uint8_t *record = tree->node_bytes + 16 * at;
-    const int id = (int16_t)bounds_u16_at(record + 12), count = (int16_t)bounds_u16_at(record + 14);
-    const size_t size = bounds_load_size(tree, at);
-    if (id < 0 || count < 0 || size > tree->nodes - at) return BOUNDS_LOAD_NODE_RECORD;
-    if (count > 0 && (size_t)id + (size_t)count > tree->items) return BOUNDS_LOAD_NODE_RECORD;
-    if (size == 1) return BOUNDS_LOADED;
-    const size_t second = at + 1 + bounds_load_size(tree, at + 1);
-    const int whole = second < tree->nodes && second + bounds_load_size(tree, second) == at + size;
-    return whole ? BOUNDS_LOADED : BOUNDS_LOAD_NODE_SIZE;
-}
-
-/* Puts the positions of a leaf into `held`, and answers whether none was there already. */
-static inline int bounds_load_hold(const bounds_tree *tree, size_t at, bounds_load_set *held) {
-    const uint8_t *record = tree->node_bytes + 16 * at;
-    const size_t first = bounds_u16_at(record + 12), end = first + bounds_u16_at(record + 14);
-    int alone = 1;
-    for (size_t position = first; position < end; position++)
-        alone &= !bounds_load_put(held, position);
-    return alone;
-}
-
-/* The first leaf from node record `at` on, or `end`: in no range there is none. */
-static inline size_t bounds_load_above(const bounds_tree *tree, size_t at, size_t end) {
-    while (at < end && bounds_load_size(tree, at) > 1)
-        at++;
-    return at;
-}
-
-/* Whether each node is one that a walk takes, the ranges rise and are each a node with all below it, and those in no range are
- * above ranges. So a walk, which skips as many nodes as one counts, skips those below it alone. Nodes are looked at from the last
- * on: a size that is wrong is then found where it stands, before a node above it counts with it. */
-static inline bounds_load_answer bounds_load_records(const bounds_tree *tree, bounds_load_set *held) {
-    for (size_t at = tree->nodes; at-- > 0;) {
-        const bounds_load_damage damage = bounds_load_node(tree, at);
-        if (damage) return bounds_load_found(damage, at);
-    }
-    size_t at = 0;
-    for (size_t k = 0; k < tree->trees; k++) {
-        const uint8_t *record = tree->tree_bytes + 16 * k;
-        const int first = (int16_t)bounds_u16_at(record + 12), last = (int16_t)bounds_u16_at(record + 14);
-        if (first < 0 || last < first || (size_t)last > tree->nodes) return bounds_load_found(BOUNDS_LOAD_TREE_RANGE, k);
-        if ((size_t)first < at) return bounds_load_found(BOUNDS_LOAD_TREE_OVERLAP, k);
-        if (first == last || (size_t)(last - first) != bounds_load_size(tree, (size_t)first))
-            return bounds_load_found(BOUNDS_LOAD_TREE_WHOLE, k);
-        at = bounds_load_above(tree, at, (size_t)first);
-        if (at < (size_t)first) return bounds_load_found(BOUNDS_LOAD_NODE_OUTSIDE, at);
-        for (; at < (size_t)last; at++)
-            if (!bounds_load_hold(tree, at, held)) return bounds_load_found(BOUNDS_LOAD_HELD_TWICE, at);
-    }
-    at = bounds_load_above(tree, at, tree->nodes);
-    return at < tree->nodes ? bounds_load_found(BOUNDS_LOAD_NODE_OUTSIDE, at) : bounds_load_found(BOUNDS_LOADED, 0);
-}
-
-/* Takes a tree from its files. Where nothing is damaged, each item of the order list lies in exactly one leaf of exactly one
- * range, each inner node counts what is below it and nothing else, and a walk over the tree is refused only with 2, for an output
- * that is shorter than `tree->items`. Else the tree is empty: a walk over it hands out nothing. The time is by the number of
- * records, whatever they hold. */
-static inline bounds_load_answer bounds_load_tree(const bounds_tree_files *files, bounds_tree *tree) {
-    bounds_load_set held;
-    memset(&held, 0, sizeof held);
-    memset(tree, 0, sizeof *tree);
-    bounds_load_answer answer = bounds_load_found(bounds_load_lengths(files, tree), 0);
-    if (!answer.damage) answer = bounds_load_order(tree, &held);
-    if (!answer.damage) answer = bounds_load_records(tree, &held);
-    for (size_t k = 0; !answer.damage && k < tree->places; k++)
-        if (!bounds_load_has(&held, tree->threshold == 1 ? bounds_u16_at(tree->order + 2 * k) : k))
-            answer = bounds_load_found(BOUNDS_LOAD_NOT_HELD, k);
-    if (answer.damage) memset(tree, 0, sizeof *tree);
-    return answer;
-}
-
-/* bounds_walk over a loaded tree: the positions whose leaves' records meet the query. */
-static inline bounds_walk_answer bounds_walk_tree(const bounds_tree *tree, bounds_aabb query, uint16_t *out, size_t out_len) {
-    const size_t nodes_len = 16 * tree->capacity, trees_len = 16 * tree->trees;
-    return bounds_walk(query, tree->scale.cen, tree->scale.inverse,
-                       (const uint8_t *)bounds_lent_in(tree->node_bytes, nodes_len), nodes_len, tree->nodes,
-                       (const uint8_t *)bounds_lent_in(tree->tree_bytes, trees_len), trees_len, tree->trees, tree->items,
-                       (uint16_t *)bounds_lent_out(out, out_len), out_len);
-}
-
-/* The place in the list of the item at a position that was handed out: of boxes and children the position at threshold 1, else
- * what the order list has there; of a mesh the number that the polygon was given, where the position is its number in
- * polygons.bin. `entries`, which is no place, where the position is none. */
-static inline size_t bounds_item_at(const bounds_tree *tree, uint16_t position) {
-    if (position >= tree->items) return tree->entries;
-    return tree->threshold == 1 ? position : bounds_u16_at(tree->order + 2 * (size_t)position);
-}
-
-/* Whether the box of the item at a position meets the query as floats: on each axis each least value is at most the other's
- * greatest. 0 where a NaN stands, the item is absent, or boxes.bin was left out. boxes.bin has the boxes of a mesh by
- * position, all others by place. */
-static inline int bounds_meets(const bounds_tree *tree, uint16_t position, bounds_aabb query) {
-    const size_t k = tree->kind == BOUNDS_MESH ? position : bounds_item_at(tree, position);
-    if (28 * k >= tree->boxes_len) return 0;
-    const uint8_t *box = tree->boxes + 28 * k;
-    const bounds_vec3 min = bounds_vec3_at(box + 4), max = bounds_vec3_at(box + 16);
-    return bounds_u32_at(box) != 0 && min.x <= query.max.x && query.min.x <= max.x && min.y <= query.max.y &&
-           query.min.y <= max.y && min.z <= query.max.z && query.min.z <= max.z;
-}
-
-/* bounds_walk_tree, of which only the positions stay whose boxes meet the query as floats: within the premises all that do. The
- * output's first `handed` places have them; those behind, up to what the walk handed out, are of no meaning. Refused with 2,
- * also where boxes.bin was left out. */
-static inline bounds_walk_answer bounds_query_tree(const bounds_tree *tree, bounds_aabb query, uint16_t *out, size_t out_len) {
-    bounds_walk_answer answer = {2, 0, 0};
-    size_t met = 0;
-    if (tree->boxes_len != 28 * tree->entries) return answer;
-    answer = bounds_walk_tree(tree, query, out, out_len);
-    for (size_t k = 0; k < answer.handed; k++)
-        if (bounds_meets(tree, out[k], query)) out[met++] = out[k];
-    answer.handed = met;
-    return answer;
-}
-
 /* ---- polygons, links, materials, stored vertices ----
  *
  * Refusals 5 short record, 6 unknown kind; the others as above.
- *
- * No null pointer to the exported functions, also where the length is 0; bounds_triangle_bbox and
- * bounds_update_edge_indices_in take one then.
  */
 
 /* A polygon by its kind: 0 triangle, 1 sphere, 2 capsule, 3 box, 4 cylinder. `word` has the bits of the area or of the
@@ -680,22 +286,17 @@ bounds_float_box bounds_triangle_float_box(uint16_t v1, uint16_t v2, uint16_t v3
 
 /* The same of the other kinds, with no branch on the kind: the box of four vertices, its least corner less low and its greatest plus
  * high. A sphere's is that of i, i, i, i with its radius twice; a capsule's and a cylinder's that of i1, i1, i1, i2; a box's that of its
- * four with 0.0f and -0.0f, which leave every float as it is.
- *
- * In this order: of the vertices v1 to v4 the least corner is vmin(vmin(vmin(v1, v2), v3), v4) and the greatest the same by vmax, so
- * that of 0 and -0 the later stays; then comes one sum an axis, corner + (-low) and corner + high. It is told where none of the sixteen
- * floats is missing and neither (v1 + v2) + (v3 + v4) nor the moved least corner + the moved greatest is a NaN: so no float is one.
- * These sums can be a NaN where no float is, of infinities of both signs, or where v1 + v2 and v3 + v4 overflow to both. */
+ * four with 0.0f and -0.0f, which leave every float as it is. It is told where none of the sixteen floats is missing and no sum of the
+ * four vertices, nor of the two corners, is a NaN: so no float is one. */
 bounds_float_box bounds_moved_float_box(uint32_t i1, uint32_t i2, uint32_t i3, uint32_t i4, float low, float high,
                                         const float *vertices, size_t vertices_len);
 
 /* By floats where that is told, else by words. */
 static inline bounds_polygon_box bounds_triangle_bbox(uint16_t v1, uint16_t v2, uint16_t v3, const uint32_t *vertices,
                                                       size_t vertices_len) {
-    const void *lent = bounds_lent_in(vertices, vertices_len);
-    bounds_float_box b = bounds_triangle_float_box(v1, v2, v3, (const float *)lent, vertices_len);
+    bounds_float_box b = bounds_triangle_float_box(v1, v2, v3, (const float *)(const void *)vertices, vertices_len);
     bounds_polygon_box words;
-    if (!b.told) return bounds_triangle_word_box(v1, v2, v3, (const uint32_t *)lent, vertices_len);
+    if (!b.told) return bounds_triangle_word_box(v1, v2, v3, vertices, vertices_len);
     memcpy(&words.min, &b.min, sizeof words.min);
     memcpy(&words.max, &b.max, sizeof words.max);
     return words;
@@ -727,11 +328,9 @@ static inline uint32_t bounds_update_edge_indices_in(uint8_t *polygons, size_t p
     size_t part = 3 * (polygon_count < 32767 ? polygon_count : 32767), left = work_len;
     size_t corners = bounds_part(part, &left), keys = bounds_part(part, &left);
     size_t sides = bounds_part(part, &left), spare = bounds_part(part, &left);
-    uint32_t *corners_at = (uint32_t *)bounds_lent_out(work, work_len), *keys_at = corners_at + corners;
-    uint32_t *sides_at = keys_at + keys, *spare_at = sides_at + sides;
-    return bounds_update_edge_indices((uint8_t *)bounds_lent_out(polygons, polygons_len), polygons_len, polygon_count,
-                                      corners_at, corners, keys_at, keys, sides_at, sides, spare_at, spare,
-                                      spare_at + spare, left);
+    uint32_t *keys_at = work + corners, *sides_at = keys_at + keys, *spare_at = sides_at + sides;
+    return bounds_update_edge_indices(polygons, polygons_len, polygon_count, work, corners, keys_at, keys,
+                                      sides_at, sides, spare_at, spare, spare_at + spare, left);
 }
 
 /* Lists the materials that n polygons use, each once, eight bytes each, and each polygon's index among them. `numbers` has
@@ -758,9 +357,6 @@ bounds_vec3 bounds_read_back(bounds_vertex v, bounds_vec3 quantum);
  * passes is clamped to the box, from which the margin is taken off, 0.025 at least. If none passes, each vertex is moved by
  * the given margin against the sum of its triangles' normals, which are those of the vertices plus `center`, through
  * `transform`, and nothing is clamped.
- *
- * No null pointer to bounds_calculate_verts_shrunk, also where the length is 0; bounds_calculate_verts_shrunk_in takes one
- * then.
  */
 
 /* What shrinking reads of a geometry: 26 floats. */
@@ -816,15 +412,12 @@ static inline bounds_shrink_answer bounds_calculate_verts_shrunk_in(bounds_geome
     for (int i = 0; i < 7; i++)
         at[i + 1] = at[i] + bounds_part(least[i], &left);
     at[8] = work_len;
-    uint32_t *parts = (uint32_t *)bounds_lent_out(work, work_len);
-    return bounds_calculate_verts_shrunk(geometry, polygon_count,
-                                         (const uint8_t *)bounds_lent_in(polygons, polygons_len), polygons_len, vertex_count,
-                                         (const uint32_t *)bounds_lent_in(vertices, vertices_len), vertices_len,
-                                         (uint32_t *)bounds_lent_out(points, points_len), points_len,
-                                         parts, at[1], parts + at[1], at[2] - at[1], parts + at[2], at[3] - at[2],
-                                         parts + at[3], at[4] - at[3], parts + at[4], at[5] - at[4],
-                                         (float *)(parts + at[5]), at[6] - at[5], (float *)(parts + at[6]), at[7] - at[6],
-                                         (float *)(parts + at[7]), at[8] - at[7]);
+    return bounds_calculate_verts_shrunk(geometry, polygon_count, polygons, polygons_len,
+                                         vertex_count, vertices, vertices_len, points, points_len,
+                                         work, at[1], work + at[1], at[2] - at[1], work + at[2], at[3] - at[2],
+                                         work + at[3], at[4] - at[3], work + at[4], at[5] - at[4],
+                                         (float *)(work + at[5]), at[6] - at[5], (float *)(work + at[6]), at[7] - at[6],
+                                         (float *)(work + at[7]), at[8] - at[7]);
 }
 
 /* ---- octants ----
@@ -833,9 +426,6 @@ static inline bounds_shrink_answer bounds_calculate_verts_shrunk_in(bounds_geome
  * Vertex b shadows a where on each axis b - a, times -1 if the axis is turned, is at least 0; of vertices that shadow
  * one another the first is listed. A NaN shadows nothing and is not shadowed, and two equal infinities do not shadow
  * one another.
- *
- * No null pointer to bounds_calculate_octants and bounds_write_octants, also where the length is 0;
- * bounds_calculate_octants_in and bounds_write_octant_lists take one then.
  */
 
 typedef struct {
@@ -867,10 +457,8 @@ static inline bounds_octants_answer bounds_calculate_octants_in(size_t vertex_co
     size_t n = vertex_count < 32768 ? vertex_count : 32768, left = work_len;
     size_t keys = bounds_part(3 * n, &left), rows = bounds_part(4 * n, &left);
     size_t order = bounds_part(n, &left), temp = bounds_part(n, &left);
-    uint32_t *keys_at = (uint32_t *)bounds_lent_out(work, work_len), *rows_at = keys_at + keys;
-    uint32_t *order_at = rows_at + rows, *temp_at = order_at + order;
-    return bounds_calculate_octants(vertex_count, (const uint32_t *)bounds_lent_in(vertices, vertices_len), vertices_len,
-                                    (uint32_t *)bounds_lent_out(lists, lists_len), lists_len, keys_at, keys, rows_at, rows,
+    uint32_t *rows_at = work + keys, *order_at = rows_at + rows, *temp_at = order_at + order;
+    return bounds_calculate_octants(vertex_count, vertices, vertices_len, lists, lists_len, work, keys, rows_at, rows,
                                     order_at, order, temp_at, temp, temp_at + temp, left);
 }
 
@@ -884,35 +472,10 @@ uint32_t bounds_write_octants(uint64_t address, const uint32_t *l0, size_t l0_le
                               const uint32_t *l6, size_t l6_len, const uint32_t *l7, size_t l7_len,
                               uint8_t *out, size_t out_len);
 
-/* The bytes that bounds_write_octant_lists needs for these counts. */
-static inline size_t bounds_octants_length(bounds_octants_answer counts) {
-    return 128 + 4 * ((size_t)counts.c0 + counts.c1 + counts.c2 + counts.c3 + counts.c4 + counts.c5 + counts.c6 + counts.c7);
-}
-
-/* bounds_write_octants of the lists as bounds_calculate_octants and bounds_prepare leave them: of n vertices list k begins at
- * word k * n. `counts` is their answer; what it refused is refused again. Refusals 1 (over 32,768 vertices), 2 (under 8n words,
- * or a count above n), in this order, then those of bounds_write_octants. */
-static inline uint32_t bounds_write_octant_lists(uint64_t address, size_t vertex_count, const uint32_t *lists,
-                                                 size_t lists_len, bounds_octants_answer counts, uint8_t *out, size_t out_len) {
-    const size_t n = vertex_count;
-    const uint32_t c[8] = {counts.c0, counts.c1, counts.c2, counts.c3, counts.c4, counts.c5, counts.c6, counts.c7};
-    const uint32_t *l = (const uint32_t *)bounds_lent_in(lists, lists_len);
-    if (counts.refusal) return counts.refusal;
-    if (n > 32768) return 1;
-    if (lists_len < 8 * n) return 2;
-    for (int k = 0; k < 8; k++)
-        if (c[k] > n) return 2;
-    return bounds_write_octants(address, l, c[0], l + n, c[1], l + 2 * n, c[2], l + 3 * n, c[3], l + 4 * n, c[4],
-                                l + 5 * n, c[5], l + 6 * n, c[6], l + 7 * n, c[7],
-                                (uint8_t *)bounds_lent_out(out, out_len), out_len);
-}
-
 /* ---- composites ----
  *
  * A child is 24 words: a mark, 0 for absent; the box's min x, y, z and max x, y, z; the margin; the transform, row after
  * row.
- *
- * No null pointer to the exported functions, also where the length is 0; bounds_composite_tree_in takes one then.
  */
 
 typedef struct {
@@ -948,14 +511,11 @@ static inline bounds_build_answer bounds_composite_tree_in(size_t child_count,
                                                            uint16_t *order, size_t order_len,
                                                            uint32_t *work, size_t work_len) {
     size_t at[7];
-    uint32_t *parts = (uint32_t *)bounds_lent_out(work, work_len);
     bounds_build_parts(child_count, work_len, at);
-    return bounds_composite_tree(child_count, (const uint32_t *)bounds_lent_in(children, children_len), children_len,
-                                 (uint8_t *)bounds_lent_out(node_bytes, node_bytes_len), node_bytes_len,
-                                 (uint8_t *)bounds_lent_out(tree_bytes, tree_bytes_len), tree_bytes_len,
-                                 (uint16_t *)bounds_lent_out(order, order_len), order_len, parts, at[1],
-                                 parts + at[1], at[2] - at[1], parts + at[2], at[3] - at[2], parts + at[3], at[4] - at[3],
-                                 parts + at[4], at[5] - at[4], (float *)(parts + at[5]), at[6] - at[5]);
+    return bounds_composite_tree(child_count, children, children_len, node_bytes, node_bytes_len,
+                                 tree_bytes, tree_bytes_len, order, order_len, work, at[1],
+                                 work + at[1], at[2] - at[1], work + at[2], at[3] - at[2], work + at[3], at[4] - at[3],
+                                 work + at[4], at[5] - at[4], (float *)(work + at[5]), at[6] - at[5]);
 }
 
 /* ---- prepare ----
@@ -963,14 +523,6 @@ static inline bounds_build_answer bounds_composite_tree_in(size_t child_count,
  * All that is derived of a geometry before it is written: kind 4 shrinks its vertices and lists octants; kind 8 builds a tree
  * over its polygons and takes them in the order of its leaves. Both list the materials that polygons use, link their
  * triangles, and store the vertices.
- *
- * No null pointer to bounds_prepare_geometry and bounds_prepare_bvh, also where the length is 0; bounds_prepare takes one then,
- * in both of its structs.
- *
- * THE SPACE OF A PREPARED TREE: its boxes are of the vertices after centre and transform, (vertex + center) * transform. Query in
- * that space, not in that of the given vertices nor of `floats`. The smallest example, a leaf having four: five spheres of radius
- * 1 given at x = 0, 10, 20, 30, 40 with the center (100, 0, 0) and the identity stand at 100 to 140. A walk at 140 hands out the
- * last; one at 40 is cut to the edge of the box around all, and hands out the first three and not the one that was given there.
  */
 
 typedef struct {
@@ -1076,67 +628,42 @@ static inline bounds_buffers bounds_prepare_lengths(size_t polygon_count, size_t
     return b;
 }
 
-/* The same mesh, its null pointers of length 0 replaced. */
-static inline bounds_mesh bounds_lent_mesh(bounds_mesh m) {
-    m.polygons = (const uint8_t *)bounds_lent_in(m.polygons, m.polygons_len);
-    m.numbers = (const uint8_t *)bounds_lent_in(m.numbers, m.numbers_len);
-    m.materials = (const uint32_t *)bounds_lent_in(m.materials, m.materials_len);
-    m.vertices = (const uint32_t *)bounds_lent_in(m.vertices, m.vertices_len);
-    return m;
-}
-
-/* The same buffers, their null pointers of length 0 replaced. */
-static inline bounds_buffers bounds_lent_buffers(bounds_buffers b) {
-    b.materials = (uint8_t *)bounds_lent_out(b.materials, b.materials_len);
-    b.indices = (uint8_t *)bounds_lent_out(b.indices, b.indices_len);
-    b.polygons = (uint8_t *)bounds_lent_out(b.polygons, b.polygons_len);
-    b.vertices = (uint8_t *)bounds_lent_out(b.vertices, b.vertices_len);
-    b.floats = (uint32_t *)bounds_lent_out(b.floats, b.floats_len);
-    b.shrunk = (uint8_t *)bounds_lent_out(b.shrunk, b.shrunk_len);
-    b.shrunk_floats = (uint32_t *)bounds_lent_out(b.shrunk_floats, b.shrunk_floats_len);
-    b.octants = (uint32_t *)bounds_lent_out(b.octants, b.octants_len);
-    b.node_bytes = (uint8_t *)bounds_lent_out(b.node_bytes, b.node_bytes_len);
-    b.tree_bytes = (uint8_t *)bounds_lent_out(b.tree_bytes, b.tree_bytes_len);
-    b.order = (uint16_t *)bounds_lent_out(b.order, b.order_len);
-    b.work = (uint32_t *)bounds_lent_out(b.work, b.work_len);
-    return b;
-}
-
 /* Prepares a mesh. Refusals 6 (a kind that is not 4 or 8), 1 (over 32,767 polygons, 32,768 vertices or 256 materials), 2 (a
  * buffer too short, inputs too), 6 (a polygon's kind is above 4), 8 (the polygons use 256 materials or more), 7 (kind 4 with
  * vertices, and the starting margin is infinite), 4 (kind 8, and the tree has over 32,767 nodes), in this order. A refusal
  * changes nothing but the work buffer, and its other values are 0. What a kind does not write to stays as it was, and so
  * does what lies behind the written bytes. */
 static inline bounds_prepare_answer bounds_prepare(const bounds_mesh *mesh, const bounds_buffers *to) {
-    const bounds_mesh m = bounds_lent_mesh(*mesh);
-    const bounds_buffers b = bounds_lent_buffers(*to);
-    size_t p = m.counts.polygons < 32767 ? m.counts.polygons : 32767;
-    size_t v = m.counts.vertices < 32768 ? m.counts.vertices : 32768;
+    size_t p = mesh->counts.polygons < 32767 ? mesh->counts.polygons : 32767;
+    size_t v = mesh->counts.vertices < 32768 ? mesh->counts.vertices : 32768;
     const size_t least[9] = {7 * p + 4 * v, 3 * p + 3 * v, 3 * p + v, 3 * p + v, 16 * p + 8 + v, 3 * v, p, 4 * p, 9 * p};
-    size_t len[10], left = b.work_len;
-    uint32_t *at[10] = {b.work};
+    size_t len[10], left = to->work_len;
+    uint32_t *at[10] = {to->work};
     for (int i = 0; i < 9; i++) {
         len[i] = bounds_part(least[i], &left);
         at[i + 1] = at[i] + len[i];
     }
     len[9] = left;
-    if (m.bound.kind == 8) {
-        const bounds_geometry_lengths other = {b.shrunk_len, b.shrunk_floats_len, b.octants_len, len[8], len[9]};
-        return bounds_prepare_bvh(m.bound, m.counts, other, m.polygons, m.polygons_len, m.numbers, m.numbers_len,
-                                  m.materials, m.materials_len, m.vertices, m.vertices_len, b.materials, b.materials_len,
-                                  b.indices, b.indices_len, b.polygons, b.polygons_len, b.vertices, b.vertices_len,
-                                  b.floats, b.floats_len, b.node_bytes, b.node_bytes_len, b.tree_bytes, b.tree_bytes_len,
-                                  b.order, b.order_len, at[0], len[0], at[1], len[1], at[2], len[2], at[3], len[3],
+    if (mesh->bound.kind == 8) {
+        const bounds_geometry_lengths other = {to->shrunk_len, to->shrunk_floats_len, to->octants_len, len[8], len[9]};
+        return bounds_prepare_bvh(mesh->bound, mesh->counts, other, mesh->polygons, mesh->polygons_len,
+                                  mesh->numbers, mesh->numbers_len, mesh->materials, mesh->materials_len,
+                                  mesh->vertices, mesh->vertices_len, to->materials, to->materials_len,
+                                  to->indices, to->indices_len, to->polygons, to->polygons_len,
+                                  to->vertices, to->vertices_len, to->floats, to->floats_len,
+                                  to->node_bytes, to->node_bytes_len, to->tree_bytes, to->tree_bytes_len,
+                                  to->order, to->order_len, at[0], len[0], at[1], len[1], at[2], len[2], at[3], len[3],
                                   at[4], len[4], at[5], len[5], (uint8_t *)at[6], 4 * len[6], (float *)at[7], len[7]);
     }
-    const bounds_bvh_lengths other = {b.node_bytes_len, b.tree_bytes_len, b.order_len, 4 * len[6]};
-    return bounds_prepare_geometry(m.bound, m.counts, other, m.polygons, m.polygons_len, m.numbers, m.numbers_len,
-                                   m.materials, m.materials_len, m.vertices, m.vertices_len, b.materials, b.materials_len,
-                                   b.indices, b.indices_len, b.polygons, b.polygons_len, b.vertices, b.vertices_len,
-                                   b.floats, b.floats_len, b.shrunk, b.shrunk_len, b.shrunk_floats, b.shrunk_floats_len,
-                                   b.octants, b.octants_len, at[0], len[0], at[1], len[1], at[2], len[2], at[3], len[3],
-                                   at[4], len[4], at[5], len[5], (float *)at[7], len[7], (float *)at[8], len[8],
-                                   (float *)at[9], len[9]);
+    const bounds_bvh_lengths other = {to->node_bytes_len, to->tree_bytes_len, to->order_len, 4 * len[6]};
+    return bounds_prepare_geometry(mesh->bound, mesh->counts, other, mesh->polygons, mesh->polygons_len,
+                                   mesh->numbers, mesh->numbers_len, mesh->materials, mesh->materials_len,
+                                   mesh->vertices, mesh->vertices_len, to->materials, to->materials_len,
+                                   to->indices, to->indices_len, to->polygons, to->polygons_len,
+                                   to->vertices, to->vertices_len, to->floats, to->floats_len, to->shrunk, to->shrunk_len,
+                                   to->shrunk_floats, to->shrunk_floats_len, to->octants, to->octants_len,
+                                   at[0], len[0], at[1], len[1], at[2], len[2], at[3], len[3], at[4], len[4], at[5], len[5],
+                                   (float *)at[7], len[7], (float *)at[8], len[8], (float *)at[9], len[9]);
 }
 
 #ifdef __cplusplus

@@ -86,7 +86,7 @@ impl From<Option<[Vec3; 2]>> for BvhItem {
 /// assert_eq!((built.quantum.x, built.quantum_inverse.x), (1.0, 1.0)); // half the box in 32,767 parts
 /// # Ok::<(), bounds::Refusal>(())
 /// ```
-#[derive(Clone, Copy, Debug, Default, PartialEq)]
+#[derive(Clone, Copy, Debug, PartialEq)]
 pub struct BuiltTree {
     /// Nodes of the tree.
     pub nodes_count: u32,
@@ -241,7 +241,7 @@ pub fn build_bvh(
     order: &mut [u16],
     work: &mut [u32],
 ) -> Result<BuiltTree, Refusal> {
-    let answer = ffi::bounds_build_bvh(items, threshold, node_bytes, tree_bytes, order, cut(work, items.len()));
+    let answer = ffi::build_bvh(items, threshold, node_bytes, tree_bytes, order, cut(work, items.len()));
     Refusal::check(answer.refusal)?;
     Ok(built(&answer))
 }
@@ -296,7 +296,7 @@ pub fn tree_header(out: &mut [u8], bvh: &Bvh) -> Result<(), Refusal> {
         trees_address: bvh.trees_address,
         trees_count: bvh.trees_count,
     };
-    Refusal::check(ffi::bounds_tree_header(out, header))
+    Refusal::check(ffi::tree_header(out, header))
 }
 
 /// The work buffer in six parts: entries, places, temp, stack, rows, centres. Each gets its length or what is left, and

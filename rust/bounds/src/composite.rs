@@ -20,12 +20,9 @@
 //! # Ok::<(), bounds::Refusal>(())
 //! ```
 
-use crate::bvh::{built, cut, records_len, work_len, BuiltTree, BvhItem, ENTRIES};
-use crate::records::TreeRecords;
-use crate::tree::Tree;
+use crate::bvh::{built, cut, records_len, work_len, BuiltTree, ENTRIES};
 pub use crate::types::Child;
 use crate::{ffi, Mat4, Refusal, Vec3};
-use std::ops::Deref;
 
 /// Bytes of a child's box.
 ///
@@ -85,7 +82,7 @@ impl Child {
     /// assert_eq!(Child::ABSENT.computed_box(), None);
     /// ```
     pub fn computed_box(&self) -> Option<(Vec3, Vec3)> {
-        let answer = ffi::bounds_computed_box(ffi::words(std::slice::from_ref(self)), 0);
+        let answer = ffi::computed_box(ffi::child_words(std::slice::from_ref(self)), 0);
         (answer.present != 0).then_some((answer.min, answer.max))
     }
 }
@@ -110,53 +107,28 @@ pub struct Composite {
     pub tree: Option<CompositeTree>,
 }
 
-/// A composite's tree over its children's computed boxes, at threshold 1: a [`Tree`] whose places are the children's, so that
-/// it is queried as one. `built`, `node_bytes`, `tree_bytes` and `order` are read of it.
+/// A composite's tree, in buffers of its own.
 ///
 /// ```
-/// # use bounds::{Child, Composite, Mat4, Vec3};
-/// let at = |x: f32| {
-///     let mut transform = Mat4::identity();
-///     transform.0[12] = x;
-///     Child::new(Vec3::ZERO, Vec3::new(1.0, 1.0, 1.0), 0.04, transform)
-/// };
-/// let mut children = [0.0, 2.0, 4.0, 6.0, 8.0, 10.0, 12.0].map(at);
+/// # use bounds::{Child, Composite};
+/// let mut children = [Child { present: 1, ..Child::ABSENT }; 7];
 /// children[3] = Child::ABSENT;
 /// let tree = Composite::prepare(&children)?.tree.expect("seven children");
-/// assert_eq!((tree.children(), &tree.order[..]), (7, &[0, 1, 2, 4, 5, 6][..]));
-/// let mut met = tree.query(Vec3::new(4.5, 0.5, 0.5), Vec3::new(8.0, 0.5, 0.5)); // the places of children
-/// met.sort();
-/// assert_eq!(met, [2, 4]);
+/// assert_eq!(tree.order, [0, 1, 2, 4, 5, 6]);
+/// assert_eq!(tree.node_bytes.len(), 16 * tree.built.nodes_capacity as usize);
+/// assert_eq!(tree.tree_bytes.len(), 16 * tree.built.trees_count as usize);
 /// # Ok::<(), bounds::Refusal>(())
 /// ```
 #[derive(Clone, Debug, PartialEq)]
-pub struct CompositeTree(Tree);
-
-impl Deref for CompositeTree {
-    type Target = Tree;
-
-    fn deref(&self) -> &Tree {
-        &self.0
-    }
-}
-
-impl CompositeTree {
-    /// Of these parts, which belong together; a box that is absent is that of a child which is.
-    pub(crate) fn of(boxes: Vec<BvhItem>, records: TreeRecords) -> CompositeTree {
-        CompositeTree(Tree::of(boxes, 1, records))
-    }
-
-    /// How many children there are, absent ones included: the item count of a walk over its records.
-    ///
-    /// ```
-    /// # use bounds::{Child, Composite};
-    /// let tree = Composite::prepare(&[Child::ABSENT; 6])?.tree.expect("six children");
-    /// assert_eq!((tree.children(), tree.records().items_count, tree.built.items_count), (6, 6, 0));
-    /// # Ok::<(), bounds::Refusal>(())
-    /// ```
-    pub fn children(&self) -> usize {
-        self.0.items().len()
-    }
+pub struct CompositeTree {
+    /// Its values.
+    pub built: BuiltTree,
+    /// Its node records, with the padding.
+    pub node_bytes: Vec<u8>,
+    /// Its tree records.
+    pub tree_bytes: Vec<u8>,
+    /// The places of the present children, rising.
+    pub order: Vec<u16>,
 }
 
 impl Composite {
@@ -184,9 +156,10 @@ impl Composite {
         let (mut order, mut work) = (vec![0; n], vec![0; work_len(n)]);
         let tree = composite_tree(children, &mut nodes, &mut trees, &mut order, &mut work)?;
         let owned = |built: BuiltTree| {
-            let computed =
-                children.iter().map(|child| child.computed_box().map(|(min, max)| [min, max]).into()).collect();
-            CompositeTree::of(computed, TreeRecords::written(built, nodes, trees, order, n))
+            nodes.truncate(crate::bvh::RECORD * built.nodes_capacity as usize);
+            trees.truncate(crate::bvh::RECORD * built.trees_count as usize);
+            order.truncate(built.items_count as usize);
+            CompositeTree { built, node_bytes: nodes, tree_bytes: trees, order }
         };
         Ok(Composite { child_boxes: boxes, tree: tree.map(owned) })
     }
@@ -219,7 +192,7 @@ pub fn child_boxes_len(children: usize) -> usize {
 /// # Ok::<(), Refusal>(())
 /// ```
 pub fn child_boxes(children: &[Child], out: &mut [u8]) -> Result<(), Refusal> {
-    Refusal::check(ffi::bounds_child_boxes(children.len(), ffi::words(children), out))
+    Refusal::check(ffi::child_boxes(children.len(), ffi::child_words(children), out))
 }
 
 /// The tree over the children's computed boxes, as [`build_bvh`](crate::build_bvh) makes it at threshold 1, in the same
@@ -250,8 +223,8 @@ pub fn composite_tree(
     order: &mut [u16],
     work: &mut [u32],
 ) -> Result<Option<BuiltTree>, Refusal> {
-    let (n, words) = (children.len(), ffi::words(children));
-    let answer = ffi::bounds_composite_tree(n, words, node_bytes, tree_bytes, order, cut(work, n));
+    let (n, words) = (children.len(), ffi::child_words(children));
+    let answer = ffi::composite_tree(n, words, node_bytes, tree_bytes, order, cut(work, n));
     Refusal::check(answer.refusal)?;
     // A tree has a node at least.
     Ok((answer.nodes > 0).then(|| built(&answer)))

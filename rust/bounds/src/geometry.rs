@@ -78,10 +78,9 @@ impl Polygon {
     /// ```
     #[inline]
     pub fn read(bytes: &[u8]) -> Result<Polygon, Refusal> {
-        let answer = ffi::bounds_polygon_read(bytes);
+        let answer = ffi::polygon_read(bytes);
         Refusal::check(answer.refusal)?;
-        let kind = answer.polygon.kind;
-        Polygon::from_struct(answer.polygon).ok_or(Refusal::Unknown(kind))
+        Polygon::from_struct(answer.polygon).ok_or(Refusal::Unknown)
     }
 
     /// The 16 bytes of its record.
@@ -110,7 +109,7 @@ impl Polygon {
     /// assert_eq!(polygon.write_to(&mut [0; 15]), Err(Refusal::BufferTooShort));
     /// ```
     pub fn write_to(&self, out: &mut [u8]) -> Result<(), Refusal> {
-        Refusal::check(ffi::bounds_polygon_write(out, self.as_struct()))
+        Refusal::check(ffi::polygon_write(out, self.as_struct()))
     }
 
     /// The number of its material.
@@ -129,25 +128,6 @@ impl Polygon {
         }
     }
 
-    /// The same polygon with this number of a material, which no record has.
-    ///
-    /// ```
-    /// # use bounds::geometry::Polygon;
-    /// let sphere = |material| Polygon::Sphere { material, index: 0, radius: 0.5 };
-    /// assert_eq!(Polygon::read(&sphere(3).to_bytes())?.with_material(3), sphere(3));
-    /// # Ok::<(), bounds::Refusal>(())
-    /// ```
-    pub fn with_material(mut self, number: u8) -> Polygon {
-        match &mut self {
-            Polygon::Triangle { material, .. }
-            | Polygon::Sphere { material, .. }
-            | Polygon::Capsule { material, .. }
-            | Polygon::Box { material, .. }
-            | Polygon::Cylinder { material, .. } => *material = number,
-        }
-        self
-    }
-
     /// The least and the greatest of its box. A vertex that is not there is zero; of a triangle's vertices bit 15 is
     /// left out.
     ///
@@ -162,7 +142,7 @@ impl Polygon {
     #[inline]
     pub fn bbox(&self, vertices: &[Vec3]) -> (Vec3, Vec3) {
         let mut found = match *self {
-            Polygon::Triangle { v, .. } => ffi::bounds_triangle_float_box(v, vertices),
+            Polygon::Triangle { v, .. } => ffi::triangle_float_box(v, vertices),
             _ => ffi::moved_float_box(self, vertices),
         };
         if found.told == 0 {
@@ -181,7 +161,7 @@ impl Polygon {
     /// assert_eq!(sphere.bbox_by_struct(&vertices), sphere.bbox(&vertices));
     /// ```
     pub fn bbox_by_struct(&self, vertices: &[Vec3]) -> (Vec3, Vec3) {
-        let answer = ffi::bounds_polygon_bbox(self.as_struct(), ffi::words(vertices));
+        let answer = ffi::polygon_bbox(self.as_struct(), ffi::vector_words(vertices));
         assert_eq!(answer.refusal, 0, "a polygon of a known kind has a box");
         (floats(answer.min), floats(answer.max))
     }
@@ -195,14 +175,14 @@ impl Polygon {
     }
 
     fn word_box(&self, vertices: &[Vec3]) -> PolygonBox {
-        let words = ffi::words(vertices);
+        let words = ffi::vector_words(vertices);
         match *self {
-            Polygon::Triangle { v, .. } => ffi::bounds_triangle_word_box(v, words),
-            Polygon::Sphere { index, radius, .. } => ffi::bounds_sphere_bbox(index, radius, words),
+            Polygon::Triangle { v, .. } => ffi::triangle_word_box(v, words),
+            Polygon::Sphere { index, radius, .. } => ffi::sphere_bbox(index, radius, words),
             Polygon::Capsule { i1, i2, radius, .. } | Polygon::Cylinder { i1, i2, radius, .. } => {
-                ffi::bounds_capsule_bbox(i1, i2, radius, words)
+                ffi::capsule_bbox(i1, i2, radius, words)
             }
-            Polygon::Box { i, .. } => ffi::bounds_box_bbox(i.map(|i| i as u16), words),
+            Polygon::Box { i, .. } => ffi::box_bbox(i.map(|i| i as u16), words),
         }
     }
 
@@ -272,7 +252,7 @@ fn floats(w: ffi::Words3) -> Vec3 {
 /// # Ok::<(), Refusal>(())
 /// ```
 pub fn polygon_items(polygons: &[u8], n: usize, vertices: &[Vec3], items: &mut [BvhItem]) -> Result<(), Refusal> {
-    Refusal::check(ffi::bounds_polygon_items(polygons, n, vertices, items))
+    Refusal::check(ffi::polygon_items(polygons, n, vertices, items))
 }
 
 /// Words of the work buffer for linking so many polygons.
@@ -299,7 +279,7 @@ pub fn edges_work_len(polygons: usize) -> usize {
 /// assert_eq!(update_edge_indices(&mut [5; 16], 1, &mut [0; 15]), Err(Refusal::UnknownKind));
 /// ```
 pub fn update_edge_indices(polygons: &mut [u8], n: usize, work: &mut [u32]) -> Result<(), Refusal> {
-    Refusal::check(ffi::bounds_update_edge_indices(polygons, n, cut(work, n)))
+    Refusal::check(ffi::update_edge_indices(polygons, n, cut(work, n)))
 }
 
 /// The work buffer in five parts: corners, keys, sides, spare, links. Each gets its length or what is left, and the last
@@ -332,7 +312,7 @@ pub fn build_materials(
     list: &mut [u8],
     indices: &mut [u8],
 ) -> Result<usize, Refusal> {
-    let answer = ffi::bounds_build_materials(numbers.len(), numbers, materials.len(), materials, list, indices);
+    let answer = ffi::build_materials(numbers, materials, list, indices);
     Refusal::check(answer.refusal)?;
     Ok(answer.count)
 }

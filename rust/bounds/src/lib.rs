@@ -1,13 +1,8 @@
 //! Collision-bound preparation, proved in Rattle: the safe Rust interface.
 //!
 //! Names and types are those of the source that was ported (rage-formats). Every function calls the proved library
-//! (`libbounds.a`, `libbounds_prepare.a`); ffi.rs is the one file with unsafe code. What computes by itself here is
-//! [`BvhItem::meets`], which compares two boxes and by which queries filter, the box around points of [`prepare::Frame::around`],
-//! and what a [`load`] looks for; of a polygon it is chosen here which numbers its box is made of.
-//!
-//! Threads: every value can be sent to another thread and shared by several. A tree is not changed once it is there, so that
-//! threads query one without a lock, each with a [`tree::Found`] of its own; the library keeps no state, and builds and
-//! prepares run side by side.
+//! (`libbounds.a`, `libbounds_prepare.a`); ffi.rs is the one file with unsafe code, and nothing here computes by itself but
+//! [`BvhItem::meets`], which compares two boxes; of a polygon it is chosen here which numbers its box is made of.
 //!
 //! - [`float`]: one float step each, on values and on words (a float's 32 bits).
 //! - [`math`]: points, boxes and transforms.
@@ -20,24 +15,20 @@
 //! - [`prepare`](mod@prepare): from a mesh to all that a file holds of it.
 //! - [`premises`]: whether a list meets what the walk's promise asks.
 //! - [`walk`](mod@walk): the walk over a tree's records.
-//! - [`load`]: records back from files.
-//! - [`refusal`]: what an operation turns down, by its number and in words; [`error`]: one error for all.
+//! - [`refusal`]: what an operation turns down, by its number and in words.
 #![deny(unsafe_code)]
 #![warn(missing_docs)]
 
 pub mod bvh;
 pub mod composite;
-pub mod error;
 mod ffi;
 pub mod float;
 pub mod geometry;
-pub mod load;
 pub mod math;
 pub mod octants;
 pub mod premises;
 pub mod prepare;
 mod prepared;
-mod records;
 pub mod refusal;
 pub mod shrink;
 pub mod tree;
@@ -45,13 +36,12 @@ mod types;
 pub mod walk;
 
 pub use bvh::{build_bvh, tree_header, BuiltTree, Bvh, BvhItem};
-pub use composite::{Child, Composite, CompositeTree};
-pub use error::Error;
+pub use composite::{Child, Composite};
 pub use geometry::{build_materials, polygon_items, update_edge_indices, BoundMaterial, BoundVertex, Polygon};
 pub use math::{Mat4, Vec3, Vec4};
 pub use octants::{calculate_octants, Octants};
 pub use premises::ordinary;
-pub use prepare::{Geometry, Prepared, PreparedTree};
+pub use prepare::{Geometry, Prepared};
 pub use refusal::Refusal;
 pub use shrink::{calculate_verts_shrunk, ShrinkBound, Shrunk, ShrunkBy};
 pub use tree::{BvhNode, BvhTree, Tree};

@@ -135,8 +135,11 @@ pub fn work_len(vertices: usize) -> usize {
 /// # Ok::<(), Refusal>(())
 /// ```
 pub fn calculate_octants(vertices: &[Vec3]) -> Result<Octants, Refusal> {
-    // Of what is refused by its number nothing is allocated.
-    let n = if vertices.len() > VERTICES { 0 } else { vertices.len() };
+    let n = vertices.len();
+    if n > VERTICES {
+        // Nothing is allocated for what is refused.
+        return Err(calculate_octants_in(vertices, &mut [], &mut []).err().unwrap_or(Refusal::Unknown));
+    }
     let (mut lists, mut work) = (vec![0; lists_len(n)], vec![0; work_len(n)]);
     let counts = calculate_octants_in(vertices, &mut lists, &mut work)?;
     Ok(Octants { items: std::array::from_fn(|k| lists[k * n..k * n + counts[k]].to_vec()) })
@@ -161,7 +164,7 @@ pub fn calculate_octants(vertices: &[Vec3]) -> Result<Octants, Refusal> {
 /// # Ok::<(), Refusal>(())
 /// ```
 pub fn calculate_octants_in(vertices: &[Vec3], lists: &mut [u32], work: &mut [u32]) -> Result<[usize; 8], Refusal> {
-    let answer = ffi::bounds_calculate_octants(vertices.len(), ffi::words(vertices), lists, cut(work, vertices.len()));
+    let answer = ffi::calculate_octants(vertices.len(), ffi::vector_words(vertices), lists, cut(work, vertices.len()));
     Refusal::check(answer.refusal)?;
     Ok(answer.counts.map(|count| count as usize))
 }
@@ -183,7 +186,7 @@ pub fn calculate_octants_in(vertices: &[Vec3], lists: &mut [u32], work: &mut [u3
 /// # Ok::<(), Refusal>(())
 /// ```
 pub fn write_octants(address: u64, lists: [&[u32]; 8], out: &mut [u8]) -> Result<(), Refusal> {
-    Refusal::check(ffi::bounds_write_octants(address, lists, out))
+    Refusal::check(ffi::write_octants(address, lists, out))
 }
 
 /// The work buffer in five parts: keys, rows, order, temp, marks. Each gets its length or what is left, and the last all

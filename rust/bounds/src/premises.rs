@@ -96,7 +96,7 @@ pub enum Broken {
 /// assert_eq!(ordinary(&[BvhItem::ABSENT; 32_768]), Err(Broken::Refused(Refusal::ListTooLong)));
 /// ```
 pub fn ordinary(items: &[BvhItem]) -> Result<(), Broken> {
-    let answer = ffi::bounds_ordinary(items.len(), ffi::words(items));
+    let answer = ffi::ordinary(items.len(), ffi::item_words(items));
     Refusal::check(answer.refusal).map_err(Broken::Refused)?;
     let place = answer.place as usize;
     let axis = |number: u32| [Axis::X, Axis::Y, Axis::Z][number as usize];

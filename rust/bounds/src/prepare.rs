@@ -17,11 +17,11 @@
 //! assert_eq!((prepared.materials_count, prepared.materials.len()), (1, 4));
 //! assert_eq!(prepared.links(PolygonPlace(0)), [3, 2, 1].map(|k| Some(PolygonPlace(k)))); // the other three
 //!
-//! // Which triangles' boxes does the box from (0, 0, 0.5) to (1, 1, 1) meet?
+//! // Which triangles may the box from (0, 0, 0.5) to (1, 1, 1) meet?
 //! let tree = prepared.bvh.as_ref().expect("kind 8 with polygons");
-//! assert_eq!(tree.candidates(at(0.0, 0.0, 0.5), at(1.0, 1.0, 1.0)).places.len(), 4); // one leaf holds all
-//! assert_eq!(tree.query(at(0.0, 0.0, 0.5), at(1.0, 1.0, 1.0)).len(), 3); // the ground lies below
-//! # Ok::<(), bounds::Refusal>(())
+//! let found = tree.candidates(at(0.0, 0.0, 0.5), at(1.0, 1.0, 1.0))?;
+//! assert_eq!(found.polygons.len(), 4); // one leaf holds all
+//! # Ok::<(), Box<dyn std::error::Error>>(())
 //! ```
 
 use crate::bvh::{built, parts, records_len, BuiltTree, RECORD};
@@ -30,12 +30,7 @@ use crate::octants::{lists_len, VERTICES};
 use crate::shrink::POLYGONS;
 use crate::{ffi, BoundMaterial, BoundVertex, Mat4, Octants, Polygon, Refusal, Vec3};
 
-mod owned;
-mod space;
-
-pub use crate::prepared::{GivenPolygon, PolygonPlace, PreparedTree};
-pub use owned::Prepare;
-pub(crate) use owned::{material, stored_vertices};
+pub use crate::prepared::{GivenPolygon, PolygonCandidates, PolygonPlace};
 
 /// Most materials. Of 256 different ones that are used the polygons are refused ([`Refusal::TooManyMaterials`]).
 ///
@@ -98,8 +93,6 @@ pub struct Prepared {
     pub box_center: Vec3,
     pub sphere_center: Vec3,
     pub sphere_radius: f32,
-    /// As it was given: what is added to a vertex before the transform.
-    pub center_geom: Vec3,
     /// Records of 16 bytes, their triangles linked; of kind 8 in the order of the tree's leaves.
     pub polygons: Vec<u8>,
     /// Each that is used, by first appearance among these polygons, filled up to four with (0, 0).
@@ -132,6 +125,27 @@ pub struct Prepared {
 pub struct Quantised {
     pub stored: Vec<BoundVertex>,
     pub floats: Vec<Vec3>,
+}
+
+/// The tree over a geometry's polygons, at threshold 4. Its positions are places in [`Prepared::polygons`].
+///
+/// ```
+/// # use bounds::{Geometry, Polygon};
+/// let mut geometry = Geometry::new(Geometry::BVH);
+/// assert_eq!(geometry.prepare()?.bvh, None);
+/// geometry.polygons = vec![Polygon::Box { material: 0, i: [0; 4] }; 5];
+/// let tree = geometry.prepare()?.bvh.expect("a tree");
+/// assert_eq!((tree.built.nodes_count, tree.node_bytes.len(), tree.order.len()), (3, 48, 5));
+/// # Ok::<(), bounds::Refusal>(())
+/// ```
+#[derive(Clone, Debug, PartialEq)]
+#[allow(missing_docs)]
+pub struct PreparedTree {
+    pub built: BuiltTree,
+    pub node_bytes: Vec<u8>,
+    pub tree_bytes: Vec<u8>,
+    /// For each polygon its place among those that were given.
+    pub order: Vec<u16>,
 }
 
 impl Geometry {
@@ -216,7 +230,24 @@ impl Geometry {
     /// # Ok::<(), Refusal>(())
     /// ```
     pub fn prepare(&self) -> Result<Prepared, Refusal> {
-        Prepare::default().prepare(self)
+        let (p, v) = (self.polygons.len(), self.vertices.len());
+        let limits = p <= POLYGONS && v <= VERTICES && self.materials.len() <= MATERIALS;
+        let known = [Geometry::PLAIN, Geometry::BVH].contains(&self.kind);
+        // Of what is refused by its kind or its numbers nothing is allocated.
+        let (p, v) = if limits && known { (p, v) } else { (0, 0) };
+        let records: Vec<u8> = self.polygons[..p].iter().flat_map(Polygon::to_bytes).collect();
+        let numbers: Vec<u8> = self.polygons[..p].iter().map(Polygon::material).collect();
+        let mut own = Owned::new(p, v);
+        let mesh = Mesh {
+            bound: Bound::of(self),
+            polygon_count: self.polygons.len(),
+            polygons: &records,
+            numbers: &numbers,
+            materials: &self.materials,
+            vertices: &self.vertices,
+        };
+        let values = prepare(&mesh, own.buffers())?;
+        Ok(own.prepared(values, self.kind, v))
     }
 }
 
@@ -490,17 +521,17 @@ pub fn prepare(mesh: &Mesh, to: Buffers) -> Result<Values, Refusal> {
     let from = ffi::Inputs {
         polygons: mesh.polygons,
         numbers: mesh.numbers,
-        materials: ffi::words(mesh.materials),
-        vertices: ffi::words(mesh.vertices),
+        materials: ffi::material_words(mesh.materials),
+        vertices: ffi::vector_words(mesh.vertices),
     };
     let outputs = ffi::Outputs {
         materials: to.materials,
         indices: to.indices,
         polygons: to.polygons,
         vertices: to.vertices,
-        floats: ffi::words_mut(to.floats),
+        floats: ffi::vector_words_mut(to.floats),
         shrunk: to.shrunk,
-        shrunk_floats: ffi::words_mut(to.shrunk_floats),
+        shrunk_floats: ffi::vector_words_mut(to.shrunk_floats),
         octants: to.octants,
         node_bytes: to.node_bytes,
         tree_bytes: to.tree_bytes,
@@ -526,4 +557,98 @@ fn cut(work: &mut [u32], polygons: usize, vertices: usize) -> [&mut [u32]; 10] {
     let lists = [7 * p + 4 * v, 3 * p + 3 * v, 3 * p + v, 3 * p + v, 16 * p + 8 + v, 3 * v];
     let [entries, places, temp, stack, rows, points] = lists;
     parts(work, [entries, places, temp, stack, rows, points, p, 4 * p, 9 * p, usize::MAX])
+}
+
+/// Buffers of one's own, as long as they have to be.
+struct Owned {
+    materials: Vec<u8>,
+    indices: Vec<u8>,
+    polygons: Vec<u8>,
+    vertices: Vec<u8>,
+    floats: Vec<Vec3>,
+    shrunk: Vec<u8>,
+    shrunk_floats: Vec<Vec3>,
+    octants: Vec<u32>,
+    node_bytes: Vec<u8>,
+    tree_bytes: Vec<u8>,
+    order: Vec<u16>,
+    work: Vec<u32>,
+}
+
+impl Owned {
+    fn new(polygons: usize, vertices: usize) -> Owned {
+        let of = Lengths::of(polygons, vertices);
+        Owned {
+            materials: vec![0; of.materials],
+            indices: vec![0; of.indices],
+            polygons: vec![0; of.polygons],
+            vertices: vec![0; of.vertices],
+            floats: vec![Vec3::ZERO; of.floats],
+            shrunk: vec![0; of.shrunk],
+            shrunk_floats: vec![Vec3::ZERO; of.shrunk_floats],
+            octants: vec![0; of.octants],
+            node_bytes: vec![0; of.node_bytes],
+            tree_bytes: vec![0; of.tree_bytes],
+            order: vec![0; of.order],
+            work: vec![0; of.work],
+        }
+    }
+
+    fn buffers(&mut self) -> Buffers<'_> {
+        Buffers {
+            materials: &mut self.materials,
+            indices: &mut self.indices,
+            polygons: &mut self.polygons,
+            vertices: &mut self.vertices,
+            floats: &mut self.floats,
+            shrunk: &mut self.shrunk,
+            shrunk_floats: &mut self.shrunk_floats,
+            octants: &mut self.octants,
+            node_bytes: &mut self.node_bytes,
+            tree_bytes: &mut self.tree_bytes,
+            order: &mut self.order,
+            work: &mut self.work,
+        }
+    }
+
+    /// What was written, as long as it is.
+    fn prepared(mut self, values: Values, kind: u8, v: usize) -> Prepared {
+        let Frame { box_min, box_max, box_center, sphere_center, sphere_radius } = values.frame;
+        let plain = kind == Geometry::PLAIN;
+        let shrunk = Quantised { stored: vertices(&self.shrunk), floats: self.shrunk_floats };
+        let lists = || std::array::from_fn(|k| self.octants[k * v..k * v + values.octants[k]].to_vec());
+        let octants = plain.then(|| Octants { items: lists() });
+        let tree = values.built.map(|built| {
+            self.node_bytes.truncate(RECORD * built.nodes_capacity as usize);
+            self.tree_bytes.truncate(RECORD * built.trees_count as usize);
+            PreparedTree { built, node_bytes: self.node_bytes, tree_bytes: self.tree_bytes, order: self.order }
+        });
+        let filled = values.materials_count.max(4);
+        Prepared {
+            quantum: values.quantum,
+            box_min,
+            box_max,
+            box_center,
+            sphere_center,
+            sphere_radius,
+            polygons: self.polygons,
+            materials: self.materials.chunks_exact(8).take(filled).map(material).collect(),
+            materials_count: values.materials_count,
+            polygon_material_indices: self.indices,
+            vertices: Quantised { stored: vertices(&self.vertices), floats: self.floats },
+            vertices_shrunk: (plain && v > 0).then_some(shrunk),
+            octants,
+            bvh: tree,
+        }
+    }
+}
+
+fn material(bytes: &[u8]) -> BoundMaterial {
+    let word = |at: usize| u32::from_le_bytes([bytes[at], bytes[at + 1], bytes[at + 2], bytes[at + 3]]);
+    BoundMaterial { data1: word(0), data2: word(4) }
+}
+
+fn vertices(bytes: &[u8]) -> Vec<BoundVertex> {
+    let short = |v: &[u8], at: usize| i16::from_le_bytes([v[at], v[at + 1]]);
+    bytes.chunks_exact(6).map(|v| BoundVertex(short(v, 0), short(v, 2), short(v, 4))).collect()
 }

@@ -1,11 +1,10 @@
 //! What was derived of a geometry, asked so that places, numbers and counts cannot be mixed up.
 
-use crate::premises::{ordinary, Broken};
-use crate::prepare::Prepared;
-use crate::records::{Found, TreeRecords};
-use crate::tree::BvhNode;
-use crate::{BoundMaterial, BvhItem, Polygon, Vec3};
-use std::ops::Deref;
+use crate::bvh::{tree_header, HEADER};
+use crate::prepare::{Prepared, PreparedTree};
+use crate::tree::{records, Addresses, BvhNode, BvhTree};
+use crate::walk::{walk, Counts, Records, Refused};
+use crate::{BoundMaterial, Polygon, Refusal, Vec3};
 
 /// Bytes of a polygon's record.
 const RECORD: usize = 16;
@@ -34,6 +33,25 @@ pub struct PolygonPlace(pub usize);
 #[derive(Clone, Copy, Debug, PartialEq, Eq, Hash, PartialOrd, Ord)]
 pub struct GivenPolygon(pub usize);
 
+/// What the records of a prepared tree say of a query.
+///
+/// ```
+/// # use bounds::{prepare::PolygonPlace, Geometry, Polygon, Vec3};
+/// let mut geometry = Geometry::new(Geometry::BVH);
+/// geometry.polygons = vec![Polygon::Sphere { material: 0, index: 0, radius: 1.0 }];
+/// let tree = geometry.prepare()?.bvh.expect("kind 8 with polygons");
+/// let found = tree.candidates(Vec3::ZERO, Vec3::ZERO)?;
+/// assert_eq!((found.polygons, found.reads), (vec![PolygonPlace(0)], 2)); // a tree record and a node record
+/// # Ok::<(), Box<dyn std::error::Error>>(())
+/// ```
+#[derive(Clone, Debug, Default, PartialEq, Eq)]
+pub struct PolygonCandidates {
+    /// The polygons whose leaf's record meets the query, in the order of the leaves; none twice.
+    pub polygons: Vec<PolygonPlace>,
+    /// Tree and node records read.
+    pub reads: usize,
+}
+
 impl Prepared {
     /// The places of its polygons, rising.
     ///
@@ -60,7 +78,15 @@ impl Prepared {
     pub fn polygon(&self, PolygonPlace(k): PolygonPlace) -> Option<Polygon> {
         let record = self.polygons.get(k.checked_mul(RECORD)?..)?.get(..RECORD)?;
         let index = *self.polygon_material_indices.get(k)?;
-        Some(Polygon::read(record).ok()?.with_material(index))
+        let mut polygon = Polygon::read(record).ok()?;
+        match &mut polygon {
+            Polygon::Triangle { material, .. }
+            | Polygon::Sphere { material, .. }
+            | Polygon::Capsule { material, .. }
+            | Polygon::Box { material, .. }
+            | Polygon::Cylinder { material, .. } => *material = index,
+        }
+        Some(polygon)
     }
 
     /// The material of the polygon at a place.
@@ -126,49 +152,15 @@ impl Prepared {
     }
 }
 
-/// The tree over a geometry's polygons, at threshold 4, with its records and the polygons' boxes. Its positions are places in
-/// [`Prepared::polygons`]. It is a [`TreeRecords`] as well: `built`, `node_bytes`, `tree_bytes`, `order` are read of it, and
-/// what those answer of nodes, ranges and bytes, it answers.
-///
-/// **Its space**: the boxes are of the vertices after centre and transform, where a vertex `v` stands at
-/// `transform * (v + center_geom)` ([`Geometry::positions`](crate::Geometry::positions)). A query is asked there, and not
-/// about the centre, where the vertices are given and stored. One triangle, far from the origin, shows it:
-///
-/// ```
-/// # use bounds::{Geometry, Vec3};
-/// let at = |x: f32, y: f32| Vec3::new(x, y, 0.0);
-/// let geometry = Geometry::from_triangles(&[at(100.0, 0.0), at(104.0, 0.0), at(100.0, 4.0)], &[[0, 1, 2]]);
-/// assert_eq!((geometry.center_geom, geometry.vertices[0]), (at(102.0, 2.0), at(-2.0, -2.0)));
-/// let tree = geometry.prepare()?.bvh.expect("a polygon");
-/// assert_eq!(tree.query(at(101.0, 1.0), at(101.0, 1.0)).len(), 1); // where it stands
-/// assert_eq!(tree.query(at(-1.0, -1.0), at(-1.0, -1.0)).len(), 0); // about the centre: it is not found
-/// # Ok::<(), bounds::Refusal>(())
-/// ```
-#[derive(Clone, Debug, PartialEq)]
-pub struct PreparedTree {
-    records: TreeRecords,
-    boxes: Vec<BvhItem>,
-}
-
-/// It is not changed once it is prepared or loaded: what belongs together stays together.
-impl Deref for PreparedTree {
-    type Target = TreeRecords;
-
-    fn deref(&self) -> &TreeRecords {
-        &self.records
-    }
-}
-
 impl PreparedTree {
-    /// Of these parts, which belong together: they were prepared, or looked through by a load.
-    pub(crate) fn of(records: TreeRecords, boxes: Vec<BvhItem>) -> PreparedTree {
-        PreparedTree { records, boxes }
-    }
-
-    /// The polygons whose boxes meet the box from `min` to `max`, both as floats in the space of the tree: those of
-    /// [`PreparedTree::candidates`] that do. Corners may be infinite; a query with a NaN meets nothing.
+    /// What its records hand out for the box from `min` to `max`: where the polygons' boxes are within the premises
+    /// ([`ordinary`](crate::ordinary)) every polygon whose box meets it, and some besides. Corners may be infinite; a NaN
+    /// corner stands for the centre.
     ///
-    /// Where [`PreparedTree::premises`] holds these are all that meet it; where it does not, some can be missing.
+    /// # Errors
+    ///
+    /// Proved: of a tree that [`Geometry::prepare`](crate::Geometry::prepare) made, none. Of other bytes what
+    /// [`walk`](mod@crate::walk) refuses.
     ///
     /// ```
     /// # use bounds::{prepare::PolygonPlace, Geometry, Polygon, Vec3};
@@ -176,104 +168,66 @@ impl PreparedTree {
     /// geometry.vertices = (0..8).map(|x| Vec3::new(x as f32, 0.0, 0.0)).collect();
     /// geometry.polygons = (0..8).map(|index| Polygon::Sphere { material: 0, index, radius: 0.1 }).collect();
     /// let prepared = geometry.prepare()?;
-    /// let tree = prepared.bvh.as_ref().expect("a tree");
-    /// let near = tree.query(Vec3::ZERO, Vec3::new(1.0, 0.0, 0.0)).into_iter().filter_map(|place| prepared.given(place));
-    /// assert!(near.map(|given| given.0).eq([0, 1])); // of the four that their leaf hands out
-    /// # Ok::<(), bounds::Refusal>(())
-    /// ```
-    pub fn query(&self, min: Vec3, max: Vec3) -> Vec<PolygonPlace> {
-        let mut found = Found::default();
-        self.query_into(min, max, &mut found);
-        found.places
-    }
-
-    /// [`PreparedTree::query`] into a buffer that is used again: no allocation but for its first use.
-    ///
-    /// ```
-    /// # use bounds::{tree::Found, Geometry, Vec3};
-    /// let at = |x: f32, y: f32| Vec3::new(x, y, 0.0);
-    /// let tree = Geometry::from_triangles(&[at(0.0, 0.0), at(1.0, 0.0), at(0.0, 1.0)], &[[0, 1, 2]]).prepare()?.bvh;
-    /// let (tree, mut found) = (tree.expect("a polygon"), Found::default());
-    /// let hits = (0..4).filter(|&x| !tree.query_into(at(x as f32, 0.0), at(x as f32, 0.0), &mut found).is_empty());
-    /// assert_eq!(hits.count(), 2); // at 0 and 1
-    /// # Ok::<(), bounds::Refusal>(())
-    /// ```
-    #[inline]
-    pub fn query_into<'a>(&self, min: Vec3, max: Vec3, found: &'a mut Found<PolygonPlace>) -> &'a [PolygonPlace] {
-        let met = |position: &usize| self.boxes[*position].meets(min, max);
-        self.records.find(min, max, found, |position| Some(position as usize).filter(met).map(PolygonPlace));
-        &found.places
-    }
-
-    /// What its records hand out for the box from `min` to `max`: where [`PreparedTree::premises`] holds every polygon whose
-    /// box meets it, and some besides; and how many records were read. A NaN corner stands for the centre.
-    ///
-    /// ```
-    /// # use bounds::{Geometry, Polygon, Vec3};
-    /// let mut geometry = Geometry::new(Geometry::BVH);
-    /// geometry.vertices = (0..8).map(|x| Vec3::new(x as f32, 0.0, 0.0)).collect();
-    /// geometry.polygons = (0..8).map(|index| Polygon::Sphere { material: 0, index, radius: 0.1 }).collect();
-    /// let prepared = geometry.prepare()?;
-    /// let found = prepared.bvh.as_ref().expect("a tree").candidates(Vec3::ZERO, Vec3::new(1.0, 0.0, 0.0));
-    /// let near = found.places.iter().filter_map(|&place| prepared.given(place)).map(|given| given.0);
+    /// let found = prepared.bvh.as_ref().expect("a tree").candidates(Vec3::ZERO, Vec3::new(1.0, 0.0, 0.0))?;
+    /// let near = found.polygons.iter().filter_map(|&place| prepared.given(place)).map(|given| given.0);
     /// assert!(near.eq([0, 1, 2, 3])); // one leaf
-    /// # Ok::<(), bounds::Refusal>(())
+    /// # Ok::<(), Box<dyn std::error::Error>>(())
     /// ```
-    pub fn candidates(&self, min: Vec3, max: Vec3) -> Found<PolygonPlace> {
-        let mut found = Found::default();
-        self.candidates_into(min, max, &mut found);
-        found
+    pub fn candidates(&self, min: Vec3, max: Vec3) -> Result<PolygonCandidates, Refused> {
+        let records = self.records();
+        let mut positions = vec![0; records.items_count];
+        let (center, inverse) = (self.built.bb_center, self.built.quantum_inverse);
+        let Counts { reads, handed } = walk(min, max, center, inverse, &records, &mut positions)?;
+        let polygons = positions[..handed].iter().map(|&position| PolygonPlace(position as usize)).collect();
+        Ok(PolygonCandidates { polygons, reads })
     }
 
-    /// [`PreparedTree::candidates`] into a buffer that is used again: no allocation but for its first use.
-    ///
-    /// ```
-    /// # use bounds::{prepare::PolygonPlace, tree::Found, Geometry, Polygon, Vec3};
-    /// let mut geometry = Geometry::new(Geometry::BVH);
-    /// geometry.polygons = vec![Polygon::Sphere { material: 0, index: 0, radius: 1.0 }];
-    /// let (tree, mut found) = (geometry.prepare()?.bvh.expect("kind 8 with polygons"), Found::default());
-    /// assert_eq!(tree.candidates_into(Vec3::ZERO, Vec3::ZERO, &mut found), [PolygonPlace(0)]);
-    /// assert_eq!(found.reads, 2); // a tree record and a node record
-    /// # Ok::<(), bounds::Refusal>(())
-    /// ```
-    #[inline]
-    pub fn candidates_into<'a>(&self, min: Vec3, max: Vec3, found: &'a mut Found<PolygonPlace>) -> &'a [PolygonPlace] {
-        self.records.find(min, max, found, |position| Some(PolygonPlace(position as usize)));
-        &found.places
-    }
-
-    /// The polygons' boxes by their places, in the space of the tree.
-    ///
-    /// ```
-    /// # use bounds::{Geometry, Polygon, Vec3};
-    /// let mut geometry = Geometry::new(Geometry::BVH);
-    /// geometry.center_geom = Vec3::new(10.0, 0.0, 0.0);
-    /// geometry.vertices = vec![Vec3::ZERO];
-    /// geometry.polygons = vec![Polygon::Sphere { material: 0, index: 0, radius: 1.0 }];
-    /// let tree = geometry.prepare()?.bvh.expect("a polygon");
-    /// assert_eq!((tree.boxes()[0].min.x, tree.boxes()[0].max.x), (9.0, 11.0));
-    /// # Ok::<(), bounds::Refusal>(())
-    /// ```
-    pub fn boxes(&self) -> &[BvhItem] {
-        &self.boxes
-    }
-
-    /// Whether its polygons' boxes meet the premises under which a query misses none.
+    /// The 128 bytes of its header, its records being at these addresses.
     ///
     /// # Errors
     ///
-    /// What breaks them first; a place is one of [`Prepared::polygons`].
+    /// Of a tree that was prepared none; of one made by hand refusal 1 (over 65,535 trees).
     ///
     /// ```
-    /// # use bounds::{Geometry, Polygon, Vec3};
+    /// # use bounds::{tree::Addresses, Geometry, Polygon};
     /// let mut geometry = Geometry::new(Geometry::BVH);
-    /// geometry.polygons = vec![Polygon::Sphere { material: 0, index: 0, radius: f32::NAN }];
-    /// let broken = geometry.prepare()?.bvh.expect("a polygon").premises().unwrap_err();
-    /// assert_eq!(broken.to_string(), "entry 0: min x is not finite, or above 2^100 in size");
+    /// geometry.polygons = vec![Polygon::Box { material: 0, i: [0; 4] }];
+    /// let header = geometry.prepare()?.bvh.expect("a tree").header(Addresses::default())?;
+    /// assert_eq!((header[8], header[120]), (1, 1)); // a node, a tree
     /// # Ok::<(), bounds::Refusal>(())
     /// ```
-    pub fn premises(&self) -> Result<(), Broken> {
-        ordinary(&self.boxes)
+    pub fn header(&self, at: Addresses) -> Result<[u8; HEADER], Refusal> {
+        let mut header = [0; HEADER];
+        tree_header(&mut header, &self.built.bvh(at.nodes, at.trees))?;
+        Ok(header)
+    }
+
+    /// Its nodes in preorder.
+    ///
+    /// ```
+    /// # use bounds::{Geometry, Polygon};
+    /// let mut geometry = Geometry::new(Geometry::BVH);
+    /// geometry.polygons = vec![Polygon::Box { material: 0, i: [0; 4] }; 5];
+    /// let tree = geometry.prepare()?.bvh.expect("a tree");
+    /// assert!(tree.nodes().map(|node| (node.item_id, node.item_count)).eq([(3, 0), (0, 3), (3, 2)]));
+    /// # Ok::<(), bounds::Refusal>(())
+    /// ```
+    pub fn nodes(&self) -> impl ExactSizeIterator<Item = BvhNode> + '_ {
+        records(&self.node_bytes).take(self.built.nodes_count as usize).map(BvhNode::read)
+    }
+
+    /// Its trees: the ranges of nodes, at most 127 each.
+    ///
+    /// ```
+    /// # use bounds::{Geometry, Polygon};
+    /// let mut geometry = Geometry::new(Geometry::BVH);
+    /// geometry.polygons = vec![Polygon::Box { material: 0, i: [0; 4] }];
+    /// let tree = geometry.prepare()?.bvh.expect("a tree");
+    /// assert!(tree.trees().map(|range| (range.node_index1, range.node_index2)).eq([(0, 1)]));
+    /// # Ok::<(), bounds::Refusal>(())
+    /// ```
+    pub fn trees(&self) -> impl ExactSizeIterator<Item = BvhTree> + '_ {
+        records(&self.tree_bytes).map(BvhTree::read)
     }
 
     /// The polygons of a node: of a leaf of this tree those that it holds, of an inner node none.
@@ -287,6 +241,27 @@ impl PreparedTree {
     /// # Ok::<(), bounds::Refusal>(())
     /// ```
     pub fn held(&self, node: &BvhNode) -> Vec<PolygonPlace> {
-        self.positions(node).map(PolygonPlace).collect()
+        let (first, count) = (node.item_id.max(0) as usize, node.item_count.max(0) as usize);
+        (first..(first + count).min(self.order.len())).map(PolygonPlace).collect()
+        // a record may be another tree's
+    }
+
+    /// Its records as the lent form of the walk takes them.
+    ///
+    /// ```
+    /// # use bounds::{Geometry, Polygon};
+    /// let mut geometry = Geometry::new(Geometry::BVH);
+    /// geometry.polygons = vec![Polygon::Box { material: 0, i: [0; 4] }; 3];
+    /// assert_eq!(geometry.prepare()?.bvh.expect("a tree").records().items_count, 3);
+    /// # Ok::<(), bounds::Refusal>(())
+    /// ```
+    pub fn records(&self) -> Records<'_> {
+        Records {
+            node_bytes: &self.node_bytes,
+            nodes_count: self.built.nodes_count as usize,
+            tree_bytes: &self.tree_bytes,
+            trees_count: self.built.trees_count as usize,
+            items_count: self.order.len(),
+        }
     }
 }

@@ -17,35 +17,36 @@ use std::fmt;
 /// ```
 #[derive(Clone, Copy, Debug, PartialEq, Eq, Hash)]
 #[non_exhaustive]
+#[repr(u8)]
 pub enum Refusal {
     /// A list is over its limit.
-    ListTooLong,
+    ListTooLong = 1,
     /// A lent buffer is too short.
-    BufferTooShort,
+    BufferTooShort = 2,
     /// The threshold is outside 1 to 32,767.
-    Threshold,
+    Threshold = 3,
     /// The finished tree would have over 32,767 nodes.
-    TooManyNodes,
+    TooManyNodes = 4,
     /// A record has under 16 bytes.
-    ShortRecord,
+    ShortRecord = 5,
     /// A kind has no meaning.
-    UnknownKind,
+    UnknownKind = 6,
     /// The margin that shrinking starts from is infinite.
-    InfiniteMargin,
+    InfiniteMargin = 7,
     /// The built list of materials is too long.
-    TooManyMaterials,
+    TooManyMaterials = 8,
     /// A tree record's range of nodes is none.
-    TreeRange,
+    TreeRange = 9,
     /// A node record leads out of its tree or list.
-    NodeRecord,
+    NodeRecord = 10,
     /// More positions would be handed out than there are items.
-    TooManyHandedOut,
+    TooManyHandedOut = 11,
     /// An address and what follows it pass 2^64 - 1.
-    Address,
+    Address = 12,
     /// The input ends inside a record.
-    RaggedInput,
-    /// The library answered with this number, which is no refusal: it and this crate do not belong together.
-    Unknown(u32),
+    RaggedInput = 13,
+    /// The library answered with a number that is no refusal: it and this crate do not belong together.
+    Unknown = 255,
 }
 
 impl Refusal {
@@ -55,7 +56,7 @@ impl Refusal {
     /// # use bounds::Refusal;
     /// let table = Refusal::ALL.map(|refusal| refusal.to_string());
     /// assert!(table[12].starts_with("refused 13: the input ends inside a record"));
-    /// assert!(!Refusal::ALL.contains(&Refusal::Unknown(99))); // no operation's answer
+    /// assert!(!Refusal::ALL.contains(&Refusal::Unknown)); // no operation's answer
     /// ```
     pub const ALL: [Refusal; 13] = [
         Refusal::ListTooLong,
@@ -76,27 +77,10 @@ impl Refusal {
     /// Its number.
     ///
     /// ```
-    /// # use bounds::Refusal;
-    /// assert_eq!(Refusal::TooManyNodes.number(), 4);
-    /// assert_eq!(Refusal::Unknown(99).number(), 99); // as the library gave it
+    /// assert_eq!(bounds::Refusal::TooManyNodes.number(), 4);
     /// ```
     pub fn number(self) -> u32 {
-        match self {
-            Refusal::ListTooLong => 1,
-            Refusal::BufferTooShort => 2,
-            Refusal::Threshold => 3,
-            Refusal::TooManyNodes => 4,
-            Refusal::ShortRecord => 5,
-            Refusal::UnknownKind => 6,
-            Refusal::InfiniteMargin => 7,
-            Refusal::TooManyMaterials => 8,
-            Refusal::TreeRange => 9,
-            Refusal::NodeRecord => 10,
-            Refusal::TooManyHandedOut => 11,
-            Refusal::Address => 12,
-            Refusal::RaggedInput => 13,
-            Refusal::Unknown(number) => number,
-        }
+        self as u32
     }
 
     /// The refusal with this number.
@@ -120,13 +104,13 @@ impl Refusal {
     /// # use bounds::Refusal;
     /// assert_eq!(Refusal::check(0), Ok(()));
     /// assert_eq!(Refusal::check(4), Err(Refusal::TooManyNodes));
-    /// assert_eq!(Refusal::check(14), Err(Refusal::Unknown(14)));
+    /// assert_eq!(Refusal::check(14), Err(Refusal::Unknown));
     /// ```
     #[inline]
     pub fn check(number: u32) -> Result<(), Refusal> {
         match number {
             0 => Ok(()),
-            _ => Err(Refusal::from_number(number).unwrap_or(Refusal::Unknown(number))),
+            _ => Err(Refusal::from_number(number).unwrap_or(Refusal::Unknown)),
         }
     }
 
@@ -152,7 +136,7 @@ impl Refusal {
             }
             Refusal::Address => "the bytes would pass the last address; place them lower",
             Refusal::RaggedInput => "the input ends inside a record; its length must be a multiple of 32",
-            Refusal::Unknown(_) => "the library's refusal is not known here; build both from one version",
+            Refusal::Unknown => "the library's refusal is not known here; build both from one version",
         }
     }
 }
@@ -182,7 +166,7 @@ mod tests {
             let expected = match number {
                 0 => Ok(()),
                 1..=13 => Err(Refusal::ALL[number as usize - 1]),
-                _ => Err(Refusal::Unknown(number)),
+                _ => Err(Refusal::Unknown),
             };
             assert_eq!(Refusal::check(number), expected, "{number}");
         }

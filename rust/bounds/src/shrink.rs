@@ -22,7 +22,7 @@
 use crate::bvh::parts;
 use crate::geometry::RECORD;
 use crate::octants::VERTICES;
-use crate::{ffi, Geometry, Mat4, Refusal, Vec3};
+use crate::{ffi, Mat4, Refusal, Vec3};
 
 pub use crate::types::ShrinkBound;
 
@@ -48,18 +48,6 @@ impl ShrinkBound {
     /// ```
     pub fn new(box_min: Vec3, box_max: Vec3, margin: f32) -> ShrinkBound {
         ShrinkBound { box_min, box_max, center_geom: Vec3::ZERO, margin, transform: Mat4::identity() }
-    }
-
-    /// That of a geometry.
-    ///
-    /// ```
-    /// # use bounds::{Geometry, ShrinkBound, Vec3};
-    /// let geometry = Geometry { margin: 0.5, ..Geometry::new(Geometry::PLAIN) };
-    /// assert_eq!(ShrinkBound::of(&geometry), ShrinkBound::new(Vec3::ZERO, Vec3::ZERO, 0.5));
-    /// ```
-    pub fn of(geometry: &Geometry) -> ShrinkBound {
-        let &Geometry { box_min, box_max, center_geom, margin, transform, .. } = geometry;
-        ShrinkBound { box_min, box_max, center_geom, margin, transform }
     }
 }
 
@@ -147,10 +135,12 @@ pub fn calculate_verts_shrunk(
     n: usize,
     vertices: &[Vec3],
 ) -> Result<Shrunk, Refusal> {
-    let refused = n > POLYGONS || vertices.len() > VERTICES || polygons.len() < RECORD * n;
-    // Of what is refused by its numbers nothing is allocated.
-    let (p, v) = if refused { (0, 0) } else { (n, vertices.len()) };
-    let (mut shrunk, mut work) = (vec![Vec3::ZERO; v], vec![0; work_len(p, v)]);
+    if n > POLYGONS || vertices.len() > VERTICES || polygons.len() < RECORD * n {
+        // Nothing is allocated for what is refused.
+        let refused = calculate_verts_shrunk_in(bound, polygons, n, vertices, &mut [], &mut []);
+        return Err(refused.err().unwrap_or(Refusal::Unknown));
+    }
+    let (mut shrunk, mut work) = (vec![Vec3::ZERO; vertices.len()], vec![0; work_len(n, vertices.len())]);
     let by = calculate_verts_shrunk_in(bound, polygons, n, vertices, &mut shrunk, &mut work)?;
     Ok(Shrunk { vertices: shrunk, by })
 }
@@ -182,14 +172,14 @@ pub fn calculate_verts_shrunk_in(
     work: &mut [u32],
 ) -> Result<ShrunkBy, Refusal> {
     let work = cut(work, n, vertices.len());
-    let (from, to) = (ffi::words(vertices), ffi::words_mut(points));
-    let answer = ffi::bounds_calculate_verts_shrunk(*bound, n, polygons, vertices.len(), from, to, work);
+    let words = (ffi::vector_words(vertices), ffi::vector_words_mut(points));
+    let answer = ffi::calculate_verts_shrunk(*bound, n, polygons, vertices.len(), words, work);
     Refusal::check(answer.refusal)?;
     match answer.by {
         0 => Ok(ShrunkBy::NoVertices),
         1 => Ok(ShrunkBy::Margin(answer.margin)),
         2 => Ok(ShrunkBy::Normals),
-        by => Err(Refusal::Unknown(by)),
+        _ => Err(Refusal::Unknown),
     }
 }
 

@@ -13,13 +13,10 @@
 //! # Ok::<(), bounds::Refusal>(())
 //! ```
 
-use crate::bvh::{build_bvh, records_len, work_len, BuiltTree, BvhItem, ENTRIES, HEADER, RECORD};
+use crate::bvh::{build_bvh, records_len, tree_header, work_len, BuiltTree, BvhItem, ENTRIES, HEADER, RECORD};
 use crate::premises::{ordinary, Broken};
+use crate::walk::{walk, Counts, Records};
 use crate::{Refusal, Vec3};
-use std::ops::Deref;
-
-pub use crate::load::TreeBytes;
-pub use crate::records::{Found, TreeRecords};
 
 /// A node's record: a box in units of the quantum, then its item id and count.
 ///
@@ -107,8 +104,24 @@ pub struct Addresses {
     pub trees: u64,
 }
 
-/// A tree over a list of boxes, with the list and every record. It is a [`TreeRecords`] as well: what those answer of nodes,
-/// ranges and bytes, it answers.
+/// What the records alone say of a query.
+///
+/// ```
+/// # use bounds::{BvhItem, Tree, Vec3};
+/// let unit = BvhItem::new(Vec3::ZERO, Vec3::new(1.0, 1.0, 1.0));
+/// let found = Tree::build(&[unit], 1)?.candidates(Vec3::ZERO, Vec3::ZERO);
+/// assert_eq!((found.places, found.reads), (vec![0], 2)); // a tree record and a node record
+/// # Ok::<(), bounds::Refusal>(())
+/// ```
+#[derive(Clone, Debug, Default, PartialEq, Eq)]
+pub struct Candidates {
+    /// Places in the list of the items whose leaf's record meets the query, in the order of the leaves; none twice.
+    pub places: Vec<usize>,
+    /// Tree and node records read.
+    pub reads: usize,
+}
+
+/// A tree over a list of boxes, with the list and every record.
 ///
 /// ```
 /// # use bounds::{BvhItem, Tree, Vec3};
@@ -121,16 +134,10 @@ pub struct Addresses {
 pub struct Tree {
     items: Vec<BvhItem>,
     threshold: u32,
-    records: TreeRecords,
-}
-
-/// It is not changed once it is built: what belongs together stays together.
-impl Deref for Tree {
-    type Target = TreeRecords;
-
-    fn deref(&self) -> &TreeRecords {
-        &self.records
-    }
+    built: BuiltTree,
+    node_bytes: Vec<u8>,
+    tree_bytes: Vec<u8>,
+    order: Vec<u16>,
 }
 
 impl Tree {
@@ -156,14 +163,10 @@ impl Tree {
         let (mut node_bytes, mut tree_bytes) = (vec![0; records_len(n)], vec![0; records_len(n)]);
         let (mut order, mut work) = (vec![0; n], vec![0; work_len(n)]);
         let built = build_bvh(items, threshold, &mut node_bytes, &mut tree_bytes, &mut order, &mut work)?;
-        let items_count = if threshold == 1 { n } else { built.items_count as usize };
-        let records = TreeRecords::written(built, node_bytes, tree_bytes, order, items_count);
-        Ok(Tree { items: items.to_vec(), threshold, records })
-    }
-
-    /// Of these parts, which belong together: they were built, or looked through by a load.
-    pub(crate) fn of(items: Vec<BvhItem>, threshold: u32, records: TreeRecords) -> Tree {
-        Tree { items, threshold, records }
+        node_bytes.truncate(RECORD * built.nodes_capacity as usize);
+        tree_bytes.truncate(RECORD * built.trees_count as usize);
+        order.truncate(built.items_count as usize);
+        Ok(Tree { items: items.to_vec(), threshold, built, node_bytes, tree_bytes, order })
     }
 
     /// The places in the list of the present items whose box meets the box from `min` to `max`, both as floats: those of
@@ -180,27 +183,9 @@ impl Tree {
     /// # Ok::<(), bounds::Refusal>(())
     /// ```
     pub fn query(&self, min: Vec3, max: Vec3) -> Vec<usize> {
-        let mut found = Found::default();
-        self.query_into(min, max, &mut found);
-        found.places
-    }
-
-    /// [`Tree::query`] into a buffer that is used again: no allocation but for its first use.
-    ///
-    /// ```
-    /// # use bounds::{tree::Found, BvhItem, Tree, Vec3};
-    /// let unit = BvhItem::new(Vec3::ZERO, Vec3::new(1.0, 1.0, 1.0));
-    /// let (tree, mut found) = (Tree::build(&[unit; 3], 1)?, Found::default());
-    /// assert_eq!(tree.query_into(Vec3::ZERO, Vec3::ZERO, &mut found).len(), 3);
-    /// let beside = Vec3::new(2.0, 0.0, 0.0);
-    /// assert!(tree.query_into(beside, beside, &mut found).is_empty());
-    /// # Ok::<(), bounds::Refusal>(())
-    /// ```
-    #[inline]
-    pub fn query_into<'a>(&self, min: Vec3, max: Vec3, found: &'a mut Found) -> &'a [usize] {
-        let met = |place: &usize| self.items[*place].meets(min, max);
-        self.records.find(min, max, found, |position| Some(self.place(position)).filter(met));
-        &found.places
+        let mut places = self.candidates(min, max).places;
+        places.retain(|&place| self.items[place].meets(min, max));
+        places
     }
 
     /// What the records hand out for the box from `min` to `max`, and how many were read: a server that compares boxes
@@ -217,26 +202,14 @@ impl Tree {
     /// assert_eq!(tree.query(here, here), [1]);
     /// # Ok::<(), bounds::Refusal>(())
     /// ```
-    pub fn candidates(&self, min: Vec3, max: Vec3) -> Found {
-        let mut found = Found::default();
-        self.candidates_into(min, max, &mut found);
-        found
-    }
-
-    /// [`Tree::candidates`] into a buffer that is used again: no allocation but for its first use.
-    ///
-    /// ```
-    /// # use bounds::{tree::Found, BvhItem, Tree, Vec3};
-    /// let unit = BvhItem::new(Vec3::ZERO, Vec3::new(1.0, 1.0, 1.0));
-    /// let (tree, mut found) = (Tree::build(&[unit], 1)?, Found::default());
-    /// assert_eq!(tree.candidates_into(Vec3::ZERO, Vec3::ZERO, &mut found), [0]);
-    /// assert_eq!(found.reads, 2); // a tree record and a node record
-    /// # Ok::<(), bounds::Refusal>(())
-    /// ```
-    #[inline]
-    pub fn candidates_into<'a>(&self, min: Vec3, max: Vec3, found: &'a mut Found) -> &'a [usize] {
-        self.records.find(min, max, found, |position| Some(self.place(position)));
-        &found.places
+    pub fn candidates(&self, min: Vec3, max: Vec3) -> Candidates {
+        let records = self.records();
+        let mut positions = vec![0; records.items_count];
+        let BuiltTree { bb_center, quantum_inverse, .. } = self.built;
+        let Counts { reads, handed } = walk(min, max, bb_center, quantum_inverse, &records, &mut positions)
+            .expect("proved: a walk over a build is refused only for a short output");
+        positions.truncate(handed);
+        Candidates { places: positions.into_iter().map(|position| self.place(position)).collect(), reads }
     }
 
     /// The 128 bytes of its header, its records being at these addresses.
@@ -248,7 +221,10 @@ impl Tree {
     /// # Ok::<(), bounds::Refusal>(())
     /// ```
     pub fn header(&self, at: Addresses) -> [u8; HEADER] {
-        self.records.header(at).expect("a tree has at most 65,535 ranges, and the buffer a header's bytes")
+        let mut header = [0; HEADER];
+        tree_header(&mut header, &self.built.bvh(at.nodes, at.trees))
+            .expect("a build has at most 32,767 trees, and the buffer its bytes");
+        header
     }
 
     /// Whether the list meets the premises under which a query misses no item.
@@ -298,7 +274,33 @@ impl Tree {
     /// # Ok::<(), bounds::Refusal>(())
     /// ```
     pub fn built(&self) -> &BuiltTree {
-        &self.records.built
+        &self.built
+    }
+
+    /// Its nodes in preorder, without the padding.
+    ///
+    /// ```
+    /// # use bounds::{BvhItem, Tree, Vec3};
+    /// let unit = BvhItem::new(Vec3::ZERO, Vec3::new(1.0, 1.0, 1.0));
+    /// let tree = Tree::build(&[unit, unit], 1)?;
+    /// assert!(tree.nodes().map(|node| (node.item_id, node.item_count)).eq([(3, 0), (0, 1), (1, 1)]));
+    /// # Ok::<(), bounds::Refusal>(())
+    /// ```
+    pub fn nodes(&self) -> impl ExactSizeIterator<Item = BvhNode> + '_ {
+        records(&self.node_bytes).take(self.built.nodes_count as usize).map(BvhNode::read)
+    }
+
+    /// Its trees: the ranges of nodes, at most 127 each.
+    ///
+    /// ```
+    /// # use bounds::{BvhItem, Tree, Vec3};
+    /// let unit = BvhItem::new(Vec3::ZERO, Vec3::new(1.0, 1.0, 1.0));
+    /// let tree = Tree::build(&[unit; 65], 1)?; // 129 nodes: node 0 is in no range
+    /// assert!(tree.trees().map(|range| (range.node_index1, range.node_index2)).eq([(1, 66), (66, 129)]));
+    /// # Ok::<(), bounds::Refusal>(())
+    /// ```
+    pub fn trees(&self) -> impl ExactSizeIterator<Item = BvhTree> + '_ {
+        records(&self.tree_bytes).map(BvhTree::read)
     }
 
     /// The places in the list of a node's items: of a leaf of this tree those that it holds, of an inner node none.
@@ -311,7 +313,9 @@ impl Tree {
     /// # Ok::<(), bounds::Refusal>(())
     /// ```
     pub fn held(&self, node: &BvhNode) -> Vec<usize> {
-        self.positions(node).map(|position| self.place(position as u16)).collect()
+        let (first, count) = (node.item_id.max(0) as usize, node.item_count.max(0) as usize);
+        let positions = first..(first + count).min(self.records().items_count); // a record may be another tree's
+        positions.map(|position| self.place(position as u16)).collect()
     }
 
     /// Its node records with the padding, 16 bytes each.
@@ -321,7 +325,7 @@ impl Tree {
     /// # Ok::<(), bounds::Refusal>(())
     /// ```
     pub fn node_bytes(&self) -> &[u8] {
-        &self.records.node_bytes
+        &self.node_bytes
     }
 
     /// Its tree records, 16 bytes each.
@@ -331,7 +335,7 @@ impl Tree {
     /// # Ok::<(), bounds::Refusal>(())
     /// ```
     pub fn tree_bytes(&self) -> &[u8] {
-        &self.records.tree_bytes
+        &self.tree_bytes
     }
 
     /// The order list: at threshold 1 the present places, rising; above it the places of the items leaf after leaf.
@@ -343,7 +347,27 @@ impl Tree {
     /// # Ok::<(), bounds::Refusal>(())
     /// ```
     pub fn order(&self) -> &[u16] {
-        &self.records.order
+        &self.order
+    }
+
+    /// Its records as the lent form of the walk takes them.
+    ///
+    /// ```
+    /// # use bounds::{BvhItem, Tree};
+    /// let here = BvhItem { present: 1, ..BvhItem::ABSENT };
+    /// let (one, four) = (Tree::build(&[BvhItem::ABSENT, here], 1)?, Tree::build(&[BvhItem::ABSENT, here], 4)?);
+    /// assert_eq!((one.records().items_count, four.records().items_count), (2, 1));
+    /// # Ok::<(), bounds::Refusal>(())
+    /// ```
+    pub fn records(&self) -> Records<'_> {
+        let items_count = if self.threshold == 1 { self.items.len() } else { self.order.len() };
+        Records {
+            node_bytes: &self.node_bytes,
+            nodes_count: self.built.nodes_count as usize,
+            tree_bytes: &self.tree_bytes,
+            trees_count: self.built.trees_count as usize,
+            items_count,
+        }
     }
 
     /// The place of the item at a position: at threshold 1 they are the same.
@@ -351,7 +375,12 @@ impl Tree {
         if self.threshold == 1 {
             position as usize
         } else {
-            self.records.order[position as usize] as usize
+            self.order[position as usize] as usize
         }
     }
+}
+
+/// Bytes as whole records.
+pub(crate) fn records(bytes: &[u8]) -> impl ExactSizeIterator<Item = &[u8; RECORD]> {
+    bytes.chunks_exact(RECORD).map(|record| record.try_into().expect("a chunk has a record's length"))
 }

@@ -18,59 +18,6 @@ pub struct Vec3 {
     pub z: f32,
 }
 
-/// ```
-/// # use bounds::Vec3;
-/// let corners = [[0.0, 0.0, 1.0], [2.0, 3.0, 4.0]].map(Vec3::from);
-/// assert_eq!(corners[1], Vec3::new(2.0, 3.0, 4.0));
-/// ```
-impl From<[f32; 3]> for Vec3 {
-    #[inline]
-    fn from([x, y, z]: [f32; 3]) -> Vec3 {
-        Vec3 { x, y, z }
-    }
-}
-
-/// ```
-/// # use bounds::Vec3;
-/// let words = <[f32; 3]>::from(Vec3::new(1.0, -0.0, 2.0)).map(f32::to_bits);
-/// assert_eq!(words, [0x3F80_0000, 0x8000_0000, 0x4000_0000]);
-/// ```
-impl From<Vec3> for [f32; 3] {
-    #[inline]
-    fn from(Vec3 { x, y, z }: Vec3) -> [f32; 3] {
-        [x, y, z]
-    }
-}
-
-/// By the axis: 0 is x, 1 is y, 2 is z.
-///
-/// ```
-/// # use bounds::Vec3;
-/// let (low, high) = (Vec3::ZERO, Vec3::new(1.0, 5.0, 2.0));
-/// let longest = (0..3).max_by(|&a, &b| (high[a] - low[a]).total_cmp(&(high[b] - low[b])));
-/// assert_eq!(longest, Some(1));
-/// ```
-impl std::ops::Index<usize> for Vec3 {
-    type Output = f32;
-    #[inline]
-    fn index(&self, axis: usize) -> &f32 {
-        [&self.x, &self.y, &self.z][axis]
-    }
-}
-
-/// ```
-/// # use bounds::Vec3;
-/// let mut point = Vec3::ZERO;
-/// point[2] = 4.0;
-/// assert_eq!(point, Vec3::new(0.0, 0.0, 4.0));
-/// ```
-impl std::ops::IndexMut<usize> for Vec3 {
-    #[inline]
-    fn index_mut(&mut self, axis: usize) -> &mut f32 {
-        [&mut self.x, &mut self.y, &mut self.z][axis]
-    }
-}
-
 /// A point with its fourth coordinate.
 ///
 /// ```

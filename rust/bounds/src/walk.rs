@@ -104,18 +104,7 @@ pub fn walk(
     records: &Records,
     out: &mut [u16],
 ) -> Result<Counts, Refused> {
-    let &Records { node_bytes, nodes_count, tree_bytes, trees_count, items_count } = records;
-    let answer = ffi::bounds_walk(
-        ffi::Aabb { min, max },
-        bb_center,
-        quantum_inverse,
-        node_bytes,
-        nodes_count,
-        tree_bytes,
-        trees_count,
-        items_count,
-        out,
-    );
+    let answer = ffi::walk(ffi::Aabb { min, max }, bb_center, quantum_inverse, records, out);
     let counts = Counts { reads: answer.reads, handed: answer.handed };
     match Refusal::check(answer.refusal) {
         Ok(()) => Ok(counts),

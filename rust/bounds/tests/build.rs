@@ -19,14 +19,9 @@ impl Tree {
 }
 
 fn build(items: &[BvhItem], threshold: u32) -> Result<Tree, Refusal> {
-    build_short(items, threshold, [0; 4])
-}
-
-/// In buffers (nodes, trees, order, work) that are by so much too short. A refusal changes none but the last.
-fn build_short(items: &[BvhItem], threshold: u32, short: [usize; 4]) -> Result<Tree, Refusal> {
     let n = items.len();
-    let (mut nodes, mut trees) = (vec![0xA5; records_len(n) - short[0]], vec![0xA5; records_len(n) - short[1]]);
-    let (mut order, mut work) = (vec![0xA5A5; n - short[2]], vec![0xA5A5_A5A5; work_len(n) - short[3]]);
+    let (mut nodes, mut trees) = (vec![0xA5; records_len(n)], vec![0xA5; records_len(n)]);
+    let (mut order, mut work) = (vec![0xA5A5; n], vec![0xA5A5_A5A5; work_len(n)]);
     match build_bvh(items, threshold, &mut nodes, &mut trees, &mut order, &mut work) {
         Ok(built) => Ok(Tree { built, nodes, trees, order }),
         Err(refusal) => {
@@ -123,8 +118,14 @@ fn a_copied_nan_keeps_its_bits() {
 
 #[test]
 fn refusals_come_in_their_order() {
-    let refused =
-        |n: usize, threshold: u32, short: [usize; 4]| build_short(&row(n), threshold, short).err().map(Refusal::number);
+    let refused = |n: usize, threshold: u32, short: [usize; 4]| {
+        let (mut nodes, mut trees) = (vec![7; records_len(n) - short[0]], vec![7; records_len(n) - short[1]]);
+        let (mut order, mut work) = (vec![7; n - short[2]], vec![0; work_len(n) - short[3]]);
+        let answer = build_bvh(&row(n), threshold, &mut nodes, &mut trees, &mut order, &mut work);
+        let untouched = |bytes: &[u8]| bytes.iter().all(|&b| b == 7);
+        assert!(answer.is_ok() || untouched(&nodes) && untouched(&trees) && order.iter().all(|&p| p == 7));
+        answer.err().map(Refusal::number)
+    };
     assert_eq!(refused(32_768, 0, [1; 4]), Some(1));
     assert_eq!(refused(32_767, 0, [1; 4]), Some(3));
     assert_eq!(refused(16_385, 32_768, [1; 4]), Some(3));

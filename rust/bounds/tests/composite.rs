@@ -2,7 +2,7 @@
 
 use bounds::bvh::{records_len, work_len};
 use bounds::composite::{child_boxes, composite_tree};
-use bounds::walk::walk;
+use bounds::walk::{walk, Records};
 use bounds::{Child, Composite, Mat4, Refusal, Vec3};
 
 /// A unit cube, so far away on x.
@@ -31,10 +31,16 @@ fn a_walk_hands_out_the_places_of_children() {
     let mut children = row(100);
     children[7] = Child::ABSENT;
     let tree = Composite::prepare(&children).expect("100 children").tree.expect("a tree");
+    let records = Records {
+        node_bytes: &tree.node_bytes,
+        nodes_count: tree.built.nodes_count as usize,
+        tree_bytes: &tree.tree_bytes,
+        trees_count: tree.built.trees_count as usize,
+        items_count: children.len(),
+    };
     let (low, high) = (Vec3::new(20.5, 0.5, 0.5), Vec3::new(40.5, 0.5, 0.5));
     let mut out = vec![0; 100];
-    let counts =
-        walk(low, high, tree.built.bb_center, tree.built.quantum_inverse, &tree.records(), &mut out).expect("a walk");
+    let counts = walk(low, high, tree.built.bb_center, tree.built.quantum_inverse, &records, &mut out).expect("a walk");
     let mut places = out[..counts.handed].to_vec();
     places.sort();
     assert_eq!(places, [5, 6, 8, 9, 10]);

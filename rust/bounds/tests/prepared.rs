@@ -1,7 +1,6 @@
 //! What was prepared, asked by places: a grid of triangles and every other kind of polygon, both kinds of geometry.
 
 use bounds::prepare::{GivenPolygon, PolygonPlace};
-use bounds::tree::TreeRecords;
 use bounds::walk::walk;
 use bounds::{BoundMaterial, Geometry, Polygon, Prepared, Vec3};
 
@@ -80,18 +79,16 @@ fn candidates_are_what_the_lent_walk_hands_out() {
     for i in 0..40 {
         let min = Vec3::new((i % 13) as f32, (i / 4) as f32, -1.0);
         let max = Vec3::new(min.x + 0.5, min.y + 0.5, 1.0);
-        let found = tree.candidates(min, max);
+        let found = tree.candidates(min, max).expect("not refused");
         let mut out = vec![0; prepared.places().len()];
         let (center, inverse) = (tree.built.bb_center, tree.built.quantum_inverse);
         let counts = walk(min, max, center, inverse, &tree.records(), &mut out).expect("not refused");
         assert_eq!(counts.reads, found.reads);
-        assert!(found.places.iter().map(|place| place.0).eq(out[..counts.handed].iter().map(|&k| k as usize)));
+        assert!(found.polygons.iter().map(|place| place.0).eq(out[..counts.handed].iter().map(|&k| k as usize)));
         for place in prepared.places() {
             let (low, high) = geometry.polygons[prepared.given(place).expect("given").0].bbox(&geometry.vertices);
             let meets = low.x <= max.x && min.x <= high.x && low.y <= max.y && min.y <= high.y;
-            assert!(!meets || found.places.contains(&place), "within the premises nothing is missed");
-            let met = meets && low.z <= max.z && min.z <= high.z;
-            assert_eq!(tree.query(min, max).contains(&place), met, "as floats");
+            assert!(!meets || found.polygons.contains(&place), "within the premises nothing is missed");
         }
     }
 }
@@ -110,10 +107,10 @@ fn leaves_hold_every_polygon_once() {
 /// Bytes that nobody prepared are refused, not trusted.
 #[test]
 fn a_damaged_tree_is_refused() {
-    let (_, prepared) = prepared(Geometry::BVH);
-    let mut records: TreeRecords = (*prepared.bvh.expect("a tree")).clone();
-    records.tree_bytes[13] = 0x80; // a first node below 0
+    let (_, mut prepared) = prepared(Geometry::BVH);
+    let tree = prepared.bvh.as_mut().expect("a tree");
+    tree.tree_bytes[13] = 0x80; // a first node below 0
     let everywhere = (Vec3::new(-1e9, -1e9, -1e9), Vec3::new(1e9, 1e9, 1e9));
-    let refused = records.walk(everywhere.0, everywhere.1, &mut Vec::new()).expect_err("refused");
+    let refused = tree.candidates(everywhere.0, everywhere.1).expect_err("refused");
     assert_eq!(refused.refusal, bounds::Refusal::TreeRange);
 }

@@ -3,46 +3,50 @@
 use crate::lent::Lent;
 use crate::lists::{fixed, Case, Lists};
 use crate::operation::made;
-use crate::report::{Cases, Line, Refusals};
+use crate::report::{Line, Progress};
 use bounds::bvh::{records_len, work_len};
-use bounds::tree::TreeRecords;
-use bounds::{build_bvh, BuiltTree, Refusal};
-use oracle::tree;
+use bounds::{build_bvh, BuiltTree, BvhItem, Vec3};
+use oracle::tree::{self, Built};
+use oracle::Aabb;
 
 /// What was answered: how often each refusal, how many trees, and the deepest of them.
 #[derive(Default)]
-struct Reached {
-    refusals: Refusals,
+pub struct Reached {
+    refusals: [u64; 5],
     long: u64,
-    nodes: u32,
+    nodes: usize,
     levels: usize,
 }
 
 impl Reached {
-    fn note(&mut self, case: &Case, answer: &Result<TreeRecords, Refusal>) {
-        self.refusals.note(answer);
-        if let Ok(tree) = answer {
-            self.nodes = self.nodes.max(tree.built.nodes_count);
-            if case.items.len() > 500 {
-                self.levels = self.levels.max(levels(tree));
+    fn note(&mut self, case: &Case, answer: &Result<Built, u32>) {
+        match answer {
+            Err(number) => self.refusals[*number as usize] += 1,
+            Ok(built) => {
+                self.refusals[0] += 1;
+                self.nodes = self.nodes.max(built.nodes_count);
+                if case.items.len() > 500 {
+                    self.levels = self.levels.max(levels(built));
+                }
             }
         }
         self.long += (case.items.len() > 1_000) as u64;
     }
 
     fn lines(&self) -> Vec<String> {
-        let built = format!("built: {}", self.refusals.none());
+        let refused = (1..5).map(|number| format!("refused {number}: {}", self.refusals[number]));
+        let built = format!("built: {}", self.refusals[0]);
         let most = format!("lists of over 1,000 entries: {}", self.long);
         let deepest = format!("largest tree: {} nodes; deepest: {} levels", self.nodes, self.levels);
-        self.refusals.lines(&[1, 2, 3, 4]).chain([built, most, deepest]).collect()
+        refused.chain([built, most, deepest]).collect()
     }
 }
 
 /// Levels below the root, of preorder records.
-fn levels(tree: &TreeRecords) -> usize {
+fn levels(built: &Built) -> usize {
     let mut ends: Vec<usize> = Vec::new();
     let mut deepest = 0;
-    for (at, node) in tree.nodes().enumerate() {
+    for (at, node) in built.nodes[..built.nodes_count].iter().enumerate() {
         while ends.last().is_some_and(|&end| end <= at) {
             ends.pop();
         }
@@ -56,113 +60,105 @@ fn levels(tree: &TreeRecords) -> usize {
 
 /// The fixed lists, then random ones up to `cases` in all.
 pub fn run(seed: u64, cases: u64) -> Line {
-    let (mut reached, mut lists) = (Reached::default(), Lists::new(seed));
-    let asked = |case: &Case, done: u64| {
-        let theirs = expected(case);
-        reached.note(case, &theirs);
-        differs(case, &theirs, seed ^ done << 20)
+    let fixed = fixed();
+    let total = cases.max(fixed.len() as u64);
+    let mut progress = Progress::new("build", total);
+    let (mut reached, mut mismatches, mut first) = (Reached::default(), 0, None);
+    let mut ask = |case: Case, lent: u64| {
+        let theirs = expected(&case);
+        reached.note(&case, &theirs);
+        if differs(&case, &theirs, lent).is_err() {
+            mismatches += 1;
+            first.get_or_insert(case);
+        }
     };
-    let shrunk = |case, _| describe(&shrink(case, |c| differs(c, &expected(c), seed).is_err()), seed);
-    let line = Cases::new("build", cases, fixed()).compared(|_| lists.case(), asked, |case| case.items.len(), shrunk);
-    line.reaching(reached.lines())
-}
-
-/// The buffers of a build, each by how much it differs from what so many entries need: nodes, trees, order and work.
-#[derive(Clone, Copy, Debug)]
-pub struct Room {
-    entries: usize,
-    slack: [isize; 4],
-}
-
-impl Room {
-    pub fn new(entries: usize, slack: [isize; 4]) -> Room {
-        Room { entries, slack }
+    let already = fixed.len() as u64;
+    for case in fixed {
+        ask(case, seed);
     }
-
-    /// Whether any of them is too short.
-    pub fn is_short(&self) -> bool {
-        self.lengths().iter().zip(needed(self.entries)).any(|(&lent, needed)| lent < needed)
+    let mut lists = Lists::new(seed);
+    for done in already..total {
+        ask(lists.case(), seed ^ done << 20);
+        if done % 256 == 0 {
+            progress.at(done);
+        }
     }
-
-    fn lengths(&self) -> [usize; 4] {
-        let needed = needed(self.entries);
-        std::array::from_fn(|i| needed[i].saturating_add_signed(self.slack[i]))
-    }
-
-    /// A tree that is built in them, held to what is expected; `None` where none is. Its box is copied, and `of_box` is what
-    /// counts of its floats. Without a tree no buffer is touched, and after a refusal none but the work buffer.
-    pub fn differs(
-        &self,
-        build: impl FnOnce(&mut [u8], &mut [u8], &mut [u16], &mut [u32]) -> Result<Option<BuiltTree>, Refusal>,
-        theirs: Result<Option<&TreeRecords>, Refusal>,
-        of_box: fn(f32) -> u32,
-        seed: u64,
-    ) -> Result<(), String> {
-        let [nodes, trees, order, work] = self.lengths();
-        let (mut nodes, mut trees) = (Lent::<u8>::new(nodes, seed), Lent::<u8>::new(trees, seed ^ 1));
-        let (mut order, mut work) = (Lent::<u16>::new(order, seed ^ 2), Lent::<u32>::new(work, seed ^ 3));
-        let answer = build(nodes.buffer(), trees.buffer(), order.buffer(), work.buffer());
-        work.check_guards().map_err(|e| format!("work buffer: {e}"))?;
-        let (node_bytes, tree_bytes, places): (&[u8], &[u8], &[u16]) = match (&answer, theirs) {
-            (Ok(Some(ours)), Ok(Some(theirs))) => {
-                values(ours, &theirs.built, of_box)?;
-                (&theirs.node_bytes, &theirs.tree_bytes, &theirs.order)
-            }
-            (Ok(None), Ok(None)) => {
-                work.check(&[]).map_err(|why| format!("work buffer: {why}"))?;
-                (&[], &[], &[])
-            }
-            (Err(ours), Err(theirs)) if *ours == theirs => (&[], &[], &[]),
-            (ours, theirs) => {
-                let theirs = theirs.map(|tree| tree.map(|tree| tree.built));
-                return Err(format!("tree: {ours:?}, expected {theirs:?}"));
-            }
-        };
-        nodes.check(node_bytes).map_err(|e| format!("node buffer: {e}"))?;
-        trees.check(tree_bytes).map_err(|e| format!("tree buffer: {e}"))?;
-        order.check(places).map_err(|e| format!("order list: {e}"))
-    }
+    progress.end(mismatches);
+    let smallest = first.map(|case| describe(&shrink(case, |c| differs(c, &expected(c), seed).is_err()), seed));
+    Line { operation: "build".to_string(), cases: total, mismatches, smallest, reached: reached.lines() }
 }
 
 /// Bytes, bytes, places and words that the buffers have to have.
-fn needed(entries: usize) -> [usize; 4] {
+pub(crate) fn needed(entries: usize) -> [usize; 4] {
     [records_len(entries), records_len(entries), entries, work_len(entries)]
 }
 
+fn lengths(case: &Case) -> [usize; 4] {
+    let needed = needed(case.items.len());
+    std::array::from_fn(|i| needed[i].saturating_add_signed(case.slack[i]))
+}
+
 /// The reference's answer, and refusal 2, which it has not: after 1 and 3, before 4.
-fn expected(case: &Case) -> Result<TreeRecords, Refusal> {
+fn expected(case: &Case) -> Result<Built, u32> {
     let n = case.items.len();
+    let short = lengths(case).iter().zip(needed(n)).any(|(&lent, needed)| lent < needed);
     let later = n > tree::LIMIT || !(1..=tree::LIMIT as u32).contains(&case.threshold);
-    if case.room().is_short() && !later {
-        return Err(Refusal::BufferTooShort);
+    if short && !later {
+        return Err(2);
     }
-    tree::build(&case.items, case.threshold)
+    tree::build(&case.items, case.threshold as usize).map_err(|refused| refused.0 as u32)
 }
 
 /// `Err` with the first thing that is not the same.
-fn differs(case: &Case, theirs: &Result<TreeRecords, Refusal>, seed: u64) -> Result<(), String> {
-    let build = |nodes: &mut [u8], trees: &mut [u8], order: &mut [u16], work: &mut [u32]| {
-        build_bvh(&case.items, case.threshold, nodes, trees, order, work).map(Some)
+fn differs(case: &Case, theirs: &Result<Built, u32>, seed: u64) -> Result<(), String> {
+    let [nodes, trees, order, work] = lengths(case);
+    let mut nodes = Lent::<u8>::new(nodes, seed);
+    let mut trees = Lent::<u8>::new(trees, seed ^ 1);
+    let mut order = Lent::<u16>::new(order, seed ^ 2);
+    let mut work = Lent::<u32>::new(work, seed ^ 3);
+    let items: Vec<BvhItem> = case.items.iter().copied().map(ours).collect();
+    let (n, t, o, w) = (nodes.buffer(), trees.buffer(), order.buffer(), work.buffer());
+    let answer = build_bvh(&items, case.threshold, n, t, o, w);
+    work.check_guards().map_err(|e| format!("work buffer: {e}"))?;
+    let (node_bytes, tree_bytes, places): (&[u8], &[u8], Vec<u16>) = match (&answer, theirs) {
+        (Ok(ours), Ok(theirs)) => {
+            values(ours, theirs, case.items.iter().flatten().count(), f32::to_bits)?;
+            (&theirs.node_bytes, &theirs.tree_bytes, theirs.order.iter().map(|&place| place as u16).collect())
+        }
+        (Err(ours), Err(theirs)) if ours.number() == *theirs => (&[], &[], Vec::new()),
+        (ours, Err(theirs)) => return Err(format!("expected refusal {theirs}, got {ours:?}")),
+        (Err(ours), Ok(_)) => return Err(format!("expected a tree, got {ours}")),
     };
-    case.room().differs(build, theirs.as_ref().map(Some).map_err(|&refusal| refusal), f32::to_bits, seed)
+    nodes.check(node_bytes).map_err(|e| format!("node buffer: {e}"))?;
+    trees.check(tree_bytes).map_err(|e| format!("tree buffer: {e}"))?;
+    order.check(&places).map_err(|e| format!("order list: {e}"))
 }
 
-/// The values of a tree. The box is copied from theirs, and `of_box` is what counts of its floats: all bits, where they were
-/// given. The rest was made: any NaN is one.
-pub(crate) fn values(ours: &BuiltTree, theirs: &BuiltTree, of_box: fn(f32) -> u32) -> Result<(), String> {
-    let counts = |b: &BuiltTree| [b.nodes_count, b.nodes_capacity, b.trees_count, b.items_count];
-    if counts(ours) != counts(theirs) {
-        return Err(format!("nodes, capacity, trees, items: {:?}, expected {:?}", counts(ours), counts(theirs)));
+pub(crate) fn ours(item: Option<Aabb>) -> BvhItem {
+    BvhItem::from(item.map(|b| [vec3(b.min), vec3(b.max)]))
+}
+
+pub(crate) fn vec3(p: [f32; 3]) -> Vec3 {
+    Vec3::new(p[0], p[1], p[2])
+}
+
+/// The values of a tree over so many present items. The box is copied from theirs, and `of_box` is what counts of its floats:
+/// all bits, where they were given. The rest was made: any NaN is one.
+pub(crate) fn values(ours: &BuiltTree, theirs: &Built, present: usize, of_box: fn(f32) -> u32) -> Result<(), String> {
+    let counts = [ours.nodes_count, ours.nodes_capacity, ours.trees_count, ours.items_count];
+    let expected = [theirs.nodes_count, theirs.nodes.len(), theirs.trees.len(), present];
+    if counts.map(|n| n as usize) != expected {
+        return Err(format!("nodes, capacity, trees, items: {counts:?}, expected {expected:?}"));
     }
     let floats = [
-        ("min", ours.bb_min, theirs.bb_min, of_box),
-        ("max", ours.bb_max, theirs.bb_max, of_box),
-        ("cen", ours.bb_center, theirs.bb_center, made),
-        ("inverse", ours.quantum_inverse, theirs.quantum_inverse, made),
+        ("min", ours.bb_min, theirs.min, of_box),
+        ("max", ours.bb_max, theirs.max, of_box),
+        ("cen", ours.bb_center, theirs.cen, made),
+        ("inverse", ours.quantum_inverse, theirs.inverse, made),
         ("quantum", ours.quantum, theirs.quantum, made),
     ];
-    for (name, ours, theirs, word) in floats {
-        let (ours, theirs) = (<[f32; 3]>::from(ours).map(word), <[f32; 3]>::from(theirs).map(word));
+    for (name, ours, [x, y, z, _], word) in floats {
+        let (ours, theirs) = ([ours.x, ours.y, ours.z].map(word), [x, y, z].map(word));
         if ours != theirs {
             return Err(format!("{name}: {ours:08X?}, expected {theirs:08X?}"));
         }
@@ -178,9 +174,8 @@ fn describe(case: &Case, seed: u64) -> String {
 pub(crate) fn describe_list(case: &Case) -> String {
     let mut out = format!("threshold {}, {} entries (min, then max, in words)", case.threshold, case.items.len());
     for item in case.items.iter().take(20) {
-        let words = [item.min, item.max].map(<[f32; 3]>::from).concat();
-        let words: Vec<String> = words.into_iter().map(|x| format!("{:08X}", x.to_bits())).collect();
-        out += &format!("\n    {}", if item.present == 0 { "absent".to_string() } else { words.join(" ") });
+        let words = |b: &Aabb| b.min.iter().chain(&b.max).map(|x| format!("{:08X}", x.to_bits())).collect::<Vec<_>>();
+        out += &format!("\n    {}", item.as_ref().map_or("absent".to_string(), |b| words(b).join(" ")));
     }
     out
 }
@@ -205,10 +200,7 @@ pub(crate) fn shrink(mut case: Case, fails: impl Fn(&Case) -> bool) -> Case {
         for axis in 0..6 {
             for plain in [0.0, 1.0] {
                 let mut less = case.clone();
-                let b = &mut less.items[at];
-                if b.present == 0 {
-                    continue;
-                }
+                let Some(b) = &mut less.items[at] else { continue };
                 let corner = if axis < 3 { &mut b.min } else { &mut b.max };
                 corner[axis % 3] = plain;
                 if fails(&less) {
@@ -224,34 +216,34 @@ pub(crate) fn shrink(mut case: Case, fails: impl Fn(&Case) -> bool) -> Case {
 #[cfg(test)]
 mod tests {
     use super::*;
-    use crate::report::needs_reference;
-    use bounds::{BvhItem, Vec3};
-
-    fn cube(min: f32, max: f32) -> BvhItem {
-        BvhItem::new([min; 3].into(), [max; 3].into())
-    }
 
     #[test]
     fn a_failing_list_shrinks_to_what_fails() {
-        let items = (0..50).map(|i| cube(i as f32, i as f32 + 1.0)).collect();
-        let fails = |c: &Case| c.items.iter().any(|b| b.min.y == 37.0);
+        let at = |x: f32| Some(Aabb { min: [x; 3], max: [x + 1.0; 3] });
+        let items = (0..50).map(|i| at(i as f32)).collect();
+        let fails = |c: &Case| c.items.iter().flatten().any(|b| b.min[1] == 37.0);
         let small = shrink(Case::exact(items, 1), fails);
-        assert_eq!(small.items, [BvhItem::new(Vec3::new(0.0, 37.0, 0.0), Vec3::ZERO)]);
+        assert_eq!(small.items, [Some(Aabb { min: [0.0, 37.0, 0.0], max: [0.0; 3] })]);
     }
 
     #[test]
     fn a_wrong_answer_is_found() {
-        needs_reference!();
-        let case = Case::exact(vec![cube(0.0, 1.0), BvhItem::ABSENT, cube(2.0, 3.0)], 1);
+        if let Some(why) = oracle::missing() {
+            eprintln!("a_wrong_answer_is_found is left out: {why}");
+            return;
+        }
+        let items =
+            vec![Some(Aabb { min: [0.0; 3], max: [1.0; 3] }), None, Some(Aabb { min: [2.0; 3], max: [3.0; 3] })];
+        let case = Case::exact(items, 1);
         let right = expected(&case);
         assert_eq!(differs(&case, &right, 1), Ok(()));
         let mut wrong = right.clone().expect("two boxes");
         wrong.node_bytes[40] ^= 1;
         assert!(differs(&case, &Ok(wrong), 1).is_err_and(|e| e.starts_with("node buffer")));
         let mut wrong = right.expect("two boxes");
-        wrong.built.bb_min.x = -0.0;
+        wrong.min[0] = -0.0;
         assert!(differs(&case, &Ok(wrong), 1).is_err_and(|e| e.starts_with("min")));
-        assert!(differs(&case, &Err(Refusal::TooManyNodes), 1).is_err());
+        assert!(differs(&case, &Err(4), 1).is_err());
         let short = Case { slack: [0, 0, 0, -1], ..case };
         assert_eq!(differs(&short, &expected(&short), 1), Ok(()));
     }

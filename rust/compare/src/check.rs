@@ -2,7 +2,7 @@
 
 use crate::inputs::{hard, Input, Inputs, CORE};
 use crate::operation::Operation;
-use crate::report::{Cases, Line};
+use crate::report::{Line, Progress};
 
 /// The hard cases of a shape: all of them for one or two inputs; for three, those of the core; else each hard word in
 /// each place, the others being small whole numbers.
@@ -49,16 +49,30 @@ fn one_at_a_time(words: &[Vec<u32>]) -> Vec<Vec<u32>> {
 
 /// The hard cases, then random ones up to `cases` in all.
 pub fn run(op: &Operation, seed: u64, cases: u64) -> Line {
+    let hard = hard_cases(op.shape);
+    let total = cases.max(hard.len() as u64);
+    let (mut mismatches, mut first) = (0, None);
+    let mut progress = Progress::new(op.name, total);
+    let mut ask = |case: &[u32]| {
+        if differs(op, case) {
+            mismatches += 1;
+            first.get_or_insert_with(|| case.to_vec());
+        }
+    };
+    hard.iter().for_each(|case| ask(case));
     // Each operation has its own inputs, so that adding one does not change the others'.
     let mut inputs = Inputs::new(seed ^ hash(op.name));
-    let next = |spent: Option<Vec<u32>>| {
-        let mut case = spent.unwrap_or_else(|| vec![0; op.shape.len()]);
+    let mut case = vec![0; op.shape.len()];
+    for done in hard.len() as u64..total {
         inputs.fill(op.shape, &mut case);
-        case
-    };
-    let asked = |case: &Vec<u32>, _| if differs(op, case) { Err(String::new()) } else { Ok(()) };
-    let shrunk = |case, _| describe(op, &shrink(op.shape, case, |c| differs(op, c)));
-    Cases::new(op.name, cases, hard_cases(op.shape)).compared(next, asked, |_| 0, shrunk)
+        ask(&case);
+        if done % 4096 == 0 {
+            progress.at(done);
+        }
+    }
+    progress.end(mismatches);
+    let smallest = first.map(|case| describe(op, &shrink(op.shape, case, |c| differs(op, c))));
+    Line { operation: op.name.to_string(), cases: total, mismatches, smallest, reached: Vec::new() }
 }
 
 fn differs(op: &Operation, case: &[u32]) -> bool {

@@ -1,41 +1,48 @@
 //! Composites: the children's boxes as bytes, each child's box through its transform, and the tree over these. One side's
 //! answers held to the reference's.
 
-use crate::build::Room;
+use crate::build::{needed, values};
 use crate::inputs::{Input, Inputs};
 use crate::lent::Lent;
 use crate::lists::{Lists, STYLES};
-use crate::operation::{made, made6};
+use crate::operation::made;
+use crate::proved::point;
 use crate::random::Random;
-use crate::report::{shown, Cases, Line, Refusals};
-use bounds::composite::{CHILD_BOX, WITHOUT_TREE};
-use bounds::tree::TreeRecords;
-use bounds::{BuiltTree, BvhItem, Child, Mat4, Refusal, Vec3};
-use oracle::composite::{self as reference, LIMIT};
+use crate::report::{Line, Progress};
+use bounds::composite::{Child as Ours, CHILD_BOX, WITHOUT_TREE};
+use bounds::{BuiltTree, Mat4, Vec3};
+use oracle::composite::{self as reference, Child, LIMIT};
+use oracle::geometry::IDENTITY;
+use oracle::tree::Built;
 use oracle::{math, Aabb};
 
 /// Children and the buffers of a build: nodes, trees, order, work.
-type Tree = fn(&[Child], &mut [u8], &mut [u8], &mut [u16], &mut [u32]) -> Result<Option<BuiltTree>, Refusal>;
+type Tree = fn(&[Ours], &mut [u8], &mut [u8], &mut [u16], &mut [u32]) -> Result<Option<BuiltTree>, u32>;
 
-/// What is compared.
+/// What is compared. Refusals are numbers.
 pub struct Sides {
-    pub boxes: fn(&[Child], &mut [u8]) -> Result<(), Refusal>,
-    pub computed: fn(&Child) -> Option<(Vec3, Vec3)>,
+    pub boxes: fn(&[Ours], &mut [u8]) -> Result<(), u32>,
+    pub computed: fn(&Ours) -> Option<(Vec3, Vec3)>,
     pub tree: Tree,
 }
 
 /// Children, the bytes that are lent for their boxes, and by how much the tree's buffers differ from what they need.
 #[derive(Clone, Debug)]
 pub struct Case {
-    pub children: Vec<Child>,
+    pub children: Vec<Option<Child>>,
     pub room: usize,
     pub slack: [isize; 4],
 }
 
 impl Case {
-    fn exact(children: Vec<Child>) -> Case {
+    fn exact(children: Vec<Option<Child>>) -> Case {
         let room = CHILD_BOX * children.len();
         Case { children, room, slack: [0; 4] }
+    }
+
+    fn lengths(&self) -> [usize; 4] {
+        let needed = needed(self.children.len());
+        std::array::from_fn(|i| needed[i].saturating_add_signed(self.slack[i]))
     }
 }
 
@@ -82,26 +89,23 @@ impl Composites {
         case
     }
 
-    fn children(&mut self, n: usize) -> Vec<Child> {
+    fn children(&mut self, n: usize) -> Vec<Option<Child>> {
         use Transforms::*;
         let style = self.random.pick(&STYLES);
         let transforms = self.random.pick(&[Identity, Placed, Placed, Divided, Any]);
         let boxes = self.lists.items(n, style);
-        let child = |b: BvhItem| {
-            if b.present == 0 {
-                return Child::ABSENT;
-            }
+        let mut child = |aabb| {
             let mut margin = [0];
             self.inputs.fill(&[Input::Float], &mut margin);
-            Child::new(b.min, b.max, f32::from_bits(margin[0]), self.transform(transforms))
+            Child { aabb, margin: f32::from_bits(margin[0]), transform: self.transform(transforms) }
         };
-        boxes.into_iter().map(child).collect()
+        boxes.into_iter().map(|b| b.map(&mut child)).collect()
     }
 
-    fn transform(&mut self, of: Transforms) -> Mat4 {
+    fn transform(&mut self, of: Transforms) -> [f32; 16] {
         let r = &mut self.random;
-        let mut number = || (r.unit() - 0.5) * 8.0;
-        let Mat4(mut m) = Mat4::identity();
+        let mut number = || (r.u32() as f32 / 4294967296.0 - 0.5) * 8.0;
+        let mut m = IDENTITY;
         match of {
             Transforms::Identity => {}
             Transforms::Placed => (0..15).filter(|i| i % 4 < 3).for_each(|i| m[i] = number()),
@@ -117,25 +121,25 @@ impl Composites {
                 m = words.map(f32::from_bits);
             }
         }
-        Mat4(m)
+        m
     }
 }
 
 /// Whatever the seed: those around each limit, and refusals in their order.
 fn fixed() -> Vec<Case> {
     let cube = |i: usize| {
-        let mut transform = Mat4::identity();
-        transform.0[12] = 2.0 * i as f32;
-        Child::new(Vec3::ZERO, Vec3::new(1.0, 1.0, 1.0), 0.04, transform)
+        let mut transform = IDENTITY;
+        transform[12] = 2.0 * i as f32;
+        Some(Child { aabb: Aabb { min: [0.0; 3], max: [1.0; 3] }, margin: 0.04, transform })
     };
     let row = |n: usize| (0..n).map(cube).collect::<Vec<_>>();
     let mut cases: Vec<Case> = [0, 1, 4, 5, 6, 7, 16_384, 16_385, LIMIT, LIMIT + 1].map(|n| Case::exact(row(n))).into();
     let mut one_absent = row(5);
-    one_absent.insert(2, Child::ABSENT);
+    one_absent.insert(2, None);
     cases.push(Case::exact(one_absent));
-    cases.extend([5, 6, LIMIT, LIMIT + 1].map(|n| Case::exact(vec![Child::ABSENT; n])));
+    cases.extend([5, 6, LIMIT, LIMIT + 1].map(|n| Case::exact(vec![None; n])));
     // As many as may be, of which every other one is there.
-    cases.push(Case::exact((0..LIMIT).map(|i| if i % 2 == 0 { cube(i) } else { Child::ABSENT }).collect()));
+    cases.push(Case::exact((0..LIMIT).map(|i| cube(i).filter(|_| i % 2 == 0)).collect()));
     for n in [5, 6, 16_385, LIMIT + 1] {
         for at in 0..5 {
             let mut case = Case::exact(row(n));
@@ -152,145 +156,209 @@ fn fixed() -> Vec<Case> {
 
 /// Its bytes and its tree, if there is one; refusals of each.
 struct Expected {
-    boxes: Result<Vec<u8>, Refusal>,
-    tree: Result<Option<TreeRecords>, Refusal>,
+    boxes: Result<Vec<u8>, u32>,
+    tree: Result<Option<Built>, u32>,
 }
 
 fn expected(case: &Case) -> Expected {
     let n = case.children.len();
+    let number = |refused: oracle::Refused| refused.0 as u32;
     let (boxes, tree) = match reference::composite(&case.children) {
         Ok(made) => (Ok(made.boxes), Ok(made.tree)),
-        Err(refusal) => (reference::child_boxes(&case.children), Err(refusal)),
+        Err(refused) => (reference::child_boxes(&case.children).map_err(number), Err(number(refused))),
     };
     // The reference has no buffers: 2 comes after 1, before 4.
     let within = n <= LIMIT;
-    let short = Room::new(n, case.slack).is_short();
+    let short = case.lengths().iter().zip(needed(n)).any(|(&lent, needed)| lent < needed);
     Expected {
-        boxes: if within && case.room < CHILD_BOX * n { Err(Refusal::BufferTooShort) } else { boxes },
-        tree: if within && n > WITHOUT_TREE && short { Err(Refusal::BufferTooShort) } else { tree },
+        boxes: if within && case.room < CHILD_BOX * n { Err(2) } else { boxes },
+        tree: if within && n > WITHOUT_TREE && short { Err(2) } else { tree },
     }
 }
 
 /// Any mark but 0 says present; what an absent child holds does not matter.
-fn marked(child: &Child, random: &mut Random) -> Child {
-    if child.present != 0 {
-        return Child { present: random.pick(&[1, 1, 2, 0x8000_0000, u32::MAX]), ..*child };
+fn ours(child: &Option<Child>, random: &mut Random) -> Ours {
+    match child {
+        Some(Child { aabb, margin, transform }) => {
+            let present = random.pick(&[1, 1, 2, 0x8000_0000, u32::MAX]);
+            let (box_min, box_max) = (point(aabb.min), point(aabb.max));
+            Ours { present, box_min, box_max, margin: *margin, transform: Mat4(*transform) }
+        }
+        None => {
+            let any = |_| f32::from_bits(random.u32());
+            let transform = Mat4([0; 16].map(any));
+            Ours { margin: 1.0, transform, ..Ours::ABSENT }
+        }
     }
-    let any = |_| f32::from_bits(random.u32());
-    Child { margin: 1.0, transform: Mat4([0; 16].map(any)), ..Child::ABSENT }
 }
 
 /// `Err` with the first thing that is not the same.
 fn differs(case: &Case, theirs: &Expected, sides: &Sides, seed: u64) -> Result<(), String> {
     let mut random = Random::new(seed);
-    let children: Vec<Child> = case.children.iter().map(|child| marked(child, &mut random)).collect();
+    let children: Vec<Ours> = case.children.iter().map(|child| ours(child, &mut random)).collect();
     let mut out = Lent::<u8>::new(case.room, seed);
     let answer = (sides.boxes)(&children, out.buffer());
-    if answer != theirs.boxes.as_ref().map(drop).map_err(|&refusal| refusal) {
+    if answer != theirs.boxes.as_ref().map(|_| ()).map_err(|&number| number) {
         return Err(format!("child boxes: {answer:?}, expected {:?}", theirs.boxes.as_ref().err()));
     }
     out.check(theirs.boxes.as_deref().unwrap_or_default()).map_err(|why| format!("child boxes: {why}"))?;
-    for (at, child) in children.iter().enumerate() {
-        let found = (sides.computed)(child).map(|(min, max)| made6(min, max));
-        let computed = || math::transform_box(Aabb { min: child.box_min, max: child.box_max }, &child.transform);
-        let expected = (child.present != 0).then(computed).map(|b| made6(b.min, b.max));
+    for (at, (child, given)) in children.iter().zip(&case.children).enumerate() {
+        let floats = |(min, max): (Vec3, Vec3)| [min.x, min.y, min.z, max.x, max.y, max.z].map(made);
+        let found = (sides.computed)(child).map(floats);
+        let computed = given.map(|c| math::transform_box(c.aabb, &c.transform));
+        let expected = computed.map(|b| floats((point(b.min), point(b.max))));
         if found != expected {
             return Err(format!("computed box of child {at}: {found:08X?}, expected {expected:08X?}"));
         }
     }
-    let tree = |nodes: &mut [u8], trees: &mut [u8], order: &mut [u16], work: &mut [u32]| {
-        (sides.tree)(&children, nodes, trees, order, work)
+    tree_differs(case, &children, &theirs.tree, sides.tree, seed)
+}
+
+fn tree_differs(
+    case: &Case,
+    children: &[Ours],
+    theirs: &Result<Option<Built>, u32>,
+    tree: Tree,
+    seed: u64,
+) -> Result<(), String> {
+    let [nodes, trees, order, work] = case.lengths();
+    let mut nodes = Lent::<u8>::new(nodes, seed ^ 1);
+    let mut trees = Lent::<u8>::new(trees, seed ^ 2);
+    let mut order = Lent::<u16>::new(order, seed ^ 3);
+    let mut work = Lent::<u32>::new(work, seed ^ 4);
+    let answer = tree(children, nodes.buffer(), trees.buffer(), order.buffer(), work.buffer());
+    work.check_guards().map_err(|why| format!("work buffer: {why}"))?;
+    let (node_bytes, tree_bytes, places): (&[u8], &[u8], Vec<u16>) = match (&answer, theirs) {
+        (Ok(Some(ours)), Ok(Some(theirs))) => {
+            // The computed boxes were made, and so was the box around them.
+            values(ours, theirs, case.children.iter().flatten().count(), made)?;
+            (&theirs.node_bytes, &theirs.tree_bytes, theirs.order.iter().map(|&place| place as u16).collect())
+        }
+        (Ok(None), Ok(None)) => (&[], &[], Vec::new()),
+        (Err(ours), Err(theirs)) if ours == theirs => (&[], &[], Vec::new()),
+        (ours, theirs) => {
+            let theirs = theirs.as_ref().map(|tree| tree.as_ref().map(|tree| tree.nodes_count));
+            return Err(format!("tree: {ours:?}, expected {theirs:?} nodes"));
+        }
     };
-    let theirs = theirs.tree.as_ref().map(Option::as_ref).map_err(|&refusal| refusal);
-    // The computed boxes were made, and so was the box around them.
-    Room::new(children.len(), case.slack).differs(tree, theirs, made, seed ^ 1)
+    if answer == Ok(None) {
+        work.check(&[]).map_err(|why| format!("work buffer: {why}"))?;
+    }
+    nodes.check(node_bytes).map_err(|why| format!("node buffer: {why}"))?;
+    trees.check(tree_bytes).map_err(|why| format!("tree buffer: {why}"))?;
+    order.check(&places).map_err(|why| format!("order list: {why}"))
 }
 
 /// What was answered: refusals of the bytes and of the tree, trees, and composites without one.
 #[derive(Default)]
 struct Reached {
-    boxes: Refusals,
-    trees: Refusals,
+    boxes: [u64; 5],
+    trees: [u64; 5],
     without: u64,
     absent: u64,
     with_nan: u64,
-    nodes: u32,
+    nodes: usize,
 }
 
 impl Reached {
     fn note(&mut self, case: &Case, theirs: &Expected) {
-        self.boxes.note(&theirs.boxes);
-        self.trees.note(&theirs.tree);
+        self.boxes[*theirs.boxes.as_ref().err().unwrap_or(&0) as usize] += 1;
         match &theirs.tree {
-            Ok(Some(TreeRecords { built, .. })) => {
-                self.nodes = self.nodes.max(built.nodes_count);
-                self.with_nan += (0..3).any(|axis| built.bb_min[axis].is_nan()) as u64;
-                self.absent += case.children.iter().any(|child| child.present == 0) as u64;
+            Ok(Some(tree)) => {
+                self.trees[0] += 1;
+                self.nodes = self.nodes.max(tree.nodes_count);
+                self.with_nan += tree.min[..3].iter().any(|x| x.is_nan()) as u64;
+                self.absent += case.children.iter().any(Option::is_none) as u64;
             }
             Ok(None) => self.without += 1,
-            Err(_) => {}
+            Err(number) => self.trees[*number as usize] += 1,
         }
     }
 
     fn lines(&self) -> Vec<String> {
         let Reached { boxes, trees, without, absent, with_nan, nodes } = self;
-        let of_boxes = boxes.lines(&[1, 2]).map(|line| format!("child boxes {line}"));
-        let of_trees = trees.lines(&[1, 2, 4]).map(|line| format!("trees {line}"));
-        let found = [
+        vec![
+            format!("child boxes refused 1: {}", boxes[1]),
+            format!("child boxes refused 2: {}", boxes[2]),
+            format!("trees refused 1: {}", trees[1]),
+            format!("trees refused 2: {}", trees[2]),
+            format!("trees refused 4: {}", trees[4]),
             format!("without a tree: {without}"),
-            format!("trees: {}; largest: {nodes} nodes", trees.none() - without),
+            format!("trees: {}; largest: {nodes} nodes", trees[0]),
             format!("trees with absent children: {absent}"),
             format!("trees with a NaN in their box: {with_nan}"),
-        ];
-        of_boxes.chain(of_trees).chain(found).collect()
+        ]
     }
 }
 
 /// The fixed composites, then random ones up to `cases` in all; of those that differ the shortest is shown.
 pub fn run(seed: u64, cases: u64, sides: &Sides) -> Line {
-    let (mut reached, mut composites) = (Reached::default(), Composites::new(seed));
-    let asked = |case: &Case, done: u64| {
-        let theirs = expected(case);
-        reached.note(case, &theirs);
-        differs(case, &theirs, sides, seed ^ done << 20)
-    };
-    let size = |case: &Case| case.children.len();
-    let line = Cases::new("composite", cases, fixed()).compared(|_| composites.next(), asked, size, shown);
-    line.reaching(reached.lines())
+    let mut fixed = fixed();
+    let total = cases.max(fixed.len() as u64);
+    let mut progress = Progress::new("composite", total);
+    let (mut reached, mut mismatches, mut shortest) = (Reached::default(), 0, None::<(usize, String)>);
+    let mut composites = Composites::new(seed);
+    for done in 0..total {
+        let case = fixed.pop().unwrap_or_else(|| composites.next());
+        let theirs = expected(&case);
+        reached.note(&case, &theirs);
+        if let Err(why) = differs(&case, &theirs, sides, seed ^ done << 20) {
+            mismatches += 1;
+            let len = case.children.len();
+            if shortest.as_ref().is_none_or(|(before, _)| len < *before) {
+                shortest = Some((len, format!("{why}\n  {case:?}").chars().take(4_000).collect()));
+            }
+        }
+        if done % 256 == 0 {
+            progress.at(done);
+        }
+    }
+    progress.end(mismatches);
+    let smallest = shortest.map(|(_, text)| text);
+    Line { operation: "composite".to_string(), cases: total, mismatches, smallest, reached: reached.lines() }
 }
 
 #[cfg(test)]
 mod tests {
     use super::*;
     use crate::proved::COMPOSITE;
-    use crate::report::needs_reference;
+
+    fn left_out(test: &str) -> bool {
+        oracle::missing().inspect(|why| eprintln!("{test} is left out: {why}")).is_some()
+    }
 
     #[test]
     fn composites_match_and_everything_is_reached() {
-        needs_reference!();
-        oracle::on_large_stack(|| run(1, 8_000, &COMPOSITE)).holds();
+        if left_out("composites_match_and_everything_is_reached") {
+            return;
+        }
+        let line = oracle::on_large_stack(|| run(1, 8_000, &COMPOSITE));
+        assert_eq!((line.mismatches, line.smallest), (0, None));
+        assert!(line.reached.iter().all(|what| !what.ends_with(": 0")), "{:?}", line.reached);
     }
 
     #[test]
     fn wrong_composites_are_found() {
-        needs_reference!();
+        if left_out("wrong_composites_are_found") {
+            return;
+        }
         let found = |wrong: Sides| oracle::on_large_stack(|| run(2, 2_000, &wrong)).mismatches > 0;
         assert!(!found(COMPOSITE));
-        let word_of_absent = |children: &[Child], out: &mut [u8]| {
+        let word_of_absent = |children: &[Ours], out: &mut [u8]| {
             (COMPOSITE.boxes)(children, out)?;
             out.chunks_exact_mut(CHILD_BOX).take(children.len()).for_each(|record| record[12] = 1);
             Ok(())
         };
         assert!(found(Sides { boxes: word_of_absent, ..COMPOSITE }));
-        let not_moved = |child: &Child| (child.present != 0).then_some((child.box_min, child.box_max));
+        let not_moved = |child: &Ours| (child.present != 0).then_some((child.box_min, child.box_max));
         assert!(found(Sides { computed: not_moved, ..COMPOSITE }));
         let at_five: Tree = |children, nodes, trees, order, work| match children.len() {
-            5 => (COMPOSITE.tree)(&[children, &[Child::ABSENT]].concat(), nodes, trees, order, work),
+            5 => (COMPOSITE.tree)(&[children, &[Ours::ABSENT]].concat(), nodes, trees, order, work),
             _ => (COMPOSITE.tree)(children, nodes, trees, order, work),
         };
         assert!(found(Sides { tree: at_five, ..COMPOSITE }));
         let given_boxes: Tree = |children, nodes, trees, order, work| {
-            let still = |child: &Child| Child { transform: Mat4::identity(), ..*child };
+            let still = |child: &Ours| Ours { transform: Mat4::identity(), ..*child };
             (COMPOSITE.tree)(&children.iter().map(still).collect::<Vec<_>>(), nodes, trees, order, work)
         };
         assert!(found(Sides { tree: given_boxes, ..COMPOSITE }));

@@ -1,7 +1,6 @@
 //! Inputs: words that floats go wrong on, and random ones near them and near each other.
 
 use crate::random::Random;
-use std::sync::LazyLock;
 
 /// What an input word stands for.
 #[derive(Clone, Copy, Debug, PartialEq, Eq)]
@@ -92,14 +91,6 @@ pub fn hard(input: Input) -> Vec<u32> {
     words
 }
 
-impl Random {
-    /// The word of a hard float.
-    pub fn hard(&mut self) -> u32 {
-        static FLOATS: LazyLock<Vec<u32>> = LazyLock::new(|| hard(Input::Float));
-        self.pick(&FLOATS)
-    }
-}
-
 /// How the floats of one case are spread.
 #[derive(Clone, Copy)]
 enum Spread {
@@ -164,7 +155,9 @@ impl Inputs {
             (Input::Number, Spread::Small) => (r.below(0x4_0000) as u32).wrapping_sub(0x2_0000),
             (Input::Number, _) => r.u32(),
             (Input::Float, Spread::Small) => ((r.below(33) as f32 - 16.0) * 0.5).to_bits(),
-            (Input::Float, Spread::Tame) => ((r.unit() - 0.5) * r.pick(&[2.0, 100.0, 80000.0])).to_bits(),
+            (Input::Float, Spread::Tame) => {
+                ((r.u32() as f32 / 4294967296.0 - 0.5) * r.pick(&[2.0, 100.0, 80000.0])).to_bits()
+            }
             (Input::Float, Spread::Scaled(least)) => {
                 let exponent = least + r.below(8) as u32;
                 r.u32() & 0x807F_FFFF | exponent << 23

@@ -1,20 +1,11 @@
 //! Lent buffers: filled with a pattern, guarded on both ends, and held to what may have been written.
 
-use crate::operation::made3;
-use bounds::Vec3;
-
 /// What a buffer holds.
 pub trait Cell: Copy + PartialEq + std::fmt::Debug {
     fn of(pattern: u64) -> Self;
 
     fn same(self, other: Self) -> bool {
         self == other
-    }
-
-    /// Another value.
-    #[cfg(test)]
-    fn other(self) -> Self {
-        [Self::of(0), Self::of(1)].into_iter().find(|cell| !self.same(*cell)).expect("one of two that differ")
     }
 }
 
@@ -25,19 +16,7 @@ macro_rules! cells {
         }
     })* };
 }
-cells!(u8, u16, u32);
-
-impl Cell for Vec3 {
-    /// A number: no NaN is taken for another.
-    fn of(pattern: u64) -> Vec3 {
-        let number = |bits: u64| f32::from_bits(bits as u32 & 0xBFFF_FFFF);
-        Vec3::new(number(pattern), number(pattern >> 16), number(pattern >> 32))
-    }
-
-    fn same(self, other: Vec3) -> bool {
-        made3(self) == made3(other)
-    }
-}
+cells!(u8, i8, u16, i16, u32, i32, u64);
 
 /// Cells on each side of the buffer that nobody may touch.
 const GUARD: usize = 64;
@@ -77,11 +56,10 @@ impl<T: Cell> Lent<T> {
     }
 
     /// Likewise where parts were written, each from its place on; they rise and do not overlap.
-    pub fn check_parts<P: AsRef<[T]>>(&self, written: &[(usize, P)]) -> Result<(), String> {
+    pub fn check_parts(&self, written: &[(usize, &[T])]) -> Result<(), String> {
         let len = self.cells.len() - 2 * GUARD;
         let mut from = 0;
         for (at, part) in written {
-            let part = part.as_ref();
             self.untouched(from, GUARD + at)?;
             let end = at + part.len();
             if end > len {
@@ -139,13 +117,13 @@ mod tests {
         let mut lent = Lent::<u32>::new(6, 5);
         lent.buffer()[0] = 1;
         lent.buffer()[3..5].copy_from_slice(&[2, 3]);
-        assert_eq!(lent.check_parts(&[(0, vec![1]), (2, vec![]), (3, vec![2, 3])]), Ok(()));
-        assert!(lent.check_parts(&[(0, vec![1]), (3, vec![2])]).is_err(), "a cell too many");
-        assert!(lent.check_parts(&[(0, vec![1]), (3, vec![2, 4])]).is_err());
-        assert!(lent.check_parts(&[(3, [2, 3])]).is_err(), "a cell before");
-        assert!(lent.check_parts(&[(5, [0, 0])]).is_err(), "more than was lent");
+        assert_eq!(lent.check_parts(&[(0, &[1]), (2, &[]), (3, &[2, 3])]), Ok(()));
+        assert!(lent.check_parts(&[(0, &[1]), (3, &[2])]).is_err(), "a cell too many");
+        assert!(lent.check_parts(&[(0, &[1]), (3, &[2, 4])]).is_err());
+        assert!(lent.check_parts(&[(3, &[2, 3])]).is_err(), "a cell before");
+        assert!(lent.check_parts(&[(5, &[0, 0])]).is_err(), "more than was lent");
         lent.buffer()[2] ^= 1;
-        assert!(lent.check_parts(&[(0, vec![1]), (3, vec![2, 3])]).is_err(), "a cell between");
+        assert!(lent.check_parts(&[(0, &[1]), (3, &[2, 3])]).is_err(), "a cell between");
     }
 
     #[test]

@@ -3,13 +3,12 @@
 //! - [`operation`]: the operations, each with both sides on words.
 //! - [`inputs`]: hostile and random inputs.
 //! - [`check`]: runs an operation over many inputs and shrinks a mismatch.
-//! - [`report`]: the loop over cases that every comparison runs in, and the table at the end.
 //! - [`build`], [`header`]: trees over lists of boxes, which [`lists`] makes and [`deep`] makes deep.
-//! - [`walks`]: walks over what [`records`] makes, compared with [`plain::walk`], one in plain Rust.
+//! - [`walks`]: walks over what [`records`] makes, compared with [`oracle::walk`], one in plain Rust.
 //! - [`pairs`]: builds and walks over their records, held to what [`promises`] finds by brute force, over the lists and
 //!   queries of [`queries`].
 //! - [`polygons`], [`meshes`], [`vertices`]: polygon records and boxes, materials and links, stored vertices. The tests
-//!   hold the plain steps of package `plain` against the reference too.
+//!   hold [`plain`], the same steps in plain Rust, against the reference too.
 //! - [`shrink`] and [`prepare`], over what [`shapes`] makes.
 //! - [`octants`], over what [`points`] makes, and [`composites`].
 //! - [`exhaustive`]: operations of one word over all 2^32.
@@ -31,6 +30,7 @@ pub mod meshes;
 pub mod octants;
 pub mod operation;
 pub mod pairs;
+pub mod plain;
 pub mod points;
 pub mod polygons;
 pub mod prepare;
@@ -45,3 +45,5 @@ pub mod shrink;
 pub mod vectors;
 pub mod vertices;
 pub mod walks;
+
+pub use oracle::walk;

@@ -1,74 +1,81 @@
 //! Lists of boxes to build trees of: random ones, and those that go wrong easily.
 
-use crate::build::Room;
 use crate::deep;
+use crate::inputs::{hard, Input};
 use crate::random::Random;
-use bounds::{BvhItem, Vec3};
-use std::sync::LazyLock;
+use oracle::Aabb;
 
 /// A list, a threshold, and by how much each lent buffer (nodes, trees, order, work) differs from what it needs.
 #[derive(Clone, Debug)]
 pub struct Case {
-    pub items: Vec<BvhItem>,
+    pub items: Vec<Option<Aabb>>,
     pub threshold: u32,
     pub slack: [isize; 4],
 }
 
 impl Case {
     /// All buffers as long as they have to be.
-    pub fn exact(items: Vec<BvhItem>, threshold: u32) -> Case {
+    pub fn exact(items: Vec<Option<Aabb>>, threshold: u32) -> Case {
         Case { items, threshold, slack: [0; 4] }
     }
-
-    pub fn room(&self) -> Room {
-        Room::new(self.items.len(), self.slack)
-    }
 }
 
-plain::listed! {
-    /// How the boxes of a list are made.
-    pub enum Style in STYLES {
-        /// Ordinary boxes.
-        Tame,
-        /// Small halves: many equal centres, some boxes inside out.
-        Small,
-        /// A few different boxes, repeated.
-        Few,
-        /// In a row along an axis, rising or falling.
-        Row,
-        /// Every corner of about one size, whichever it is.
-        Scaled,
-        /// Subnormal numbers and zeros.
-        Subnormal,
-        /// So large that sums overflow.
-        Large,
-        /// Ordinary boxes, now and then a hard word.
-        Spiked,
-        /// Hard words only: NaN payloads, infinities, zeros of both signs.
-        Hard,
-        /// Any bits.
-        Any,
-        /// The sum's rounding splits off a few boxes at a time (see [`deep`]).
-        Deep,
-    }
+/// How the boxes of a list are made.
+#[derive(Clone, Copy, Debug, PartialEq, Eq)]
+pub enum Style {
+    /// Ordinary boxes.
+    Tame,
+    /// Small halves: many equal centres, some boxes inside out.
+    Small,
+    /// A few different boxes, repeated.
+    Few,
+    /// In a row along an axis, rising or falling.
+    Row,
+    /// Every corner of about one size, whichever it is.
+    Scaled,
+    /// Subnormal numbers and zeros.
+    Subnormal,
+    /// So large that sums overflow.
+    Large,
+    /// Ordinary boxes, now and then a hard word.
+    Spiked,
+    /// Hard words only: NaN payloads, infinities, zeros of both signs.
+    Hard,
+    /// Any bits.
+    Any,
+    /// The sum's rounding splits off a few boxes at a time (see [`deep`]).
+    Deep,
 }
+
+pub const STYLES: [Style; 11] = [
+    Style::Tame,
+    Style::Small,
+    Style::Few,
+    Style::Row,
+    Style::Scaled,
+    Style::Subnormal,
+    Style::Large,
+    Style::Spiked,
+    Style::Hard,
+    Style::Any,
+    Style::Deep,
+];
 
 /// Random lists.
 pub struct Lists {
     random: Random,
+    hard: Vec<u32>,
     /// Deep along x, and along any axis.
-    deep: &'static [Vec<(f32, f32)>; 2],
+    deep: [Vec<(f32, f32)>; 2],
 }
-
-/// The same for every seed.
-static DEEP: LazyLock<[Vec<(f32, f32)>; 2]> = LazyLock::new(|| [false, true].map(|any| deep::corners(LIMIT, any)));
 
 /// Most entries of a list.
 pub const LIMIT: usize = 32_767;
 
 impl Lists {
     pub fn new(seed: u64) -> Lists {
-        Lists { random: Random::new(seed), deep: &DEEP }
+        let deep = [deep::corners(LIMIT, false), deep::corners(LIMIT, true)];
+        Lists { random: Random::new(seed), hard: hard(Input::Float), deep }
     }
 
     /// A list of any kind. Most are small; one in 10,000 is over a limit or near it, one in 50,000 long and deep.
@@ -129,14 +136,14 @@ impl Lists {
     }
 
     /// So many entries, some of which may be absent.
-    pub fn items(&mut self, n: usize, style: Style) -> Vec<BvhItem> {
+    pub fn items(&mut self, n: usize, style: Style) -> Vec<Option<Aabb>> {
         let absent = self.random.pick(&[0, 0, 0, 0, 0, 2, 8, 8, 1]);
         let boxes = self.boxes(n, style);
-        let entry = |b| if absent > 0 && self.random.once_in(absent) { BvhItem::ABSENT } else { b };
+        let entry = |b| if absent > 0 && self.random.once_in(absent) { None } else { Some(b) };
         boxes.into_iter().map(entry).collect()
     }
 
-    fn boxes(&mut self, n: usize, style: Style) -> Vec<BvhItem> {
+    fn boxes(&mut self, n: usize, style: Style) -> Vec<Aabb> {
         match style {
             Style::Few => {
                 let from = self.random.pick(&[Style::Tame, Style::Small, Style::Hard, Style::Spiked]);
@@ -153,19 +160,19 @@ impl Lists {
         }
     }
 
-    fn row(&mut self, n: usize) -> Vec<BvhItem> {
+    fn row(&mut self, n: usize) -> Vec<Aabb> {
         let r = &mut self.random;
         let (axis, step) = (r.below(3), r.pick(&[1.0, -1.0, 0.1, -0.001, 1000.0]));
         let at = |i: usize| {
-            let (mut min, mut max) = (Vec3::ZERO, Vec3::new(1.0, 1.0, 1.0));
+            let (mut min, mut max) = ([0.0; 3], [1.0; 3]);
             (min[axis], max[axis]) = (i as f32 * step, i as f32 * step + 0.5);
-            BvhItem::new(min, max)
+            Aabb { min, max }
         };
         (0..n).map(at).collect()
     }
 
     /// A part of a deep list, moved to another size and, where it may be, to another axis.
-    fn chain(&mut self, n: usize) -> Vec<BvhItem> {
+    fn chain(&mut self, n: usize) -> Vec<Aabb> {
         let r = &mut self.random;
         let axis = r.below(3);
         let list = &self.deep[(axis > 0) as usize];
@@ -173,38 +180,38 @@ impl Lists {
         // A short one is too short to be deep; from the middle its sums still round.
         let from = if n < 600 { r.below(list.len() - n) } else { 0 };
         let at = |&(low, high): &(f32, f32)| {
-            let (mut min, mut max) = (Vec3::ZERO, Vec3::ZERO);
+            let (mut min, mut max) = ([0.0; 3], [0.0; 3]);
             (min[axis], max[axis]) = (low * size, high * size);
-            BvhItem::new(min, max)
+            Aabb { min, max }
         };
         list[from..list.len().min(from + n)].iter().map(at).collect()
     }
 
-    fn one(&mut self, style: Style, scale: u32) -> BvhItem {
+    fn one(&mut self, style: Style, scale: u32) -> Aabb {
         match style {
             Style::Small => {
-                let half = || (self.random.below(9) as f32 - 4.0) * 0.5;
-                boxed(half)
+                let mut half = || (self.random.below(9) as f32 - 4.0) * 0.5;
+                Aabb { min: std::array::from_fn(|_| half()), max: std::array::from_fn(|_| half()) }
             }
             Style::Tame | Style::Spiked => {
                 let mut b = self.tame();
                 if style == Style::Spiked && self.random.once_in(4) {
                     let corner = if self.random.once_in(2) { &mut b.min } else { &mut b.max };
-                    corner[self.random.below(3)] = f32::from_bits(self.random.hard());
+                    corner[self.random.below(3)] = f32::from_bits(self.random.pick(&self.hard));
                 }
                 b
             }
             _ => {
-                let word = || f32::from_bits(self.word(style, scale));
-                boxed(word)
+                let mut word = || f32::from_bits(self.word(style, scale));
+                Aabb { min: std::array::from_fn(|_| word()), max: std::array::from_fn(|_| word()) }
             }
         }
     }
 
-    fn tame(&mut self) -> BvhItem {
-        let mut unit = || self.random.unit();
+    fn tame(&mut self) -> Aabb {
+        let mut unit = || self.random.u32() as f32 / 4294967296.0;
         let min: [f32; 3] = std::array::from_fn(|_| (unit() - 0.5) * 400.0);
-        BvhItem::new(min.into(), min.map(|low| low + unit() * 10.0).into())
+        Aabb { min, max: min.map(|low| low + unit() * 10.0) }
     }
 
     fn word(&mut self, style: Style, scale: u32) -> u32 {
@@ -213,16 +220,10 @@ impl Lists {
             Style::Scaled => r.u32() & 0x807F_FFFF | (scale + r.below(8) as u32) << 23,
             Style::Subnormal => r.u32() & r.pick(&[0x807F_FFFF, 0x8000_0003, 0x8000_0000]),
             Style::Large => r.u32() & 0x807F_FFFF | (251 + r.below(4) as u32) << 23,
-            Style::Hard => r.hard(),
+            Style::Hard => r.pick(&self.hard),
             _ => r.u32(),
         }
     }
-}
-
-/// A box of any six floats.
-fn boxed(mut float: impl FnMut() -> f32) -> BvhItem {
-    let mut corner = || Vec3::from(std::array::from_fn(|_| float()));
-    BvhItem::new(corner(), corner())
 }
 
 /// Lists to begin with, whatever the seed: small ones of each style and threshold, those around each limit, and the
@@ -237,7 +238,7 @@ pub fn fixed() -> Vec<Case> {
             }
         }
     }
-    let row = lists.row(LIMIT + 2);
+    let row: Vec<_> = lists.row(LIMIT + 2).into_iter().map(Some).collect();
     for n in [16_383, 16_384, 16_385, LIMIT - 1, LIMIT, LIMIT + 1, LIMIT + 2] {
         for threshold in [1, 2, 3, 4, 32_767, 32_768] {
             cases.push(Case::exact(row[..n].to_vec(), threshold));
@@ -248,8 +249,8 @@ pub fn fixed() -> Vec<Case> {
         cases.push(Case { items: row[..n].to_vec(), threshold, slack: [-1; 4] });
     }
     for (n, threshold) in [(16_384, 1), (26_000, 16), (17_000, 1)] {
-        let on_x = |x: f32| Vec3::new(x, 0.0, 0.0);
-        let deep = lists.deep[0][..n].iter().map(|&(low, high)| BvhItem::new(on_x(low), on_x(high)));
+        let deep =
+            lists.deep[0][..n].iter().map(|&(low, high)| Some(Aabb { min: [low, 0.0, 0.0], max: [high, 0.0, 0.0] }));
         cases.push(Case::exact(deep.collect(), threshold));
     }
     cases

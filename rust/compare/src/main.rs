@@ -6,10 +6,8 @@
 //! Exit status: 0 all the same, 1 a mismatch, 2 it could not be run.
 
 use compare::exhaustive::{self, Extent};
-use compare::operation::{self, Operation};
-use compare::report::{table, Line};
-use compare::{build, check, composites, header, meshes, octants, pairs, polygons};
-use compare::{prepare, proved, shrink, vectors, vertices, walks};
+use compare::{build, check, composites, header, meshes, octants, operation, pairs};
+use compare::{polygons, prepare, proved, report, shrink, vectors, vertices, walks};
 use std::process::ExitCode;
 
 const USAGE: &str = "usage: compare [OP..] [--seed S] [--cases N] [--stride N] [--threads N] [--write-vectors FILE]
@@ -21,28 +19,11 @@ const USAGE: &str = "usage: compare [OP..] [--seed S] [--cases N] [--stride N] [
   --threads N           exhaustive: default 1
   --write-vectors FILE  writes a sample of the reference's answers, and compares only the OPs that are named";
 
-/// The groups that belong to all.
-const ALL: [&str; 6] = ["float", "math", "tree", "walk", "pair", "exhaustive"];
+/// The group, and its operations.
+const GEOMETRY: [&str; 8] = ["geometry", "polygon", "items", "materials", "links", "quantum", "stored", "read_back"];
 
-/// A comparison beside those of operations on words: its group, its name, and what compares so many cases by a seed.
-type Comparison = (&'static str, &'static str, fn(u64, u64) -> Line);
-
-const COMPARISONS: [Comparison; 14] = [
-    ("tree", "build", build::run),
-    ("tree", "header", header::run),
-    ("walk", "walk", |seed, cases| walks::run(seed, cases, walks::proved)),
-    ("pair", "pair", |seed, cases| pairs::run(seed, cases, walks::proved)),
-    ("geometry", "polygon", |seed, cases| polygons::run(seed, cases, &proved::POLYGON)),
-    ("geometry", "items", |seed, cases| polygons::items(seed, cases, bounds::polygon_items)),
-    ("geometry", "materials", |seed, cases| meshes::materials(seed, cases, bounds::build_materials)),
-    ("geometry", "links", |seed, cases| meshes::links(seed, cases, proved::links)),
-    ("shrink", "shrink", |seed, cases| shrink::run(seed, cases, &proved::shrink)),
-    ("prepare", "prepare", |seed, cases| prepare::run(seed, cases, &proved::prepare, Some(&bounds::Geometry::prepare))),
-    ("octants", "octants", |seed, cases| octants::lists(seed, cases, proved::octants)),
-    ("octants", "octants", |seed, cases| octants::long(seed, cases, proved::octants)),
-    ("octants", "octant_bytes", |seed, cases| octants::bytes(seed, cases, proved::octant_bytes)),
-    ("composite", "composite", |seed, cases| composites::run(seed, cases, &proved::COMPOSITE)),
-];
+/// Asked for by name too.
+const MORE: [&str; 5] = ["shrink", "prepare", "octants", "octant_bytes", "composite"];
 
 struct Arguments {
     ops: Vec<String>,
@@ -77,33 +58,91 @@ fn arguments(mut words: impl Iterator<Item = String>) -> Result<Arguments, Strin
     Ok(a)
 }
 
-fn run(a: &Arguments) -> Result<Vec<Line>, String> {
-    let operations: Vec<Operation> = operation::all().into_iter().chain(vertices::operations()).collect();
-    let names = COMPARISONS.iter().map(|&(group, name, _)| [group, name]);
-    let names: Vec<[&str; 2]> = names.chain(operations.iter().map(|op| [op.group, op.name])).collect();
-    let known = |op: &str| op == "all" || ALL.contains(&op) || names.iter().flatten().any(|&name| name == op);
+fn run(a: &Arguments) -> Result<Vec<report::Line>, String> {
+    let operations = operation::all();
+    let known = |op: &str| {
+        ["all", "exhaustive", "tree", "build", "header", "walk", "pair"].contains(&op)
+            || GEOMETRY.contains(&op)
+            || MORE.contains(&op)
+            || operations.iter().any(|o| o.group == op || o.name == op)
+    };
     if let Some(op) = a.ops.iter().find(|op| !known(op)) {
         return Err(format!("{op}: no such operation\n{USAGE}"));
     }
     if let Some(file) = &a.vectors {
         std::fs::write(file, vectors::text(&operations, a.seed)).map_err(|e| format!("{file}: {e}"))?;
     }
-    let asked = |group: &str, name: &str| {
-        a.ops.iter().any(|op| op == group || op == name || op == "all" && ALL.contains(&group))
-    };
+    let asked = |names: &[&str]| a.ops.iter().any(|op| op == "all" || names.contains(&op.as_str()));
     let mut lines = Vec::new();
-    for op in operations.iter().filter(|op| asked(op.group, op.name)) {
-        lines.push(check::run(op, a.seed, a.cases));
+    for op in &operations {
+        if asked(&[op.group, op.name]) {
+            lines.push(check::run(op, a.seed, a.cases));
+        }
     }
-    for (_, _, compare) in COMPARISONS.iter().filter(|(group, name, _)| asked(group, name)) {
-        lines.push(compare(a.seed, a.cases));
+    if asked(&["tree", "build"]) {
+        lines.push(build::run(a.seed, a.cases));
     }
-    if asked("exhaustive", "exhaustive") {
+    if asked(&["tree", "header"]) {
+        lines.push(header::run(a.seed, a.cases));
+    }
+    if asked(&["walk"]) {
+        lines.push(walks::run(a.seed, a.cases, walks::proved));
+    }
+    if asked(&["pair"]) {
+        lines.push(pairs::run(a.seed, a.cases, walks::proved));
+    }
+    if asked(&["exhaustive"]) {
         let first = (a.seed % a.stride as u64) as u32;
         let extent = Extent { first, stride: a.stride, threads: a.threads };
         lines.extend(exhaustive::NAMES.iter().filter_map(|name| exhaustive::run(name, extent)));
     }
+    lines.extend(geometry(a));
+    lines.extend(more(a));
     Ok(lines)
+}
+
+/// What is asked of it by name: it does not belong to all.
+fn geometry(a: &Arguments) -> Vec<report::Line> {
+    let mut lines = Vec::new();
+    let named = |name: &str| a.ops.iter().any(|op| op == GEOMETRY[0] || op == name);
+    if named("polygon") {
+        lines.push(polygons::run(a.seed, a.cases, &proved::POLYGON));
+    }
+    if named("items") {
+        lines.push(polygons::items(a.seed, a.cases, proved::items));
+    }
+    if named("materials") {
+        lines.push(meshes::materials(a.seed, a.cases, proved::materials));
+    }
+    if named("links") {
+        lines.push(meshes::links(a.seed, a.cases, proved::links));
+    }
+    for op in vertices::operations().iter().filter(|op| named(op.name)) {
+        lines.push(check::run(op, a.seed, a.cases));
+    }
+    lines
+}
+
+fn more(a: &Arguments) -> Vec<report::Line> {
+    let mut lines = Vec::new();
+    let named = |names: &[&str]| a.ops.iter().any(|op| names.contains(&op.as_str()));
+    if named(&["shrink"]) {
+        lines.push(shrink::run(a.seed, a.cases, &proved::shrink));
+    }
+    if named(&["prepare"]) {
+        lines.push(prepare::run(a.seed, a.cases, &proved::prepare, Some(&proved::prepare_whole)));
+    }
+    if named(&["octants"]) {
+        lines.push(octants::lists(a.seed, a.cases, proved::octants));
+        lines.push(octants::long(a.seed, a.cases, proved::octants));
+    }
+    if named(&["octants", "octant_bytes"]) {
+        lines.push(octants::bytes(a.seed, a.cases, proved::octant_bytes));
+    }
+    if named(&["composite"]) {
+        lines.push(composites::run(a.seed, a.cases, &proved::COMPOSITE));
+    }
+    lines
 }
 
 fn main() -> ExitCode {
@@ -123,7 +162,7 @@ fn main() -> ExitCode {
         Err(why) => stop(&why),
         Ok(lines) => {
             if !lines.is_empty() {
-                print!("{}", table(&lines));
+                print!("{}", report::table(&lines));
             }
             ExitCode::from(lines.iter().any(|l| l.mismatches > 0) as u8)
         }

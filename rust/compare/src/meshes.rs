@@ -2,18 +2,17 @@
 //! reference's.
 
 use crate::lent::Lent;
+use crate::plain::materials::{LIST, MATERIAL};
+use crate::plain::polygon::{kind, RECORD};
 use crate::random::Random;
-use crate::report::{shown, Cases, Line, Refusals};
-use bounds::{BoundMaterial, Polygon, Refusal};
-use oracle::polygon::{self as reference, LIMIT};
-use plain::materials::{LIST, MATERIAL};
-use plain::polygon::{kind_at, RECORD};
+use crate::report::{Line, Progress};
+use oracle::polygon::{self as reference, Material, Polygon, LIMIT};
 
 /// Numbers of polygons, the given materials, the list's bytes and the indices that are lent; answers how many were built.
-pub type BuildMaterials = fn(&[u8], &[BoundMaterial], &mut [u8], &mut [u8]) -> Result<usize, Refusal>;
+pub type BuildMaterials = fn(&[u8], &[Material], &mut [u8], &mut [u8]) -> Result<usize, u32>;
 
 /// Records, of which the first so many get their links.
-pub type UpdateLinks = fn(&mut [u8], usize) -> Result<(), Refusal>;
+pub type UpdateLinks = fn(&mut [u8], usize) -> Result<(), u32>;
 
 /// Random lists.
 pub struct Meshes {
@@ -24,7 +23,7 @@ pub struct Meshes {
 #[derive(Clone, Debug)]
 pub struct Materials {
     pub numbers: Vec<u8>,
-    pub given: Vec<BoundMaterial>,
+    pub given: Vec<Material>,
     pub list: usize,
     pub indices: usize,
 }
@@ -36,23 +35,25 @@ pub struct Links {
     pub count: usize,
 }
 
-plain::listed! {
-    /// How the corners of a mesh's triangles are chosen.
-    enum Corners in CORNERS {
-        /// Few vertices: most sides are shared by several triangles.
-        Few,
-        /// Any of 16 bits, past every list and above the mask.
-        Any,
-        /// A strip: each triangle shares a side with the one before it.
-        Strip,
-        /// All around one edge.
-        Fan,
-        /// All the same triangle, some turned.
-        Same,
-        /// Corners that are equal.
-        Doubled,
-    }
+/// How the corners of a mesh's triangles are chosen.
+#[derive(Clone, Copy, Debug)]
+enum Corners {
+    /// Few vertices: most sides are shared by several triangles.
+    Few,
+    /// Any of 16 bits, past every list and above the mask.
+    Any,
+    /// A strip: each triangle shares a side with the one before it.
+    Strip,
+    /// All around one edge.
+    Fan,
+    /// All the same triangle, some turned.
+    Same,
+    /// Corners that are equal.
+    Doubled,
 }
+
+const CORNERS: [Corners; 6] =
+    [Corners::Few, Corners::Any, Corners::Strip, Corners::Fan, Corners::Same, Corners::Doubled];
 
 impl Meshes {
     pub fn new(seed: u64) -> Meshes {
@@ -81,12 +82,12 @@ impl Meshes {
         // Few values, so that a material is given twice, and (0, 0) now and then.
         let values = r.pick(&[1, 2, 5, 400]);
         let mut word = || (r.below(values) as u32).wrapping_mul(r.pick(&[1, 1, 0x0101_0101]));
-        let mut given: Vec<_> = (0..given).map(|_| BoundMaterial { data1: word(), data2: word() }).collect();
+        let mut given: Vec<Material> = (0..given).map(|_| (word(), word())).collect();
         let reach = if r.once_in(4) { 256 } else { given.len() + 2 };
         let mut numbers: Vec<u8> = (0..n).map(|_| r.below(reach) as u8).collect();
         if r.once_in(50) {
             // Every material another, and every number used: the list is full, be the last given or not.
-            given = (1..=r.pick(&[255, 256])).map(|i| BoundMaterial { data1: i, data2: i }).collect();
+            given = (1..=r.pick(&[255, 256])).map(|i| (i, i)).collect();
             (0..n).for_each(|i| numbers[i] = !i as u8);
         }
         let (mut list, mut indices) = (LIST, n);
@@ -144,27 +145,23 @@ impl Meshes {
 }
 
 /// What a side may have: the count, and the bytes of list and indices; or a refusal.
-fn expected_materials(case: &Materials) -> Result<(Vec<u8>, Vec<u8>), Refusal> {
-    let built = reference::materials(&case.numbers, &case.given)?;
+fn expected_materials(case: &Materials) -> Result<(Vec<u8>, Vec<u8>), u32> {
+    let built = reference::materials(&case.numbers, &case.given).map_err(|refused| refused.0 as u32)?;
     if case.list < LIST || case.indices < case.numbers.len() {
-        return Err(Refusal::BufferTooShort);
+        return Err(2);
     }
-    Ok((built.list.iter().flat_map(material_bytes).collect(), built.indices))
-}
-
-/// A material as it is written.
-pub(crate) fn material_bytes(m: &BoundMaterial) -> impl Iterator<Item = u8> {
-    [m.data1, m.data2].into_iter().flat_map(u32::to_le_bytes)
+    let bytes = built.list.iter().flat_map(|(a, b)| [a.to_le_bytes(), b.to_le_bytes()]).flatten().collect();
+    Ok((bytes, built.indices))
 }
 
 /// How large an answer is, or the refusal; `Err` with what is not the same.
-pub(crate) type Outcome = Result<Result<usize, Refusal>, String>;
+pub(crate) type Outcome = Result<Result<usize, u32>, String>;
 
 fn materials_differ(case: &Materials, ours: BuildMaterials, seed: u64) -> Outcome {
     let expected = expected_materials(case);
     let (mut list, mut indices) = (Lent::<u8>::new(case.list, seed), Lent::<u8>::new(case.indices, !seed));
     let answer = ours(&case.numbers, &case.given, list.buffer(), indices.buffer());
-    let count = expected.as_ref().map(|(bytes, _)| bytes.len() / MATERIAL).map_err(|&refusal| refusal);
+    let count = expected.as_ref().map(|(bytes, _)| bytes.len() / MATERIAL).map_err(|&number| number);
     if answer != count {
         return Err(format!("{answer:?}, expected {count:?}"));
     }
@@ -175,15 +172,17 @@ fn materials_differ(case: &Materials, ours: BuildMaterials, seed: u64) -> Outcom
 }
 
 /// The records with the reference's links put in; refusals in the order 1, 2, 6.
-fn expected_links(case: &Links) -> Result<Vec<u8>, Refusal> {
+fn expected_links(case: &Links) -> Result<Vec<u8>, u32> {
     if case.count > LIMIT {
-        return Err(Refusal::ListTooLong);
+        return Err(1);
     }
-    let mut records = case.records.get(..RECORD * case.count).ok_or(Refusal::BufferTooShort)?.to_vec();
-    let polygons: Vec<Polygon> = records.chunks_exact(RECORD).map(reference::read).collect::<Result<_, _>>()?;
-    for (record, polygon) in records.chunks_exact_mut(RECORD).zip(reference::edges(&polygons)?) {
-        if let Polygon::Triangle { edges, .. } = polygon {
-            (0..3).for_each(|i| record[10 + 2 * i..12 + 2 * i].copy_from_slice(&edges[i].to_le_bytes()));
+    let mut records = case.records.get(..RECORD * case.count).ok_or(2u32)?.to_vec();
+    let read = |record: &[u8]| reference::read(record).map_err(|refused| refused.0 as u32);
+    let polygons: Vec<Polygon> = records.chunks_exact(RECORD).map(read).collect::<Result<_, _>>()?;
+    let linked = reference::edges(&polygons).map_err(|refused| refused.0 as u32)?;
+    for (record, polygon) in records.chunks_exact_mut(RECORD).zip(linked) {
+        if let Polygon::Triangle { links, .. } = polygon {
+            (0..3).for_each(|i| record[10 + 2 * i..12 + 2 * i].copy_from_slice(&links[i].to_le_bytes()));
         }
     }
     Ok(records)
@@ -194,84 +193,140 @@ fn links_differ(case: &Links, ours: UpdateLinks, seed: u64) -> Outcome {
     records.buffer().copy_from_slice(&case.records);
     let answer = ours(records.buffer(), case.count);
     let expected = expected_links(case);
-    if answer != expected.as_ref().map(drop).map_err(|&refusal| refusal) {
-        return Err(format!("{answer:?}, expected {:?}", expected.map(drop)));
+    if answer != expected.as_ref().map(|_| ()).map_err(|&number| number) {
+        return Err(format!("{answer:?}, expected {:?}", expected.map(|_| ())));
     }
     let written = expected.as_deref().unwrap_or_default();
     let after = case.records.get(written.len()..).unwrap_or_default();
     records.check(&[written, after].concat())?;
-    Ok(expected.map(|records| records.chunks_exact(RECORD).filter(|r| kind_at(r) == 0).count()))
+    Ok(expected.map(|records| records.chunks_exact(RECORD).filter(|r| kind(r) == 0).count()))
 }
 
-/// What an operation's answers count, its refusals, and its longest lists.
+/// An operation's name, what its answers count, its refusals, and its longest lists.
 pub(crate) struct Operation {
+    pub name: &'static str,
     pub what: &'static str,
     pub refusals: &'static [usize],
     pub limit: usize,
 }
 
-/// `cases` lists with their lengths, the fixed ones first; of those that differ the shortest is shown. How often each refusal
-/// was reached, how many answers, the largest of them, and how many lists were as long as can be.
+/// How often each refusal was reached, how many answers, the largest of them, and how many lists were as long as can be.
+#[derive(Default)]
+struct Reached {
+    refusals: [u64; 14],
+    largest: usize,
+    longest: u64,
+}
+
+impl Reached {
+    fn note(&mut self, outcome: Result<usize, u32>, longest: bool) {
+        self.refusals[outcome.err().unwrap_or(0) as usize] += 1;
+        self.largest = self.largest.max(outcome.unwrap_or(0));
+        self.longest += longest as u64;
+    }
+
+    fn lines(&self, of: &Operation) -> Vec<String> {
+        let refused = of.refusals.iter().map(|&number| format!("refused {number}: {}", self.refusals[number]));
+        let answered = format!("answered: {}; most {}: {}", self.refusals[0], of.what, self.largest);
+        refused.chain([answered, format!("lists of {}: {}", of.limit, self.longest)]).collect()
+    }
+}
+
+/// `cases` lists with their lengths; of those that differ the shortest is shown.
 pub(crate) fn compared<C: std::fmt::Debug>(
     of: Operation,
-    cases: Cases<C>,
-    next: impl FnMut(Option<C>) -> C,
-    len: impl Fn(&C) -> usize + Copy,
+    cases: u64,
+    mut case: impl FnMut() -> (C, usize),
     differs: impl Fn(&C, u64) -> Outcome,
 ) -> Line {
-    let (mut refusals, mut largest, mut longest) = (Refusals::default(), 0, 0u64);
-    let asked = |case: &C, done: u64| {
-        let outcome = differs(case, done)?;
-        refusals.note(&outcome);
-        largest = largest.max(outcome.unwrap_or(0));
-        longest += (len(case) == of.limit) as u64;
-        Ok(())
-    };
-    let line = cases.compared(next, asked, len, shown);
-    let answered = format!("answered: {}; most {}: {largest}", refusals.none(), of.what);
-    let lists = format!("lists of {}: {longest}", of.limit);
-    line.reaching(refusals.lines(of.refusals).chain([answered, lists]).collect())
+    let mut progress = Progress::new(of.name, cases);
+    let (mut reached, mut mismatches, mut shortest) = (Reached::default(), 0, None::<(usize, String)>);
+    for done in 0..cases {
+        let (case, len) = case();
+        match differs(&case, done) {
+            Ok(outcome) => reached.note(outcome, len == of.limit),
+            Err(why) => {
+                mismatches += 1;
+                if shortest.as_ref().is_none_or(|(before, _)| len < *before) {
+                    shortest = Some((len, format!("{why}\n  {case:?}")));
+                }
+            }
+        }
+        if done % 1024 == 0 {
+            progress.at(done);
+        }
+    }
+    progress.end(mismatches);
+    let smallest = shortest.map(|(_, text)| text.chars().take(4_000).collect());
+    Line { operation: of.name.to_string(), cases, mismatches, smallest, reached: reached.lines(&of) }
 }
 
 pub fn materials(seed: u64, cases: u64, ours: BuildMaterials) -> Line {
-    let of = Operation { what: "materials", refusals: &[1, 2], limit: LIMIT };
-    let (cases, mut meshes) = (Cases::new("materials", cases, Vec::new()), Meshes::new(seed));
-    let differs = |case: &Materials, done: u64| materials_differ(case, ours, seed ^ done << 20);
-    compared(of, cases, |_| meshes.materials(), |case| case.numbers.len(), differs)
+    let of = Operation { name: "materials", what: "materials", refusals: &[1, 2], limit: LIMIT };
+    let mut meshes = Meshes::new(seed);
+    let case = || {
+        let case = meshes.materials();
+        let len = case.numbers.len();
+        (case, len)
+    };
+    compared(of, cases, case, |case, done| materials_differ(case, ours, seed ^ done << 20))
 }
 
 pub fn links(seed: u64, cases: u64, ours: UpdateLinks) -> Line {
-    let of = Operation { what: "triangles", refusals: &[1, 2, 6], limit: LIMIT };
-    let (cases, mut meshes) = (Cases::new("links", cases, Vec::new()), Meshes::new(seed));
-    let differs = |case: &Links, done: u64| links_differ(case, ours, seed ^ done << 20);
-    compared(of, cases, |_| meshes.links(), |case| case.count, differs)
+    let of = Operation { name: "links", what: "triangles", refusals: &[1, 2, 6], limit: LIMIT };
+    let mut meshes = Meshes::new(seed);
+    let case = || {
+        let case = meshes.links();
+        let len = case.count;
+        (case, len)
+    };
+    compared(of, cases, case, |case, done| links_differ(case, ours, seed ^ done << 20))
 }
 
 #[cfg(test)]
 mod tests {
     use super::*;
-    use crate::report::needs_reference;
+    use crate::plain;
+
+    fn left_out(test: &str) -> bool {
+        oracle::missing().inspect(|why| eprintln!("{test} is left out: {why}")).is_some()
+    }
+
+    fn holds(line: Line, refusals: &[usize]) {
+        assert_eq!((line.mismatches, line.smallest), (0, None));
+        for number in refusals {
+            let none = format!("refused {number}: 0");
+            assert!(!line.reached.contains(&none), "{:?}", line.reached);
+        }
+        assert!(!line.reached.contains(&format!("lists of {LIMIT}: 0")), "{:?}", line.reached);
+    }
 
     #[test]
     fn materials_match() {
-        needs_reference!();
-        for ours in [bounds::build_materials, plain::materials::build] {
-            materials(1, 16_000, ours).holds();
+        if left_out("materials_match") {
+            return;
+        }
+        for ours in [crate::proved::materials, plain::materials::build] {
+            holds(materials(1, 16_000, ours), &[1, 2]);
         }
     }
 
     #[test]
     fn links_match() {
-        needs_reference!();
+        if left_out("links_match") {
+            return;
+        }
         for ours in [crate::proved::links, plain::links::update] {
-            links(1, 16_000, ours).holds();
+            holds(links(1, 16_000, ours), &[1, 2, 6]);
         }
     }
 
     #[test]
     fn wrong_sides_are_found() {
-        needs_reference!();
-        let unlisted = |numbers: &[u8], given: &[BoundMaterial], list: &mut [u8], indices: &mut [u8]| {
+        if left_out("wrong_sides_are_found") {
+            return;
+        }
+        let unlisted = |numbers: &[u8], given: &[Material], list: &mut [u8], indices: &mut [u8]| {
             let count = plain::materials::build(numbers, given, list, indices)?;
             indices[..numbers.len()].copy_from_slice(numbers);
             Ok(count)
@@ -281,7 +336,7 @@ mod tests {
         assert!(links(2, 500, forgotten).mismatches > 0);
         let cleared = |records: &mut [u8], n: usize| {
             plain::links::update(records, n)?;
-            records.chunks_exact_mut(RECORD).take(n).filter(|r| kind_at(r) == 1).for_each(|r| r[12] = 0);
+            records.chunks_exact_mut(RECORD).take(n).filter(|r| kind(r) == 1).for_each(|r| r[12] = 0);
             Ok(())
         };
         assert!(links(2, 500, cleared).mismatches > 0);

@@ -3,28 +3,20 @@
 use crate::inputs::{Input, Inputs};
 use crate::lent::Lent;
 use crate::operation::made;
+use crate::plain::polygon as plain;
 use crate::random::Random;
-use crate::report::{shown, Cases, Line, Refusals};
-use bounds::{BvhItem, Polygon, Refusal, Vec3};
-use oracle::polygon::{self as reference, LIMIT};
-use oracle::Aabb;
-use plain::polygon as plain;
+use crate::report::{Line, Progress};
+use oracle::polygon::{self as reference, Polygon, LIMIT};
+use oracle::{Aabb, Vec3};
 
-/// What is compared.
+/// What is compared. Refusals are numbers.
 pub struct Sides {
-    pub read: fn(&[u8]) -> Result<Polygon, Refusal>,
-    pub write: fn(&mut [u8], Polygon) -> Result<(), Refusal>,
+    pub read: fn(&[u8]) -> Result<Polygon, u32>,
+    pub write: fn(&mut [u8], Polygon) -> Result<(), u32>,
     pub bbox: fn(Polygon, &[Vec3]) -> Aabb,
 }
 
-pub const PLAIN: Sides = Sides { read: plain::read, write: plain::write, bbox };
-
-/// The plain box.
-fn bbox(polygon: Polygon, vertices: &[Vec3]) -> Aabb {
-    let stands = |number: usize| vertices.get(number).map_or([0.0; 3], |&v| v.into());
-    let [a, b, c, d, e, f] = plain::bbox(&polygon, stands);
-    Aabb { min: Vec3::new(a, b, c), max: Vec3::new(d, e, f) }
-}
+pub const PLAIN: Sides = Sides { read: plain::read, write: plain::write, bbox: plain::bbox };
 
 /// A record to read, and a polygon to write into so many bytes and to take the box of.
 #[derive(Clone, Debug)]
@@ -69,7 +61,7 @@ impl Polygons {
         let mut words = [0; 12];
         self.inputs.fill(&[Input::Float; 12], &mut words);
         let mut float = || f32::from_bits(self.random.pick(&words));
-        (0..count).map(|_| std::array::from_fn(|_| float()).into()).collect()
+        (0..count).map(|_| std::array::from_fn(|_| float())).collect()
     }
 
     fn polygon(&mut self, vertices: usize) -> Polygon {
@@ -87,8 +79,8 @@ impl Polygons {
         let [i1, i2, ..] = i;
         match self.random.below(5) {
             0 => {
-                let edges = std::array::from_fn(|_| self.random.u32() as i16);
-                Polygon::Triangle { material, area: float, v: [i[0], i[1], i[2]], edges }
+                let links = std::array::from_fn(|_| self.random.u32() as i16);
+                Polygon::Triangle { material, area: float, v: [i[0], i[1], i[2]], links }
             }
             1 => Polygon::Sphere { material, index: i1, radius: float },
             2 => Polygon::Capsule { material, i1, i2, radius: float },
@@ -102,8 +94,8 @@ impl Polygons {
 fn numbers(p: Polygon) -> [u32; 8] {
     let signed = |n: i16| n as u16 as u32;
     match p {
-        Polygon::Triangle { area, v, edges, .. } => {
-            let ([a, b, c], [d, e, f]) = (v.map(u32::from), edges.map(signed));
+        Polygon::Triangle { area, v, links, .. } => {
+            let ([a, b, c], [d, e, f]) = (v.map(u32::from), links.map(signed));
             [0, area.to_bits(), a, b, c, d, e, f]
         }
         Polygon::Sphere { index, radius, .. } => [1, radius.to_bits(), index.into(), 0, 0, 0, 0, 0],
@@ -119,30 +111,37 @@ fn numbers(p: Polygon) -> [u32; 8] {
 /// Corners that were copied have their bits; those that arithmetic made, a NaN as a NaN.
 fn corners(p: Polygon, b: Aabb) -> [u32; 6] {
     let copied = matches!(p, Polygon::Triangle { .. } | Polygon::Box { .. });
-    let word = if copied { f32::to_bits } else { made };
-    [b.min.x, b.min.y, b.min.z, b.max.x, b.max.y, b.max.z].map(word)
+    let word = |x: f32| if copied { x.to_bits() } else { made(x) };
+    let ([a, b, c], [d, e, f]) = (b.min.map(word), b.max.map(word));
+    [a, b, c, d, e, f]
 }
 
 /// `cases` of each: a record read, a polygon written, a box taken.
 pub fn run(seed: u64, cases: u64, ours: &Sides) -> Line {
-    let (mut kinds, mut refused, mut short) = ([0u64; 5], Refusals::default(), 0);
+    let mut progress = Progress::new("polygon", cases);
+    let (mut reached, mut mismatches, mut first) = ([0u64; 8], 0, None);
     let mut polygons = Polygons::new(seed);
-    let asked = |case: &Case, done: u64| {
-        let read = reference::read(&case.record);
-        refused.note(&read);
-        read.iter().for_each(|&p| kinds[numbers(p)[0] as usize] += 1);
-        short += (case.room < plain::RECORD) as u64;
-        differs(case, read, ours, seed ^ done << 20)
-    };
-    let size = |case: &Case| case.vertices.len();
-    let line = Cases::new("polygon", cases, Vec::new()).compared(|_| polygons.case(), asked, size, shown);
+    for done in 0..cases {
+        let case = polygons.case();
+        let read = reference::read(&case.record).map_err(|refused| refused.0 as u32);
+        reached[read.map_or_else(|number| number as usize, |p| numbers(p)[0] as usize)] += 1;
+        reached[7] += (case.room < plain::RECORD) as u64;
+        if let Err(why) = differs(&case, read, ours, seed ^ done << 20) {
+            mismatches += 1;
+            first.get_or_insert_with(|| format!("{why}\n  {case:?}"));
+        }
+        if done % 4096 == 0 {
+            progress.at(done);
+        }
+    }
+    progress.end(mismatches);
     let names = ["triangles", "spheres", "capsules", "boxes", "cylinders"];
-    let mut lines: Vec<String> = names.iter().zip(kinds).map(|(name, n)| format!("read as {name}: {n}")).collect();
-    lines.push(format!("refused 5: {}; 6: {}; written into too few bytes, 2: {short}", refused.of(5), refused.of(6)));
-    line.reaching(lines)
+    let mut lines: Vec<String> = names.iter().zip(reached).map(|(name, n)| format!("read as {name}: {n}")).collect();
+    lines.push(format!("refused 5: {}; 6: {}; written into too few bytes, 2: {}", reached[5], reached[6], reached[7]));
+    Line { operation: "polygon".to_string(), cases, mismatches, smallest: first, reached: lines }
 }
 
-fn differs(case: &Case, read: Result<Polygon, Refusal>, ours: &Sides, seed: u64) -> Result<(), String> {
+fn differs(case: &Case, read: Result<Polygon, u32>, ours: &Sides, seed: u64) -> Result<(), String> {
     let answer = (ours.read)(&case.record);
     if answer.map(numbers) != read.map(numbers) {
         return Err(format!("read: {answer:?}, expected {read:?}"));
@@ -150,7 +149,7 @@ fn differs(case: &Case, read: Result<Polygon, Refusal>, ours: &Sides, seed: u64)
     let mut out = Lent::<u8>::new(case.room, seed);
     let written = (ours.write)(out.buffer(), case.polygon);
     let (expected, bytes) = match case.room < plain::RECORD {
-        true => (Err(Refusal::BufferTooShort), Vec::new()),
+        true => (Err(2), Vec::new()),
         false => (Ok(()), reference::to_bytes(case.polygon).to_vec()),
     };
     if written != expected {
@@ -164,30 +163,44 @@ fn differs(case: &Case, read: Result<Polygon, Refusal>, ours: &Sides, seed: u64)
     Ok(())
 }
 
-/// Records, of which the first so many get their items, over vertices.
-pub type PutItems = fn(&[u8], usize, &[Vec3], &mut [BvhItem]) -> Result<(), Refusal>;
+/// Records, of which the first so many get their items, over vertices and into words, seven an item.
+pub type PutItems = fn(&[u8], usize, &[Vec3], &mut [u32]) -> Result<(), u32>;
 
-/// A list of polygons as records, of which there may be too few or too many, and how many items are lent.
-#[derive(Clone, Debug)]
-pub struct ListCase {
-    pub polygons: Vec<Polygon>,
-    pub records: Vec<u8>,
-    pub vertices: Vec<Vec3>,
-    pub room: usize,
+/// The items of lists of polygons, held to the reference's boxes, one by one. A made NaN is held as a NaN.
+pub fn items(seed: u64, cases: u64, ours: PutItems) -> Line {
+    let mut progress = Progress::new("items", cases);
+    let (mut reached, mut mismatches, mut first) = ([0u64; 5], 0, None);
+    let mut polygons = Polygons::new(seed);
+    for done in 0..cases {
+        if let Err(why) = polygons.list(ours, &mut reached) {
+            mismatches += 1;
+            first.get_or_insert(why);
+        }
+        if done % 1024 == 0 {
+            progress.at(done);
+        }
+    }
+    progress.end(mismatches);
+    let [boxed, many, short, kind, nan] = reached;
+    let lines = vec![
+        format!("lists boxed: {boxed}; with a NaN among the vertices: {nan}"),
+        format!("refused 1: {many}; 2: {short}; 6: {kind}"),
+    ];
+    Line { operation: "items".to_string(), cases, mismatches, smallest: first, reached: lines }
 }
 
 impl Polygons {
-    fn list(&mut self) -> ListCase {
+    fn list(&mut self, ours: PutItems, reached: &mut [u64; 5]) -> Result<(), String> {
         let r = &mut self.random;
         let n = if r.once_in(2_000) { r.pick(&[LIMIT, LIMIT + 1]) } else { r.below(20) };
         let count = if r.once_in(20) { 8 * n + r.below(40) } else { r.below(9) };
         let mut vertices = self.vertices(count.min(0x8000));
         if self.random.once_in(2) {
-            let number = |x: f32| if x.is_nan() { -0.0 } else { x };
-            vertices.iter_mut().for_each(|v| *v = <[f32; 3]>::from(*v).map(number).into());
+            vertices.iter_mut().flatten().filter(|x| x.is_nan()).for_each(|x| *x = -0.0);
         }
-        let polygons: Vec<Polygon> = (0..n).map(|_| self.polygon(count)).collect();
-        let mut records: Vec<u8> = polygons.iter().flat_map(|&p| reference::to_bytes(p)).collect();
+        reached[4] += vertices.iter().flatten().any(|x| x.is_nan()) as u64;
+        let list: Vec<Polygon> = (0..n).map(|_| self.polygon(count)).collect();
+        let mut records: Vec<u8> = list.iter().flat_map(|&p| reference::to_bytes(p)).collect();
         let (mut room, r) = (n, &mut self.random);
         match r.below(24) {
             0 => room = n.saturating_sub(1 + r.below(3)),
@@ -196,90 +209,69 @@ impl Polygons {
             3 => room += r.below(3),
             _ => {}
         }
-        ListCase { polygons, records, vertices, room }
-    }
-}
-
-impl ListCase {
-    fn refused(&self) -> Result<(), Refusal> {
-        let n = self.polygons.len();
-        if n > LIMIT {
-            Err(Refusal::ListTooLong)
-        } else if self.records.len() < plain::RECORD * n || self.room < n {
-            Err(Refusal::BufferTooShort)
-        } else if self.records.chunks(plain::RECORD).take(n).any(|record| plain::kind_at(record) > 4) {
-            Err(Refusal::UnknownKind)
+        let kinds = records.iter().step_by(plain::RECORD).take(n);
+        let expected = if n > LIMIT {
+            Err(1)
+        } else if records.len() < plain::RECORD * n || room < n {
+            Err(2)
+        } else if kinds.clone().any(|byte| byte % 8 > 4) {
+            Err(6)
         } else {
             Ok(())
-        }
-    }
-
-    fn has_nan(&self) -> bool {
-        self.vertices.iter().any(|v| [v.x, v.y, v.z].iter().any(|x| x.is_nan()))
-    }
-
-    /// Held to the reference's boxes, one by one. A made NaN is held as a NaN.
-    fn differs(&self, expected: Result<(), Refusal>, ours: PutItems) -> Result<(), String> {
-        let number = |i: u32| f32::from_bits(i.wrapping_mul(0x9E37_79B9) & 0x7F7F_FFFF);
-        let point = |i: u32| Vec3::from([i + 1, i + 2, i + 3].map(number));
-        let before: Vec<BvhItem> =
-            (0..self.room as u32).map(|i| BvhItem { present: i, min: point(7 * i), max: point(7 * i + 3) }).collect();
-        let (n, mut items) = (self.polygons.len(), before.clone());
-        let found = ours(&self.records, n, &self.vertices, &mut items);
+        };
+        reached[expected.map_or_else(|number: u32| number.min(3) as usize, |_| 0)] += 1;
+        let before: Vec<u32> = (0..7 * room as u32).map(|i| i.wrapping_mul(0x9E37_79B9) & 0x7F7F_FFFF).collect();
+        let mut words = before.clone();
+        let found = ours(&records, n, &vertices, &mut words);
         if found != expected {
             return Err(format!("items: {found:?}, expected {expected:?}"));
         }
-        let written = if expected.is_ok() { n } else { 0 };
-        if items[written..] != before[written..] {
-            return Err("items: one is changed that is none of theirs".to_string());
+        let written = if expected.is_ok() { 7 * n } else { 0 };
+        if words[written..] != before[written..] {
+            return Err("items: a word is changed that is none of theirs".to_string());
         }
-        for (&p, &BvhItem { present, min, max }) in self.polygons.iter().zip(&items[..written]) {
-            let (b, e) = (Aabb { min, max }, reference::bbox(p, &self.vertices));
-            if present != 1 || corners(p, b) != corners(p, e) {
-                return Err(format!("items: {b:?}, expected {e:?}\n  {p:?}"));
+        for (p, item) in list.iter().zip(words[..written].chunks_exact(7)) {
+            let vector = |w: &[u32]| [w[0], w[1], w[2]].map(f32::from_bits);
+            let (b, e) = (Aabb { min: vector(&item[1..]), max: vector(&item[4..]) }, reference::bbox(*p, &vertices));
+            if item[0] != 1 || corners(*p, b) != corners(*p, e) {
+                return Err(format!("items: {b:?}, expected {e:?}\n  {p:?} over {vertices:?}"));
             }
         }
         Ok(())
     }
 }
 
-/// The items of lists of polygons.
-pub fn items(seed: u64, cases: u64, ours: PutItems) -> Line {
-    let (mut reached, mut nan, mut polygons) = (Refusals::default(), 0, Polygons::new(seed));
-    let asked = |case: &ListCase, _| {
-        let expected = case.refused();
-        reached.note(&expected);
-        nan += case.has_nan() as u64;
-        case.differs(expected, ours)
-    };
-    let size = |case: &ListCase| case.polygons.len();
-    let line = Cases::new("items", cases, Vec::new()).compared(|_| polygons.list(), asked, size, shown);
-    line.reaching(vec![
-        format!("lists boxed: {}; with a NaN among the vertices: {nan}", reached.none()),
-        format!("refused 1: {}; 2: {}; 6: {}", reached.of(1), reached.of(2), reached.of(6)),
-    ])
-}
-
 #[cfg(test)]
 mod tests {
     use super::*;
-    use crate::report::needs_reference;
+
+    fn left_out(test: &str) -> bool {
+        oracle::missing().inspect(|why| eprintln!("{test} is left out: {why}")).is_some()
+    }
 
     #[test]
     fn polygons_match_and_every_kind_is_reached() {
-        needs_reference!();
+        if left_out("polygons_match_and_every_kind_is_reached") {
+            return;
+        }
         for sides in [crate::proved::POLYGON, PLAIN] {
-            run(1, 50_000, &sides).holds();
+            let line = run(1, 50_000, &sides);
+            assert_eq!((line.mismatches, line.smallest), (0, None));
+            assert!(line.reached.iter().all(|what| !what.contains(": 0")), "{:?}", line.reached);
         }
     }
 
     #[test]
     fn items_match_and_a_wrong_one_is_found() {
-        needs_reference!();
-        items(1, 20_000, bounds::polygon_items).holds();
-        let swapped: PutItems = |records, n, vertices, items| {
-            bounds::polygon_items(records, n, vertices, items)?;
-            items[..n].iter_mut().for_each(|item| std::mem::swap(&mut item.min.z, &mut item.max.z));
+        if left_out("items_match_and_a_wrong_one_is_found") {
+            return;
+        }
+        let line = items(1, 20_000, crate::proved::items);
+        assert_eq!((line.mismatches, line.smallest), (0, None));
+        assert!(line.reached.iter().all(|what| !what.contains(": 0")), "{:?}", line.reached);
+        let swapped: PutItems = |records, n, vertices, words| {
+            crate::proved::items(records, n, vertices, words)?;
+            words[..7 * n].chunks_exact_mut(7).for_each(|item| item.swap(3, 6));
             Ok(())
         };
         assert!(items(2, 2_000, swapped).mismatches > 0);
@@ -287,12 +279,14 @@ mod tests {
 
     #[test]
     fn wrong_polygons_are_found() {
-        needs_reference!();
+        if left_out("wrong_polygons_are_found") {
+            return;
+        }
         let no_mask = |p: Polygon, vertices: &[Vec3]| match p {
             Polygon::Triangle { v, .. } => {
-                bbox(Polygon::Box { material: 0, i: [v[0], v[0], v[1], v[2]].map(|n| n as i16) }, vertices)
+                plain::bbox(Polygon::Box { material: 0, i: [v[0], v[0], v[1], v[2]].map(|n| n as i16) }, vertices)
             }
-            _ => bbox(p, vertices),
+            _ => plain::bbox(p, vertices),
         };
         let misplaced = |out: &mut [u8], p: Polygon| {
             plain::write(out, p)?;
@@ -302,7 +296,7 @@ mod tests {
             Ok(())
         };
         let any_kind = |bytes: &[u8]| match plain::read(bytes) {
-            Err(Refusal::UnknownKind) => Ok(Polygon::Box { material: 0, i: [0; 4] }),
+            Err(6) => Ok(Polygon::Box { material: 0, i: [0; 4] }),
             answer => answer,
         };
         for wrong in

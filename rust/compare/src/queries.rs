@@ -1,42 +1,38 @@
 //! Lists of boxes and queries over them, for builds and walks together: some seven of ten lists within the premises, many
 //! at their edge.
 
+use crate::inputs::{hard, Input};
 use crate::lists::{Case, Lists, Style, STYLES};
 use crate::random::Random;
-use bounds::{BvhItem, Vec3};
 use oracle::Aabb;
 
-plain::listed! {
-    /// Sorts of lists that [`Lists`] has not.
-    enum Edge in EDGES {
-        /// A few floats apart, far from 0.
-        Near,
-        /// Small multiples of a unit around 2^-100: half extents at the least that is allowed, and below; or of 2^-130.
-        Fine,
-        /// Up to 2^100, now and then just above.
-        Huge,
-        /// Of any size from the least subnormal up.
-        Mixed,
-        /// Points, and flat boxes: no extent on some axes.
-        Flat,
-    }
+/// Sorts of lists that [`Lists`] has not.
+#[derive(Clone, Copy, Debug)]
+enum Edge {
+    /// A few floats apart, far from 0.
+    Near,
+    /// Small multiples of a unit around 2^-100: half extents at the least that is allowed, and below; or of 2^-130.
+    Fine,
+    /// Up to 2^100, now and then just above.
+    Huge,
+    /// Of any size from the least subnormal up.
+    Mixed,
+    /// Points, and flat boxes: no extent on some axes.
+    Flat,
 }
 
-/// The query that meets all.
-pub const EVERYWHERE: Aabb = {
-    const FAR: f32 = f32::INFINITY;
-    Aabb { min: Vec3 { x: -FAR, y: -FAR, z: -FAR }, max: Vec3 { x: FAR, y: FAR, z: FAR } }
-};
+const EDGES: [Edge; 5] = [Edge::Near, Edge::Fine, Edge::Huge, Edge::Mixed, Edge::Flat];
 
 /// Random lists, and random queries over them.
 pub struct Queries {
     random: Random,
     lists: Lists,
+    hard: Vec<u32>,
 }
 
 impl Queries {
     pub fn new(seed: u64) -> Queries {
-        Queries { random: Random::new(seed ^ 0x9A12), lists: Lists::new(seed) }
+        Queries { random: Random::new(seed ^ 0x9A12), lists: Lists::new(seed), hard: hard(Input::Float) }
     }
 
     /// A list and a threshold; buffers as long as they have to be. Most lists are small; one in 25 has over 64 entries
@@ -51,12 +47,11 @@ impl Queries {
             self.lists.items(n, style)
         };
         if !self.random.once_in(4) {
-            items.iter_mut().for_each(|b| in_order(&mut b.min, &mut b.max));
+            items.iter_mut().flatten().for_each(in_order);
         }
         let r = &mut self.random;
         if n > 0 && r.once_in(40) {
-            let b = &mut items[r.below(n)];
-            if b.present != 0 {
+            if let Some(b) = &mut items[r.below(n)] {
                 let axis = r.below(3);
                 (b.min[axis], b.max[axis]) = r.pick(&[
                     (f32::NEG_INFINITY, b.max[axis]),
@@ -97,7 +92,7 @@ impl Queries {
         }
     }
 
-    fn edge(&mut self, n: usize, edge: Edge) -> Vec<BvhItem> {
+    fn edge(&mut self, n: usize, edge: Edge) -> Vec<Option<Aabb>> {
         let r = &mut self.random;
         let power = r.below(190) as i32 - 90;
         let base: [f32; 3] = match edge {
@@ -107,8 +102,8 @@ impl Queries {
         let flat: [bool; 3] = std::array::from_fn(|_| r.once_in(2));
         let (absent, points) = (r.pick(&[0, 0, 0, 4]), r.once_in(2));
         let mut one = || {
-            let mut corner = || Vec3::from(std::array::from_fn(|axis| coordinate(r, edge, base[axis])));
-            let mut b = BvhItem::new(corner(), corner());
+            let mut corner = || std::array::from_fn(|axis| coordinate(r, edge, base[axis]));
+            let mut b = Aabb { min: corner(), max: corner() };
             if let Edge::Flat = edge {
                 for axis in (0..3).filter(|&axis| flat[axis]) {
                     (b.min[axis], b.max[axis]) = (base[axis], base[axis]);
@@ -117,18 +112,14 @@ impl Queries {
                     b.max = b.min;
                 }
             }
-            if absent == 0 || !r.once_in(absent) {
-                b
-            } else {
-                BvhItem::ABSENT
-            }
+            (absent == 0 || !r.once_in(absent)).then_some(b)
         };
         (0..n).map(|_| one()).collect()
     }
 
     /// A query over a list: around a box, at its face, a point, all, without end, inside out, between the boxes' own
     /// corners, anywhere, or with a NaN.
-    pub fn query(&mut self, items: &[BvhItem]) -> Aabb {
+    pub fn query(&mut self, items: &[Option<Aabb>]) -> Aabb {
         let (b, other) = (self.one_of(items), self.one_of(items));
         let r = &mut self.random;
         let axis = r.below(3);
@@ -156,15 +147,11 @@ impl Queries {
             }
             6 => query.max = b.min,
             7 => query.min = b.max,
-            8 => query = EVERYWHERE,
+            8 => query = Aabb { min: [f32::NEG_INFINITY; 3], max: [f32::INFINITY; 3] },
             9 => {
-                let mut end = |x: &mut f32, infinite: f32| {
-                    if r.once_in(2) {
-                        *x = infinite;
-                    }
-                };
-                (0..3).for_each(|axis| end(&mut query.min[axis], f32::NEG_INFINITY));
-                (0..3).for_each(|axis| end(&mut query.max[axis], f32::INFINITY));
+                let mut end = |x: f32, infinite: f32| if r.once_in(2) { infinite } else { x };
+                query.min = b.min.map(|x| end(x, f32::NEG_INFINITY));
+                query.max = b.max.map(|x| end(x, f32::INFINITY));
             }
             10 => query = Aabb { min: b.max, max: b.min },
             11 => {
@@ -174,18 +161,17 @@ impl Queries {
             12 => query = Aabb { min: b.min, max: other.max },
             13 => {
                 query = Aabb { min: b.min, max: other.min };
-                in_order(&mut query.min, &mut query.max);
+                in_order(&mut query);
             }
             14 => {
                 let corner = if r.once_in(2) { &mut query.min } else { &mut query.max };
-                corner[axis] = f32::from_bits(r.hard());
+                corner[axis] = f32::from_bits(r.pick(&self.hard));
             }
             _ => {
                 let reach = r.pick(&[1.0, 100.0, 400.0, 1e30]);
-                let mut at = || (2.0 * r.unit() - 1.0) * reach;
-                let mut corner = || Vec3::from(std::array::from_fn(|_| at()));
-                query = Aabb { min: corner(), max: corner() };
-                in_order(&mut query.min, &mut query.max);
+                let mut at = || (r.u32() as f32 / 2147483648.0 - 1.0) * reach;
+                query = Aabb { min: std::array::from_fn(|_| at()), max: std::array::from_fn(|_| at()) };
+                in_order(&mut query);
             }
         }
         if r.once_in(24) {
@@ -206,27 +192,25 @@ impl Queries {
     }
 
     /// A present box, or, where the one that was chosen is absent, some other.
-    fn one_of(&mut self, items: &[BvhItem]) -> Aabb {
-        let any = if items.is_empty() { None } else { Some(&items[self.random.below(items.len())]) };
-        let other = || items.iter().find(|item| item.present != 0);
-        let unit = BvhItem::new(Vec3::ZERO, Vec3::new(1.0, 1.0, 1.0));
-        let BvhItem { min, max, .. } = *any.filter(|item| item.present != 0).or_else(other).unwrap_or(&unit);
-        Aabb { min, max }
+    fn one_of(&mut self, items: &[Option<Aabb>]) -> Aabb {
+        let any = if items.is_empty() { None } else { items[self.random.below(items.len())] };
+        let other = || items.iter().flatten().next().copied();
+        any.or_else(other).unwrap_or(Aabb { min: [0.0; 3], max: [1.0; 3] })
     }
 }
 
 /// Exchanges the ends on each axis where they are the wrong way round.
-fn in_order(min: &mut Vec3, max: &mut Vec3) {
+fn in_order(b: &mut Aabb) {
     for axis in 0..3 {
-        if min[axis] > max[axis] {
-            std::mem::swap(&mut min[axis], &mut max[axis]);
+        if b.min[axis] > b.max[axis] {
+            std::mem::swap(&mut b.min[axis], &mut b.max[axis]);
         }
     }
 }
 
 /// Of about the size 2^power.
 fn float(r: &mut Random, power: i32) -> f32 {
-    (2.0 * r.unit() - 1.0) * 2f32.powi(power)
+    (r.u32() as f32 / 2147483648.0 - 1.0) * 2f32.powi(power)
 }
 
 fn coordinate(r: &mut Random, edge: Edge, base: f32) -> f32 {
@@ -250,9 +234,7 @@ fn coordinate(r: &mut Random, edge: Edge, base: f32) -> f32 {
 #[cfg(test)]
 mod tests {
     use super::*;
-    use crate::promises::without_nan;
-    use plain::premises::broken;
-    use plain::walk::meets;
+    use crate::promises::{broken, meet, without_nan};
 
     #[test]
     fn lists_within_the_premises_and_outside_are_frequent() {
@@ -275,17 +257,16 @@ mod tests {
     #[test]
     fn queries_of_every_sort_are_frequent() {
         let mut queries = Queries::new(1);
-        let cube = |i: u8| BvhItem::new([i as f32; 3].into(), [i as f32 + 0.5; 3].into());
-        let items: Vec<_> = (0..9).map(cube).collect();
+        let items: Vec<_> = (0..9).map(|i| Some(Aabb { min: [i as f32; 3], max: [i as f32 + 0.5; 3] })).collect();
         let (mut nan, mut infinite, mut inside_out, mut touching, mut meeting) = (0, 0, 0, 0, 0);
         for _ in 0..10_000 {
             let query = queries.query(&items);
             nan += !without_nan(&query) as usize;
-            infinite += (0..3).any(|axis| query.min[axis].is_infinite() || query.max[axis].is_infinite()) as usize;
+            infinite += query.min.iter().chain(&query.max).any(|x| x.is_infinite()) as usize;
             inside_out += (0..3).any(|axis| query.min[axis] > query.max[axis]) as usize;
             let touches =
-                |b: &BvhItem| (0..3).any(|axis| query.min[axis] == b.max[axis] || query.max[axis] == b.min[axis]);
-            let mut met = items.iter().filter(|b| meets(b, query.min, query.max)).peekable();
+                |b: &Aabb| (0..3).any(|axis| query.min[axis] == b.max[axis] || query.max[axis] == b.min[axis]);
+            let mut met = items.iter().flatten().filter(|b| meet(b, &query)).peekable();
             meeting += met.peek().is_some() as usize;
             touching += met.any(touches) as usize;
         }

@@ -20,11 +20,6 @@ impl Random {
         (self.u64() >> 32) as u32
     }
 
-    /// From 0 to 1.
-    pub fn unit(&mut self) -> f32 {
-        self.u32() as f32 / 4294967296.0
-    }
-
     /// A number below `n`.
     pub fn below(&mut self, n: usize) -> usize {
         ((self.u32() as u64 * n as u64) >> 32) as usize

@@ -1,20 +1,17 @@
 //! Node and tree records to walk over, and queries: whole ones, damaged ones and random bytes. None of them was built:
 //! the trees are grown here, box inside box, from random numbers.
 
-use crate::queries::EVERYWHERE;
+use crate::inputs::{hard, Input};
 use crate::random::Random;
-use bounds::tree::TreeRecords;
-use bounds::walk::Records as Lent;
-use bounds::{BuiltTree, Vec3};
+use crate::walk::Walk;
 use oracle::Aabb;
-use plain::walk::Walk;
 
 /// What a walk is given, with buffers of its own.
 #[derive(Clone, Debug)]
 pub struct Case {
     pub query: Aabb,
-    pub cen: Vec3,
-    pub inverse: Vec3,
+    pub cen: [f32; 3],
+    pub inverse: [f32; 3],
     pub nodes: Vec<u8>,
     pub node_count: usize,
     pub trees: Vec<u8>,
@@ -26,14 +23,16 @@ pub struct Case {
 
 impl Case {
     pub fn walk(&self) -> Walk<'_> {
-        let records = Lent {
-            node_bytes: &self.nodes,
-            nodes_count: self.node_count,
-            tree_bytes: &self.trees,
-            trees_count: self.tree_count,
-            items_count: self.item_count,
-        };
-        Walk { min: self.query.min, max: self.query.max, cen: self.cen, inverse: self.inverse, records }
+        Walk {
+            query: self.query,
+            cen: self.cen,
+            inverse: self.inverse,
+            nodes: &self.nodes,
+            node_count: self.node_count,
+            trees: &self.trees,
+            tree_count: self.tree_count,
+            item_count: self.item_count,
+        }
     }
 }
 
@@ -47,6 +46,7 @@ fn bytes(records: &[Record]) -> Vec<u8> {
 /// Random cases.
 pub struct Records {
     random: Random,
+    hard: Vec<u32>,
 }
 
 /// Numbers that damage leaves in a record.
@@ -57,7 +57,7 @@ const RANGE: usize = 127;
 
 impl Records {
     pub fn new(seed: u64) -> Records {
-        Records { random: Random::new(seed) }
+        Records { random: Random::new(seed), hard: hard(Input::Float) }
     }
 
     pub fn case(&mut self) -> Case {
@@ -78,18 +78,14 @@ impl Records {
         self.lent(nodes, trees, items)
     }
 
-    /// A tree of so many leaves, undamaged: as a walk takes it, with a quantum of 1 around 0.
-    pub fn whole(&mut self, leaves: usize) -> TreeRecords {
+    /// A tree of so many leaves, undamaged, in buffers of exact length.
+    pub fn whole(&mut self, leaves: usize) -> Case {
         let (mut nodes, mut trees, mut items) = (Vec::new(), Vec::new(), 0);
         self.tree(&mut nodes, &mut trees, &mut items, leaves, RANGE);
-        let built = BuiltTree {
-            nodes_count: nodes.len() as u32,
-            trees_count: trees.len() as u32,
-            quantum_inverse: Vec3::new(1.0, 1.0, 1.0),
-            ..BuiltTree::default()
-        };
-        let (node_bytes, tree_bytes) = (bytes(&nodes), bytes(&trees));
-        TreeRecords { built, node_bytes, tree_bytes, order: Vec::new(), items_count: items }
+        let (query, cen, inverse) = (Aabb { min: [0.0; 3], max: [0.0; 3] }, [0.0; 3], [1.0; 3]);
+        let (node_count, tree_count) = (nodes.len(), trees.len());
+        let (nodes, trees) = (bytes(&nodes), bytes(&trees));
+        Case { query, cen, inverse, nodes, node_count, trees, tree_count, item_count: items, out: items }
     }
 
     /// A tree at the end of the nodes, and its ranges: the node and all below it, or where they are over `limit`, those
@@ -256,30 +252,30 @@ impl Records {
     }
 
     /// Mostly in the records' own units around 0; now and then a quantum, hard floats or no end on an axis.
-    fn query(&mut self) -> (Aabb, Vec3, Vec3) {
+    fn query(&mut self) -> (Aabb, [f32; 3], [f32; 3]) {
         let r = &mut self.random;
         let reach = r.pick(&[20.0, 300.0, 33_000.0]);
-        let mut at = || (2.0 * r.unit() - 1.0) * reach;
-        let min: Vec3 = std::array::from_fn(|_| at()).into();
-        let max = std::array::from_fn(|axis| min[axis] + at().abs()).into();
-        let (mut query, mut cen, mut inverse) = (Aabb { min, max }, Vec3::ZERO, Vec3::new(1.0, 1.0, 1.0));
+        let mut at = || (r.u32() as f32 / 2147483648.0 - 1.0) * reach;
+        let min: [f32; 3] = std::array::from_fn(|_| at());
+        let max: [f32; 3] = std::array::from_fn(|axis| min[axis] + at().abs());
+        let (mut query, mut cen, mut inverse) = (Aabb { min, max }, [0.0; 3], [1.0; 3]);
         match r.below(8) {
-            0 | 1 => query = EVERYWHERE,
+            0 | 1 => query = Aabb { min: [f32::NEG_INFINITY; 3], max: [f32::INFINITY; 3] },
             2 => {
                 let axis = r.below(3);
                 (query.min[axis], query.max[axis]) = (f32::NEG_INFINITY, f32::INFINITY);
             }
             3 => {
                 let corner = if r.once_in(2) { &mut query.min } else { &mut query.max };
-                corner[r.below(3)] = f32::from_bits(r.hard());
+                corner[r.below(3)] = f32::from_bits(r.pick(&self.hard));
             }
             4 => {
-                cen = std::array::from_fn(|_| (2.0 * r.unit() - 1.0) * reach).into();
-                inverse = std::array::from_fn(|_| 4.0 * r.unit()).into();
+                cen = std::array::from_fn(|_| (r.u32() as f32 / 2147483648.0 - 1.0) * reach);
+                inverse = std::array::from_fn(|_| r.u32() as f32 / 1073741824.0);
             }
             5 => {
-                cen[r.below(3)] = f32::from_bits(r.hard());
-                inverse[r.below(3)] = f32::from_bits(r.hard());
+                cen[r.below(3)] = f32::from_bits(r.pick(&self.hard));
+                inverse[r.below(3)] = f32::from_bits(r.pick(&self.hard));
             }
             6 => query = Aabb { min: query.max, max: query.min },
             _ => {}

@@ -1,61 +1,81 @@
 //! Geometries to shrink and to prepare: ordinary solids, and what goes wrong easily. All are small: the reference tries up to
 //! 148 margins on each, with a ray for each vertex and triangle, and 41,664 triples a vertex where a ring is as long as can be.
 
+use crate::inputs::{hard, Input};
 use crate::random::Random;
-use bounds::{BoundMaterial, Geometry, Mat4, Polygon, Vec3};
-use oracle::Aabb;
+use oracle::geometry::{Geometry, IDENTITY};
+use oracle::polygon::Polygon;
+use oracle::{Aabb, Vec3};
 
-plain::listed! {
-    /// What a geometry is made for.
-    pub enum Family in FAMILIES {
-        /// Any triangles over any vertices, of ordinary size.
-        Soup,
-        /// Small whole numbers: many sides and planes in common.
-        Grid,
-        /// Powers of two, from 2^-40 to 2^40.
-        Powers,
-        /// Every hard word.
-        Hard,
-        /// Any bits.
-        Any,
-        /// Closed solids, which shrink as they should.
-        Solid,
-        /// Triangles around one vertex, 1 to 70 of them, closed or open.
-        Fan,
-        /// Equal triangles, some turned, of few vertices: rings that do not come back.
-        Twins,
-        /// Fans that have one vertex in common.
-        BowTie,
-        /// Triangles with a vertex twice or three times.
-        Doubled,
-        /// Up to five triangles on one edge.
-        Edge,
-        /// Two parallel sheets 0.01 apart, whose margin is too large.
-        Shell,
-        /// A needle on a small foot.
-        Spike,
-        /// A solid in a box that is inside out.
-        Inverted,
-        /// A solid in a box of 0.02.
-        Tiny,
-        /// One triangle has a corner that is not there: the first, the last, or alone.
-        Bad,
-        /// A solid so far away that the margin is lost in rounding.
-        Far,
-        /// A solid of 1e20: squares overflow.
-        Huge,
-        /// A solid of 1e-30: squares vanish.
-        Small,
-    }
+/// What a geometry is made for.
+#[derive(Clone, Copy, Debug, PartialEq, Eq)]
+pub enum Family {
+    /// Any triangles over any vertices, of ordinary size.
+    Soup,
+    /// Small whole numbers: many sides and planes in common.
+    Grid,
+    /// Powers of two, from 2^-40 to 2^40.
+    Powers,
+    /// Every hard word.
+    Hard,
+    /// Any bits.
+    Any,
+    /// Closed solids, which shrink as they should.
+    Solid,
+    /// Triangles around one vertex, 1 to 70 of them, closed or open.
+    Fan,
+    /// Equal triangles, some turned, of few vertices: rings that do not come back.
+    Twins,
+    /// Fans that have one vertex in common.
+    BowTie,
+    /// Triangles with a vertex twice or three times.
+    Doubled,
+    /// Up to five triangles on one edge.
+    Edge,
+    /// Two parallel sheets 0.01 apart, whose margin is too large.
+    Shell,
+    /// A needle on a small foot.
+    Spike,
+    /// A solid in a box that is inside out.
+    Inverted,
+    /// A solid in a box of 0.02.
+    Tiny,
+    /// One triangle has a corner that is not there: the first, the last, or alone.
+    Bad,
+    /// A solid so far away that the margin is lost in rounding.
+    Far,
+    /// A solid of 1e20: squares overflow.
+    Huge,
+    /// A solid of 1e-30: squares vanish.
+    Small,
 }
 
-/// A point as it is made.
-pub type Point = [f32; 3];
+pub const FAMILIES: [Family; 19] = [
+    Family::Soup,
+    Family::Grid,
+    Family::Powers,
+    Family::Hard,
+    Family::Any,
+    Family::Solid,
+    Family::Fan,
+    Family::Twins,
+    Family::BowTie,
+    Family::Doubled,
+    Family::Edge,
+    Family::Shell,
+    Family::Spike,
+    Family::Inverted,
+    Family::Tiny,
+    Family::Bad,
+    Family::Far,
+    Family::Huge,
+    Family::Small,
+];
 
 /// Vertices and the corners of triangles over them.
 #[derive(Clone, Default)]
 pub struct Mesh {
-    pub vertices: Vec<Point>,
+    pub vertices: Vec<Vec3>,
     pub triangles: Vec<[usize; 3]>,
 }
 
@@ -105,7 +125,7 @@ pub fn sheets(cells: usize, apart: f32) -> Mesh {
 /// a pair of equal ones, which lead to one another.
 pub fn rings(vertices: usize) -> Mesh {
     let mut random = Random::new(vertices as u64);
-    let mut number = || random.unit() * 10.0;
+    let mut number = || random.u32() as f32 / 4294967296.0 * 10.0;
     let mut mesh =
         Mesh { vertices: (0..vertices).map(|_| [number(), number(), number()]).collect(), triangles: Vec::new() };
     // No two of these vertices are as far apart as two others, so that an edge has only what is said here. The last vertices
@@ -125,12 +145,12 @@ fn cube() -> Mesh {
 }
 
 impl Mesh {
-    fn scaled(mut self, by: Point) -> Mesh {
+    fn scaled(mut self, by: Vec3) -> Mesh {
         self.vertices.iter_mut().for_each(|v| (0..3).for_each(|axis| v[axis] *= by[axis]));
         self
     }
 
-    pub fn moved(mut self, by: Point) -> Mesh {
+    pub fn moved(mut self, by: Vec3) -> Mesh {
         self.vertices.iter_mut().for_each(|v| (0..3).for_each(|axis| v[axis] += by[axis]));
         self
     }
@@ -150,10 +170,10 @@ impl Mesh {
 
     /// The least box around the vertices.
     pub fn around(&self) -> Aabb {
-        let none = Aabb { min: [f32::MAX; 3].into(), max: [f32::MIN; 3].into() };
+        let none = Aabb { min: [f32::MAX; 3], max: [f32::MIN; 3] };
         self.vertices.iter().fold(none, |b, v| Aabb {
-            min: std::array::from_fn(|axis| b.min[axis].min(v[axis])).into(),
-            max: std::array::from_fn(|axis| b.max[axis].max(v[axis])).into(),
+            min: std::array::from_fn(|axis| b.min[axis].min(v[axis])),
+            max: std::array::from_fn(|axis| b.max[axis].max(v[axis])),
         })
     }
 
@@ -164,17 +184,21 @@ impl Mesh {
             material: 0,
             area: 1.0,
             v: t.map(|corner| corner.min(u16::MAX as usize) as u16),
-            edges: [-1; 3],
+            links: [-1; 3],
         };
         Geometry {
+            kind,
             box_min: b.min,
             box_max: b.max,
+            box_center: [0.0; 3],
+            sphere_center: [0.0; 3],
             sphere_radius: 1.0,
             margin,
-            vertices: self.vertices.iter().copied().map(Vec3::from).collect(),
+            center_geom: [0.0; 3],
+            transform: IDENTITY,
+            vertices: self.vertices.clone(),
             polygons: self.triangles.iter().map(triangle).collect(),
-            materials: vec![BoundMaterial { data1: 1, data2: 2 }],
-            ..Geometry::new(kind)
+            materials: vec![(1, 2)],
         }
     }
 }
@@ -182,11 +206,12 @@ impl Mesh {
 /// Random geometries.
 pub struct Shapes {
     random: Random,
+    hard: Vec<u32>,
 }
 
 impl Shapes {
     pub fn new(seed: u64) -> Shapes {
-        Shapes { random: Random::new(seed) }
+        Shapes { random: Random::new(seed), hard: hard(Input::Float) }
     }
 
     /// A geometry of this kind and of any family.
@@ -219,19 +244,24 @@ impl Shapes {
         let given = r.below(7);
         let reach = given + r.below(3);
         let values = r.pick(&[1, 2, 5, 400]);
-        let mut material = || BoundMaterial { data1: r.below(values) as u32, data2: r.below(2) as u32 };
-        geometry.materials = (0..given).map(|_| material()).collect();
+        geometry.materials = (0..given).map(|_| (r.below(values) as u32, r.below(2) as u32)).collect();
         for p in &mut geometry.polygons {
             let number = if r.once_in(30) { r.u32() as u8 } else { r.below(reach.max(1)) as u8 };
-            *p = p.with_material(number);
+            match p {
+                Polygon::Triangle { material, .. }
+                | Polygon::Sphere { material, .. }
+                | Polygon::Capsule { material, .. }
+                | Polygon::Box { material, .. }
+                | Polygon::Cylinder { material, .. } => *material = number,
+            }
         }
     }
 
     fn unit(&mut self) -> f32 {
-        self.random.unit() - 0.5
+        self.random.u32() as f32 / 4294967296.0 - 0.5
     }
 
-    fn point(&mut self, size: f32) -> Point {
+    fn point(&mut self, size: f32) -> Vec3 {
         std::array::from_fn(|_| self.unit() * size)
     }
 
@@ -313,7 +343,7 @@ impl Shapes {
         match family {
             Family::Grid => r.below(5) as f32 - 2.0,
             Family::Powers => 2f32.powi(r.below(81) as i32 - 40) * r.pick(&[1.0, -1.0]),
-            Family::Hard if r.once_in(2) => f32::from_bits(r.hard()),
+            Family::Hard if r.once_in(2) => f32::from_bits(r.pick(&self.hard)),
             Family::Any => f32::from_bits(r.u32()),
             _ => self.unit() * 20.0,
         }
@@ -385,7 +415,7 @@ impl Shapes {
     /// Few vertices and many triangles.
     fn few(&mut self) -> Mesh {
         let v = 3 + self.random.below(3);
-        let vertices: Vec<Point> = (0..v).map(|_| self.point(4.0)).collect();
+        let vertices: Vec<Vec3> = (0..v).map(|_| self.point(4.0)).collect();
         let most = if self.random.once_in(12) { 14 } else { 5 };
         let triangle = |r: &mut Random| {
             let first = r.below(v);
@@ -450,7 +480,7 @@ impl Shapes {
         };
         let (flags, links) = (r.pick(&[0, 0, 2, 1]), r.once_in(2));
         for (at, polygon) in geometry.polygons.iter_mut().enumerate() {
-            let Polygon::Triangle { v: corners, edges: given, area, .. } = polygon else { continue };
+            let Polygon::Triangle { v: corners, links: given, area, .. } = polygon else { continue };
             if at == bad {
                 corners[r.below(3)] = r.pick(&[v as u16, v as u16 + 3, 40_000, 0x7FFF]);
             }
@@ -470,37 +500,36 @@ impl Shapes {
             std::mem::swap(&mut geometry.box_min, &mut geometry.box_max);
         }
         match self.random.below(12) {
-            0 => (geometry.box_min, geometry.box_max) = (self.point(8.0).into(), self.point(8.0).into()),
-            1 => (geometry.box_min, geometry.box_max) = ([-4.0; 3].into(), [4.0; 3].into()),
-            2 => (geometry.box_min, geometry.box_max) = ([-f32::MAX; 3].into(), [f32::INFINITY; 3].into()),
+            0 => (geometry.box_min, geometry.box_max) = (self.point(8.0), self.point(8.0)),
+            1 => (geometry.box_min, geometry.box_max) = ([-4.0; 3], [4.0; 3]),
+            2 => (geometry.box_min, geometry.box_max) = ([-f32::MAX; 3], [f32::INFINITY; 3]),
             3 => {
                 let corner = if self.random.once_in(2) { &mut geometry.box_min } else { &mut geometry.box_max };
-                corner[self.random.below(3)] = f32::from_bits(self.random.hard());
+                corner[self.random.below(3)] = f32::from_bits(self.random.pick(&self.hard));
             }
             _ => {}
         }
         match family {
-            Family::Tiny => (geometry.box_min, geometry.box_max) = ([-0.01; 3].into(), [0.01; 3].into()),
+            Family::Tiny => (geometry.box_min, geometry.box_max) = ([-0.01; 3], [0.01; 3]),
             // Not as thin as the sheets: half the box is no margin then.
-            Family::Shell if self.random.once_in(2) => (geometry.box_min.z, geometry.box_max.z) = (-2.0, 2.0),
+            Family::Shell if self.random.once_in(2) => (geometry.box_min[2], geometry.box_max[2]) = (-2.0, 2.0),
             _ => {}
         }
         geometry.center_geom = match self.random.below(8) {
-            0 => self.point(20.0).into(),
-            1 => Vec3::new(10.0, 0.0, 0.0),
-            2 => std::array::from_fn(|_| f32::from_bits(self.random.hard())).into(),
-            _ => Vec3::ZERO,
+            0 => self.point(20.0),
+            1 => [10.0, 0.0, 0.0],
+            2 => std::array::from_fn(|_| f32::from_bits(self.random.pick(&self.hard))),
+            _ => [0.0; 3],
         };
-        let Mat4(transform) = &mut geometry.transform;
         match self.random.below(8) {
-            0 => transform.fill_with(|| self.unit() * 4.0),
-            1 => transform.fill_with(|| f32::from_bits(self.random.hard())),
-            2 => *transform = [0., 1., 0., 0., 1., 0., 0., 0., 0., 0., 1., 0., 5., 6., 7., 9.],
+            0 => (0..16).for_each(|i| geometry.transform[i] = self.unit() * 4.0),
+            1 => (0..16).for_each(|i| geometry.transform[i] = f32::from_bits(self.random.pick(&self.hard))),
+            2 => geometry.transform = [0., 1., 0., 0., 1., 0., 0., 0., 0., 0., 1., 0., 5., 6., 7., 9.],
             _ => {}
         }
         let mut word = || if self.random.once_in(4) { f32::from_bits(self.random.u32()) } else { self.unit() };
-        geometry.box_center = std::array::from_fn(|_| word()).into();
-        geometry.sphere_center = std::array::from_fn(|_| word()).into();
+        geometry.box_center = std::array::from_fn(|_| word());
+        geometry.sphere_center = std::array::from_fn(|_| word());
         geometry.sphere_radius = word();
     }
 
@@ -514,7 +543,7 @@ impl Shapes {
             let reach = geometry.vertices.len() + 3;
             let mut index = || if r.once_in(20) { r.u32() as u16 } else { r.below(reach) as u16 };
             let (material, i1, i2, i3, i4) = (0, index(), index(), index(), index());
-            let radius = f32::from_bits(if r.once_in(4) { r.hard() } else { 0x3F00_0000 });
+            let radius = f32::from_bits(if r.once_in(4) { r.pick(&self.hard) } else { 0x3F00_0000 });
             let polygon = match r.below(4) {
                 0 => Polygon::Sphere { material, index: i1, radius },
                 1 => Polygon::Capsule { material, i1, i2, radius },

@@ -1,19 +1,19 @@
 //! `calculate_verts_shrunk`: one side's points held to the reference's, floats by their bits and a NaN as a NaN, and how it
 //! came to them: by which margin, or by normals.
 
-use crate::lent::Lent;
+use crate::lent::{Cell, Lent};
+use crate::operation::made;
+use crate::plain::polygon::RECORD;
 use crate::random::Random;
-use crate::report::{shown, Cases, Line, Refusals};
+use crate::report::{Line, Progress};
 use crate::shapes::{sheet, Family, Mesh, Shapes, FAMILIES};
 use bounds::shrink::work_len;
-use bounds::{Geometry, Polygon, Refusal, Shrunk, ShrunkBy, Vec3};
-use oracle::geometry::{self as reference, VERTICES};
-use oracle::polygon::{self, LIMIT};
-use plain::polygon::RECORD;
-use plain::shrink::starting_margin;
+use bounds::Vec3;
+use oracle::geometry::{self as reference, By, Geometry, Shrunk, VERTICES};
+use oracle::polygon::{self, Polygon, LIMIT};
 
 /// A case, the points that are lent and the words to work in.
-pub type Side<'a> = dyn Fn(&Case, &mut [Vec3], &mut [u32]) -> Result<ShrunkBy, Refusal> + 'a;
+pub type Side<'a> = dyn Fn(&Case, &mut [Vec3], &mut [u32]) -> Result<By, u32> + 'a;
 
 /// A geometry, whose polygons are records, and how many points and words are lent.
 #[derive(Clone, Debug)]
@@ -24,6 +24,22 @@ pub struct Case {
     pub count: usize,
     pub points: usize,
     pub work: usize,
+}
+
+impl Cell for Vec3 {
+    /// A number: no NaN is taken for another.
+    fn of(pattern: u64) -> Vec3 {
+        let number = |bits: u64| f32::from_bits(bits as u32 & 0xBFFF_FFFF);
+        Vec3::new(number(pattern), number(pattern >> 16), number(pattern >> 32))
+    }
+
+    fn same(self, other: Vec3) -> bool {
+        words(self) == words(other)
+    }
+}
+
+fn words(p: Vec3) -> [u32; 3] {
+    [p.x, p.y, p.z].map(made)
 }
 
 impl Case {
@@ -46,16 +62,12 @@ impl Case {
 }
 
 /// Random cases.
-struct Damaged {
+struct Cases {
     shapes: Shapes,
     random: Random,
 }
 
-impl Damaged {
-    fn new(seed: u64, damage: u64) -> Damaged {
-        Damaged { shapes: Shapes::new(seed), random: Random::new(damage) }
-    }
-
+impl Cases {
     fn next(&mut self) -> Case {
         let (family, geometry) = self.shapes.next(4);
         let mut case = Case::exact(Some(family), geometry);
@@ -110,33 +122,44 @@ fn at_the_limit() -> Vec<Case> {
 /// The same with a margin that is infinite.
 fn infinite(case: &Case) -> Case {
     let mut case = case.clone();
-    (case.geometry.margin, case.geometry.box_max) = (f32::NAN, [f32::INFINITY; 3].into());
+    (case.geometry.margin, case.geometry.box_max) = (f32::NAN, [f32::INFINITY; 3]);
     case
 }
 
 /// The reference's answer, after the refusals that it has not: 2, and 6 of a record.
-fn expected(case: &Case) -> Result<Shrunk, Refusal> {
+fn expected(case: &Case) -> Result<Shrunk, u32> {
+    let mut geometry = case.geometry.clone();
     if case.too_long() {
-        return Err(Refusal::ListTooLong);
+        return Err(1);
     }
     if case.too_short() {
-        return Err(Refusal::BufferTooShort);
+        return Err(2);
     }
-    let records = case.records.chunks_exact(RECORD).take(case.count);
-    let polygons = records.map(polygon::read).collect::<Result<_, _>>()?;
-    reference::calculate_verts_shrunk(&Geometry { polygons, ..case.geometry.clone() })
+    let read = |record: &[u8]| polygon::read(record).map_err(|refused| refused.0 as u32);
+    geometry.polygons = case.records.chunks_exact(RECORD).take(case.count).map(read).collect::<Result<_, _>>()?;
+    reference::calculate_verts_shrunk(&geometry).map_err(|refused| refused.0 as u32)
 }
 
-/// `Err` with the first thing that is not the same. Margins are numbers above 0, and the same where they are equal.
-fn differs(case: &Case, expected: &Result<Shrunk, Refusal>, ours: &Side, seed: u64) -> Result<(), String> {
+fn way(by: &By) -> (u32, u32) {
+    match by {
+        By::NoVertices => (0, 0),
+        By::Margin(margin) => (1, margin.to_bits()),
+        By::Normals => (2, 0),
+    }
+}
+
+/// `Err` with the first thing that is not the same.
+fn differs(case: &Case, expected: &Result<Shrunk, u32>, ours: &Side, seed: u64) -> Result<(), String> {
     let (mut points, mut work) = (Lent::<Vec3>::new(case.points, seed), Lent::<u32>::new(case.work, !seed));
     let answer = ours(case, points.buffer(), work.buffer());
-    let theirs = expected.as_ref().map(|shrunk| shrunk.by).map_err(|&refusal| refusal);
-    if answer != theirs {
+    let said = |by: Result<By, u32>| by.map_err(|number| format!("refusal {number}"));
+    let theirs = expected.as_ref().map(|shrunk| shrunk.by).map_err(|&number| number);
+    if said(answer).as_ref().map(way) != said(theirs).as_ref().map(way) {
         return Err(format!("{answer:?}, expected {theirs:?}"));
     }
-    let written = expected.as_ref().map_or(&[][..], |shrunk| &shrunk.vertices);
-    points.check(written).map_err(|why| format!("points: {why}"))?;
+    let vectors = |shrunk: &Shrunk| shrunk.points.iter().map(|&[x, y, z]| Vec3::new(x, y, z)).collect();
+    let written: Vec<Vec3> = expected.as_ref().map(vectors).unwrap_or_default();
+    points.check(&written).map_err(|why| format!("points: {why}"))?;
     work.check_guards().map_err(|why| format!("work: {why}"))
 }
 
@@ -154,18 +177,17 @@ struct Outcomes {
 /// How often each refusal was reached, what each family came to, and the most margins that were tried before one passed.
 #[derive(Default)]
 struct Reached {
-    refusals: Refusals,
+    refusals: [u64; 8],
     families: [Outcomes; FAMILIES.len()],
     limits: u64,
     halvings: u32,
 }
 
 impl Reached {
-    fn note(&mut self, case: &Case, answer: &Result<Shrunk, Refusal>) {
-        self.refusals.note(answer);
+    fn note(&mut self, case: &Case, answer: &Result<Shrunk, u32>) {
         let mut unused = Outcomes::default();
-        let of = match case.family {
-            Some(family) => &mut self.families[family as usize],
+        let of = match case.family.and_then(|family| FAMILIES.iter().position(|&f| f == family)) {
+            Some(at) => &mut self.families[at],
             None => {
                 self.limits += 1;
                 &mut unused
@@ -173,11 +195,14 @@ impl Reached {
         };
         of.cases += 1;
         match answer.as_ref().map(|shrunk| shrunk.by) {
-            Err(_) => of.refused += 1,
-            Ok(ShrunkBy::NoVertices) => of.none += 1,
-            Ok(ShrunkBy::Normals) => of.normals += 1,
-            Ok(ShrunkBy::Margin(margin)) => {
-                let halvings = (starting_margin(&case.geometry) / margin).log2().round() as u32;
+            Err(&number) => {
+                self.refusals[number as usize] += 1;
+                of.refused += 1;
+            }
+            Ok(By::NoVertices) => of.none += 1,
+            Ok(By::Normals) => of.normals += 1,
+            Ok(By::Margin(margin)) => {
+                let halvings = (starting(&case.geometry) / margin).log2().round() as u32;
                 self.halvings = self.halvings.max(halvings);
                 *(if halvings == 0 { &mut of.first } else { &mut of.halved }) += 1;
             }
@@ -185,7 +210,8 @@ impl Reached {
     }
 
     fn lines(&self) -> Vec<String> {
-        let mut lines: Vec<String> = self.refusals.lines(&[1, 2, 6, 7]).collect();
+        let refused = [1, 2, 6, 7].map(|number: usize| format!("refused {number}: {}", self.refusals[number]));
+        let mut lines = refused.to_vec();
         lines.push(format!("at the limits: {}", self.limits));
         lines.push(format!("most halvings before a margin passed: {}", self.halvings));
         for (family, o) in FAMILIES.iter().zip(&self.families) {
@@ -204,62 +230,98 @@ impl Reached {
     }
 }
 
+fn starting(g: &Geometry) -> f32 {
+    (0..3).fold(g.margin, |margin, axis| margin.min((g.box_max[axis] - g.box_min[axis]).abs() * 0.5))
+}
+
 /// The cases at the limits, then random ones up to `cases` in all.
 pub fn run(seed: u64, cases: u64, ours: &Side) -> Line {
-    let (mut reached, mut random) = (Reached::default(), Damaged::new(seed, !seed));
-    let asked = |case: &Case, done: u64| {
-        let theirs = expected(case);
-        reached.note(case, &theirs);
-        differs(case, &theirs, ours, seed ^ done << 20)
-    };
-    let size = |case: &Case| case.count + case.geometry.vertices.len();
-    let line = Cases::new("shrink", cases, at_the_limit()).compared(|_| random.next(), asked, size, shown);
-    line.reaching(reached.lines())
+    let mut fixed = at_the_limit();
+    let total = cases.max(fixed.len() as u64);
+    let mut progress = Progress::new("shrink", total);
+    let (mut reached, mut mismatches, mut smallest) = (Reached::default(), 0, None::<(usize, String)>);
+    let mut random = Cases { shapes: Shapes::new(seed), random: Random::new(!seed) };
+    for done in 0..total {
+        let case = fixed.pop().unwrap_or_else(|| random.next());
+        let theirs = expected(&case);
+        reached.note(&case, &theirs);
+        if let Err(why) = differs(&case, &theirs, ours, seed ^ done << 20) {
+            mismatches += 1;
+            let size = case.count + case.geometry.vertices.len();
+            if smallest.as_ref().is_none_or(|(before, _)| size < *before) {
+                smallest = Some((size, format!("{why}\n  {case:?}").chars().take(4_000).collect()));
+            }
+        }
+        if done % 64 == 0 {
+            progress.at(done);
+        }
+    }
+    progress.end(mismatches);
+    let smallest = smallest.map(|(_, text)| text);
+    Line { operation: "shrink".to_string(), cases: total, mismatches, smallest, reached: reached.lines() }
 }
 
 #[cfg(test)]
 mod tests {
     use super::*;
+    use crate::plain::shrink::{shrunk, Wrong, WRONG};
     use crate::proved;
-    use crate::report::{all_found, needs_reference};
-    use plain::shrink::{shrunk, Wrong, WRONG};
+
+    fn left_out(test: &str) -> bool {
+        oracle::missing().inspect(|why| eprintln!("{test} is left out: {why}")).is_some()
+    }
 
     /// The plain steps, or wrong ones, in lent buffers.
-    fn plain(wrong: Option<Wrong>) -> impl Fn(&Case, &mut [Vec3], &mut [u32]) -> Result<ShrunkBy, Refusal> {
+    fn plain(wrong: Option<Wrong>) -> impl Fn(&Case, &mut [Vec3], &mut [u32]) -> Result<By, u32> {
         move |case, points, _| {
             if case.too_short() && !case.too_long() {
-                return Err(Refusal::BufferTooShort);
+                return Err(2);
             }
             let shrunk = shrunk(&case.geometry, &case.records, case.count, wrong)?;
-            points[..shrunk.vertices.len()].copy_from_slice(&shrunk.vertices);
+            for (out, [x, y, z]) in points.iter_mut().zip(&shrunk.points) {
+                *out = Vec3::new(*x, *y, *z);
+            }
             Ok(shrunk.by)
         }
     }
 
+    fn holds(line: Line) {
+        assert_eq!((line.mismatches, line.smallest), (0, None));
+        assert!(line.reached.iter().all(|what| !what.ends_with(": 0")), "{:?}", line.reached);
+    }
+
     #[test]
     fn shrinking_matches() {
-        needs_reference!();
-        run(1, 6_000, &proved::shrink).holds();
-        run(1, 6_000, &plain(None)).holds();
+        if left_out("shrinking_matches") {
+            return;
+        }
+        holds(run(1, 6_000, &proved::shrink));
+        holds(run(1, 6_000, &plain(None)));
     }
 
     #[test]
     fn wrong_steps_are_found() {
-        needs_reference!();
-        assert_eq!(WRONG.len(), 25, "as many as rust/README says");
-        let mut random = Damaged::new(3, 4);
-        let next = || {
+        if left_out("wrong_steps_are_found") {
+            return;
+        }
+        let mut missed = WRONG.to_vec();
+        let mut random = Cases { shapes: Shapes::new(3), random: Random::new(4) };
+        for done in 0..40_000 {
             let case = random.next();
-            (expected(&case), case)
-        };
-        all_found(&WRONG, next, |(theirs, case), wrong, done| {
-            differs(case, theirs, &plain(Some(wrong)), done).is_err()
-        });
+            let theirs = expected(&case);
+            missed.retain(|&wrong| differs(&case, &theirs, &plain(Some(wrong)), done).is_ok());
+            if missed.is_empty() {
+                return;
+            }
+        }
+        panic!("not found: {missed:?}");
     }
 
     #[test]
     fn wrong_buffers_are_found() {
-        needs_reference!();
+        if left_out("wrong_buffers_are_found") {
+            return;
+        }
         let right = plain(None);
         let behind = |case: &Case, points: &mut [Vec3], work: &mut [u32]| {
             let by = right(case, points, work)?;
@@ -273,7 +335,7 @@ mod tests {
         };
         let last = |case: &Case, points: &mut [Vec3], work: &mut [u32]| {
             let by = right(case, points, work)?;
-            Ok(if let ShrunkBy::Margin(margin) = by { ShrunkBy::Margin(margin.max(0.025)) } else { by })
+            Ok(if let By::Margin(margin) = by { By::Margin(margin.max(0.025)) } else { by })
         };
         let sides: [&Side<'_>; 3] = [&behind, &at_a_refusal, &last];
         for (at, wrong) in sides.into_iter().enumerate() {

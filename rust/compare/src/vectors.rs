@@ -89,12 +89,16 @@ fn line(out: &mut String, number: u8, op: &Operation, case: &[u32]) {
 #[cfg(test)]
 mod tests {
     use super::*;
-    use crate::report::needs_reference;
+    use std::io::Write;
 
     /// Reads the file as the table says and asks the proved library.
     #[test]
     fn the_library_replays_every_line() {
-        needs_reference!();
+        if let Some(why) = oracle::missing() {
+            // Not eprintln, which a test that passes keeps to itself.
+            let _ = writeln!(std::io::stderr(), "the_library_replays_every_line is left out: {why}");
+            return;
+        }
         let operations = crate::operation::all();
         let text = text(&operations, 1);
         let mut seen = std::collections::BTreeSet::new();

@@ -1,45 +1,75 @@
 //! A geometry's quantum, and vertices stored in units of it and read back: operations on words.
 
-use crate::inputs::Input::{Count, Float};
-use crate::operation::{made3, operations, point, Operation};
-use bounds::geometry::calculate_quantum;
-use bounds::{BoundVertex, Geometry, Vec3};
-use oracle::geometry::prepare;
-use oracle::math;
-use plain::vertex as plain;
+use crate::inputs::Input::{self, Count, Float};
+use crate::operation::{made, Operation, Side};
+use crate::{plain::vertex as plain, proved};
+use oracle::geometry::{prepare, Geometry, IDENTITY};
+use oracle::{math, Aabb, Vec3};
 
-fn stored(w: &[u32]) -> BoundVertex {
-    BoundVertex(w[0] as i16, w[1] as i16, w[2] as i16)
+fn point(w: &[u32]) -> Vec3 {
+    std::array::from_fn(|i| f32::from_bits(w[i]))
 }
 
-fn shorts(BoundVertex(x, y, z): BoundVertex) -> [u32; 3] {
-    [x, y, z].map(|n| n as u32)
+fn boxed(w: &[u32]) -> Aabb {
+    Aabb { min: point(w), max: point(&w[3..]) }
+}
+
+fn shorts(w: &[u32]) -> [i16; 3] {
+    std::array::from_fn(|i| w[i] as u16 as i16)
 }
 
 /// The reference has it in `prepare` alone: a geometry with nothing in it keeps its box.
-fn reference_quantum(box_min: Vec3, box_max: Vec3) -> Vec3 {
-    prepare(&Geometry { box_min, box_max, ..Geometry::new(Geometry::BVH) }).expect("nothing to refuse").quantum
+fn reference_quantum(b: Aabb) -> Vec3 {
+    let empty = Geometry {
+        kind: 8,
+        box_min: b.min,
+        box_max: b.max,
+        box_center: [0.0; 3],
+        sphere_center: [0.0; 3],
+        sphere_radius: 0.0,
+        margin: 0.0,
+        center_geom: [0.0; 3],
+        transform: IDENTITY,
+        vertices: Vec::new(),
+        polygons: Vec::new(),
+        materials: Vec::new(),
+    };
+    prepare(&empty).expect("nothing to refuse").quantum
 }
 
-/// The library on our side.
-pub fn operations() -> [Operation; 3] {
-    operations! { "geometry", w:
-        "quantum" (&[Float; 6]) made3(calculate_quantum(point(w), point(&w[3..]))),
-            made3(reference_quantum(point(w), point(&w[3..])));
-        "stored" (&[Float; 6]) shorts(BoundVertex::from_vec(point(w), point(&w[3..]))),
-            shorts(math::quantise_vertex(point(w), point(&w[3..])));
-        "read_back" (&[Count, Count, Count, Float, Float, Float]) made3(stored(w).to_vec(point(&w[3..]))),
-            made3(math::vertex_read_back(stored(w), point(&w[3..])));
-    }
+/// An operation's sides, with plain Rust for the library or the library itself.
+fn operation(name: &'static str, shape: &'static [Input], ours: Side, theirs: Side) -> Operation {
+    Operation { name, group: "geometry", number: None, shape, ours, theirs }
+}
+
+fn quantum(ours: Side) -> Operation {
+    operation("quantum", &[Float; 6], ours, |w| reference_quantum(boxed(w)).map(made).into())
+}
+
+fn stored(ours: Side) -> Operation {
+    operation("stored", &[Float; 6], ours, |w| math::quantise_vertex(point(w), point(&w[3..])).map(|n| n as u32).into())
+}
+
+fn read_back(ours: Side) -> Operation {
+    operation("read_back", &[Count, Count, Count, Float, Float, Float], ours, |w| {
+        math::vertex_read_back(shorts(w), point(&w[3..])).map(made).into()
+    })
+}
+
+pub fn operations() -> Vec<Operation> {
+    vec![
+        quantum(|w| proved::quantum(boxed(w)).map(made).into()),
+        stored(|w| proved::stored(point(w), point(&w[3..])).map(|n| n as u32).into()),
+        read_back(|w| proved::read_back(shorts(w), point(&w[3..])).map(made).into()),
+    ]
 }
 
 /// Plain Rust on our side.
-pub fn plain_operations() -> [Operation; 3] {
-    let [quantum, stores, read_back] = operations();
-    [
-        Operation { ours: |w| made3(plain::quantum(point(w), point(&w[3..]))).into(), ..quantum },
-        Operation { ours: |w| shorts(plain::stored(point(w), point(&w[3..]))).into(), ..stores },
-        Operation { ours: |w| made3(plain::read_back(stored(w), point(&w[3..]))).into(), ..read_back },
+pub fn plain_operations() -> Vec<Operation> {
+    vec![
+        quantum(|w| plain::quantum(boxed(w)).map(made).into()),
+        stored(|w| plain::stored(point(w), point(&w[3..])).map(|n| n as u32).into()),
+        read_back(|w| plain::read_back(shorts(w), point(&w[3..])).map(made).into()),
     ]
 }
 
@@ -47,13 +77,15 @@ pub fn plain_operations() -> [Operation; 3] {
 mod tests {
     use super::*;
     use crate::check;
-    use crate::report::needs_reference;
 
     #[test]
     fn vertices_match() {
-        needs_reference!();
+        if let Some(why) = oracle::missing() {
+            return eprintln!("vertices_match is left out: {why}");
+        }
         for operation in operations().into_iter().chain(plain_operations()) {
-            check::run(&operation, 1, 20_000).holds();
+            let line = check::run(&operation, 1, 20_000);
+            assert_eq!((line.mismatches, line.smallest), (0, None));
         }
     }
 }

@@ -3,8 +3,10 @@
 
 use crate::lent::Lent;
 use crate::records::{Case, Records};
-use crate::report::{Cases, Line};
-use plain::walk::{Walk, Walked};
+use crate::report::{Line, Progress};
+use crate::walk::{Walk, Walked};
+use bounds::walk as proved;
+use bounds::Vec3;
 
 /// How often each refusal was reached, and what was read and handed out in all.
 #[derive(Default)]
@@ -30,8 +32,17 @@ impl Reached {
 }
 
 /// The proved library's walk.
-pub fn proved(&Walk { min, max, cen, inverse, records }: &Walk, out: &mut [u16]) -> Walked {
-    let (refusal, counts) = match bounds::walk::walk(min, max, cen, inverse, &records, out) {
+pub fn proved(walk: &Walk, out: &mut [u16]) -> Walked {
+    let vec3 = |p: [f32; 3]| Vec3::new(p[0], p[1], p[2]);
+    let records = proved::Records {
+        node_bytes: walk.nodes,
+        nodes_count: walk.node_count,
+        tree_bytes: walk.trees,
+        trees_count: walk.tree_count,
+        items_count: walk.item_count,
+    };
+    let (min, max, cen, inverse) = (vec3(walk.query.min), vec3(walk.query.max), vec3(walk.cen), vec3(walk.inverse));
+    let (refusal, counts) = match proved::walk(min, max, cen, inverse, &records, out) {
         Ok(counts) => (0, counts),
         Err(refused) => (refused.refusal.number(), refused.counts),
     };
@@ -40,11 +51,25 @@ pub fn proved(&Walk { min, max, cen, inverse, records }: &Walk, out: &mut [u16])
 
 /// `cases` walks by `ours`, which answers for a walk and the output that it is lent.
 pub fn run(seed: u64, cases: u64, ours: impl Fn(&Walk, &mut [u16]) -> Walked) -> Line {
-    let (mut reached, mut records) = (Reached::default(), Records::new(seed));
-    let asked = |case: &Case, done: u64| differs(case, &ours, seed ^ done << 20).map(|walked| reached.note(walked));
-    let size = |case: &Case| case.nodes.len() + case.trees.len();
-    let line = Cases::new("walk", cases, Vec::new()).compared(|_| records.case(), asked, size, describe);
-    line.reaching(reached.lines())
+    let mut progress = Progress::new("walk", cases);
+    let (mut reached, mut mismatches, mut first) = (Reached::default(), 0, None);
+    let mut records = Records::new(seed);
+    for done in 0..cases {
+        let case = records.case();
+        match differs(&case, &ours, seed ^ done << 20) {
+            Ok(walked) => reached.note(walked),
+            Err(why) => {
+                mismatches += 1;
+                first.get_or_insert((why, case));
+            }
+        }
+        if done % 4096 == 0 {
+            progress.at(done);
+        }
+    }
+    progress.end(mismatches);
+    let smallest = first.map(|(why, case)| format!("{why}\n  {}", describe(&case)));
+    Line { operation: "walk".to_string(), cases, mismatches, smallest, reached: reached.lines() }
 }
 
 /// What both answer; `Err` with the first thing that is not the same.
@@ -60,14 +85,13 @@ fn differs(case: &Case, ours: impl Fn(&Walk, &mut [u16]) -> Walked, seed: u64) -
     Ok(theirs)
 }
 
-fn describe(case: Case, why: String) -> String {
+fn describe(case: &Case) -> String {
     let records = |bytes: &[u8]| -> Vec<[i16; 8]> {
         let short = |r: &[u8], i: usize| i16::from_le_bytes([r[2 * i], r[2 * i + 1]]);
         bytes.chunks_exact(16).take(40).map(|r| std::array::from_fn(|i| short(r, i))).collect()
     };
-    let Case { query, cen, inverse, node_count, tree_count, item_count, out, .. } = &case;
-    let mut text =
-        format!("{why}\n  query {query:?}, cen {cen:?}, inverse {inverse:?}, items {item_count}, output of {out}");
+    let Case { query, cen, inverse, node_count, tree_count, item_count, out, .. } = case;
+    let mut text = format!("query {query:?}, cen {cen:?}, inverse {inverse:?}, items {item_count}, output of {out}");
     text += &format!("\n  trees {tree_count} in {} bytes: {:?}", case.trees.len(), records(&case.trees));
     text + &format!("\n  nodes {node_count} in {} bytes: {:?}", case.nodes.len(), records(&case.nodes))
 }
@@ -79,12 +103,13 @@ mod tests {
     #[test]
     fn the_plain_walk_matches_itself_and_every_refusal_is_reached() {
         let line = run(1, 20_000, |walk, out| walk.run(out));
-        line.holds();
+        assert_eq!((line.mismatches, line.smallest), (0, None));
+        assert!(line.reached.iter().all(|what| !what.ends_with(": 0")), "{:?}", line.reached);
     }
 
     #[test]
     fn the_proved_walk_matches() {
-        run(3, 20_000, proved).same();
+        assert_eq!(run(3, 20_000, proved).smallest, None);
     }
 
     #[test]

@@ -21,5 +21,5 @@ answers! {
     fn to_short(x: f32) -> i16 { bvh::to_short(x) }
 
     /// bounds.rs, `BoundVertex::from_vec`: a vertex value. The quantum is 1, which divides exactly.
-    fn vertex_value(x: f32) -> i16 { bounds::vertex(Vec3::new(x, 0.0, 0.0), Vec3::new(1.0, 1.0, 1.0)).0 }
+    fn vertex_value(x: f32) -> i16 { bounds::vertex([x, 0.0, 0.0], [1.0; 3])[0] }
 }

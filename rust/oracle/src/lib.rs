@@ -4,9 +4,6 @@
 //! that the environment variable REFERENCE named at build time; nothing of them is kept here. Only the two calls of
 //! `update_triangle_areas` in `Geometry::prepare` are taken out, because areas are outside the scope (01).
 //!
-//! What goes in and comes out has the types of [`bounds`], so that answers are compared as they are. No function of the
-//! library is called to answer: not its operators on [`Vec3`], and no method of a type that goes there.
-//!
 //! A refusal is 01's: the reference has most of them not, and would hang, wrap or panic instead. Refusal 2 (a lent
 //! buffer too short) is no concern of the oracle, whose answers are values of their own.
 //!
@@ -34,15 +31,22 @@ pub mod polygon;
 #[cfg(reference)]
 mod reference;
 pub mod tree;
+pub mod walk;
 
-pub use bounds::{Mat4, Refusal, Vec3, Vec4};
+pub type Vec3 = [f32; 3];
+pub type Vec4 = [f32; 4];
+/// Row-major, as the reference holds it: a point goes through as `p * M`, the translation is entries 12 to 14.
+pub type Mat4 = [f32; 16];
 
-/// A box: its least and its greatest corner.
-#[derive(Clone, Copy, Debug, Default, PartialEq)]
+#[derive(Clone, Copy, Debug, PartialEq)]
 pub struct Aabb {
     pub min: Vec3,
     pub max: Vec3,
 }
+
+/// A refusal by its number in 01.
+#[derive(Clone, Copy, Debug, PartialEq, Eq)]
+pub struct Refused(pub u8);
 
 /// Why there are no answers; `None` where the reference was found.
 pub fn missing() -> Option<&'static str> {
@@ -61,9 +65,9 @@ pub fn on_large_stack<T: Send>(f: impl FnOnce() -> T + Send) -> T {
 
 /// Refusal 1: a list over its limit.
 #[cfg(reference)]
-fn at_most(count: usize, limit: usize) -> Result<(), Refusal> {
+fn at_most(count: usize, limit: usize) -> Result<(), Refused> {
     if count > limit {
-        Err(Refusal::ListTooLong)
+        Err(Refused(1))
     } else {
         Ok(())
     }

@@ -8,7 +8,6 @@ use crate::reference::blocks::{
 #[cfg(reference)]
 use crate::reference::math;
 use crate::{Aabb, Mat4, Vec3, Vec4};
-use ::bounds::BoundVertex;
 use std::cmp::Ordering;
 
 answers! {
@@ -28,14 +27,14 @@ answers! {
     fn vmax(a: Vec3, b: Vec3) -> Vec3 { of(bounds::vmax(v(a), v(b))) }
     fn cmp_vec3(a: Vec3, b: Vec3) -> Ordering { bvh::cmp_vec3(v(a), v(b)) }
     fn transform_point(m: &Mat4, p: Vec3) -> Vec4 {
-        let p = math::Mat4(m.0).transform_point(v(p));
-        Vec4 { x: p.x, y: p.y, z: p.z, w: p.w }
+        let p = math::Mat4(*m).transform_point(v(p));
+        [p.x, p.y, p.z, p.w]
     }
-    fn transform_vector(m: &Mat4, d: Vec3) -> Vec3 { of(math::Mat4(m.0).transform_vector(v(d))) }
+    fn transform_vector(m: &Mat4, d: Vec3) -> Vec3 { of(math::Mat4(*m).transform_vector(v(d))) }
     /// bounds.rs, `transform_box`.
     fn transform_box(b: Aabb, m: &Mat4) -> Aabb { bounds::transform_box(b, m) }
     /// bounds.rs, `BoundVertex::from_vec`.
-    fn quantise_vertex(p: Vec3, quantum: Vec3) -> BoundVertex { bounds::stored(&bounds::vertex(v(p), v(quantum))) }
+    fn quantise_vertex(p: Vec3, quantum: Vec3) -> [i16; 3] { bounds::vertex(p, quantum) }
     /// bounds.rs, `BoundVertex::to_vec`.
-    fn vertex_read_back(vertex: BoundVertex, quantum: Vec3) -> Vec3 { bounds::vertex_read_back(vertex, quantum) }
+    fn vertex_read_back(vertex: [i16; 3], quantum: Vec3) -> Vec3 { bounds::vertex_read_back(vertex, quantum) }
 }

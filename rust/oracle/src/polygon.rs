@@ -2,26 +2,38 @@
 
 #[cfg(reference)]
 use crate::{at_most, reference::blocks::bounds::inside};
-use crate::{Aabb, Refusal, Vec3};
-use bounds::{BoundMaterial, Polygon};
+use crate::{Aabb, Refused, Vec3};
 
 /// The most polygons of a geometry.
 pub const LIMIT: usize = 32_767;
 
+/// bounds.rs, `Polygon`; links are its `edges`.
+#[derive(Clone, Copy, Debug, PartialEq)]
+pub enum Polygon {
+    Triangle { material: u8, area: f32, v: [u16; 3], links: [i16; 3] },
+    Sphere { material: u8, index: u16, radius: f32 },
+    Capsule { material: u8, i1: u16, i2: u16, radius: f32 },
+    Box { material: u8, i: [i16; 4] },
+    Cylinder { material: u8, i1: u16, i2: u16, radius: f32 },
+}
+
+/// Two words, `data1` and `data2`.
+pub type Material = (u32, u32);
+
 /// What `build_materials` leaves: each material once, and for each polygon its place among them.
 #[derive(Clone, Debug, PartialEq, Eq)]
 pub struct Materials {
-    pub list: Vec<BoundMaterial>,
+    pub list: Vec<Material>,
     pub indices: Vec<u8>,
 }
 
 answers! {
     /// bounds.rs, `Polygon::read`. Refusals 5, 6.
-    fn read(bytes: &[u8]) -> Result<Polygon, Refusal> {
+    fn read(bytes: &[u8]) -> Result<Polygon, Refused> {
         if bytes.len() < 16 {
-            return Err(Refusal::ShortRecord);
+            return Err(Refused(5));
         }
-        inside::read(bytes).ok_or(Refusal::UnknownKind)
+        inside::read(bytes).ok_or(Refused(6))
     }
 
     /// bounds.rs, `Polygon::to_bytes`.
@@ -38,7 +50,7 @@ answers! {
 
     /// bounds.rs, `Geometry::build_materials`, for polygons with these material numbers. Refusal 1; 8 cannot happen
     /// with numbers of one byte.
-    fn materials(numbers: &[u8], materials: &[BoundMaterial]) -> Result<Materials, Refusal> {
+    fn materials(numbers: &[u8], materials: &[Material]) -> Result<Materials, Refused> {
         at_most(numbers.len(), LIMIT)?;
         at_most(materials.len(), 256)?;
         Ok(inside::materials(numbers, materials))
@@ -46,12 +58,12 @@ answers! {
 
     /// `build_materials` alone, to be timed: each call answers how many there are. A call finds the list that the last one
     /// left, which has the same materials. Nothing is refused.
-    fn lister(numbers: &[u8], materials: &[BoundMaterial]) -> Box<dyn FnMut() -> usize + Send> {
+    fn lister(numbers: &[u8], materials: &[Material]) -> Box<dyn FnMut() -> usize + Send> {
         inside::lister(numbers, materials)
     }
 
     /// bounds.rs, `Geometry::update_edge_indices`. Refusal 1.
-    fn edges(polygons: &[Polygon]) -> Result<Vec<Polygon>, Refusal> {
+    fn edges(polygons: &[Polygon]) -> Result<Vec<Polygon>, Refused> {
         at_most(polygons.len(), LIMIT)?;
         Ok(inside::edges(polygons))
     }

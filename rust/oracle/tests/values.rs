@@ -1,17 +1,16 @@
 //! Every value of 01's "Values to check" and those in its text, answered by the reference.
 
-use bounds::{BoundMaterial, BvhItem, Child, Mat4, Polygon, Refusal, Vec3};
-use oracle::polygon::Materials;
-use oracle::{composite, float, geometry, math, on_large_stack, polygon, tree};
+use oracle::polygon::{Materials, Polygon};
+use oracle::{composite, float, geometry, math, on_large_stack, polygon, tree, Aabb, Refused};
 
-fn triangle(area: u32, v: [u16; 3], edges: [i16; 3]) -> Polygon {
-    Polygon::Triangle { material: 0, area: f32::from_bits(area), v, edges }
+fn triangle(area: u32, v: [u16; 3], links: [i16; 3]) -> Polygon {
+    Polygon::Triangle { material: 0, area: f32::from_bits(area), v, links }
 }
 
 /// Boxes of which no two are alike.
-fn row(n: usize) -> Vec<BvhItem> {
-    let at = |i: usize| BvhItem::new(Vec3::new(i as f32, 0.0, 0.0), Vec3::new(i as f32 + 0.5, 1.0, 1.0));
-    (0..n).map(at).collect()
+fn row(n: usize) -> Vec<Option<Aabb>> {
+    let at = |i: usize| Aabb { min: [i as f32, 0.0, 0.0], max: [i as f32 + 0.5, 1.0, 1.0] };
+    (0..n).map(|i| Some(at(i))).collect()
 }
 
 #[test]
@@ -27,7 +26,7 @@ fn node_and_vertex_values() {
 #[test]
 #[cfg_attr(not(reference), ignore = "the reference is not here: set REFERENCE")]
 fn square_root() {
-    assert_eq!(math::length(Vec3::new(1.0, 1.0, 0.0)).to_bits(), 0x3FB5_04F3);
+    assert_eq!(math::length([1.0, 1.0, 0.0]).to_bits(), 0x3FB5_04F3);
 }
 
 #[test]
@@ -58,11 +57,11 @@ fn triangle_bytes() {
         assert_eq!(polygon::to_bytes(triangle(area, [1, 2, 3], [-1; 3])), bytes);
     }
     assert_eq!(polygon::read(&bytes), Ok(triangle(0x3F80_0000, [1, 2, 3], [-1; 3])));
-    assert_eq!(polygon::read(&bytes[..15]), Err(Refusal::ShortRecord));
+    assert_eq!(polygon::read(&bytes[..15]), Err(Refused(5)));
     for kind in [5, 6, 7] {
         let mut unknown = bytes;
         unknown[0] = kind;
-        assert_eq!(polygon::read(&unknown), Err(Refusal::UnknownKind));
+        assert_eq!(polygon::read(&unknown), Err(Refused(6)));
     }
 }
 
@@ -72,7 +71,7 @@ fn links() {
     let linked = |vs: &[[u16; 3]]| -> Vec<[i16; 3]> {
         let polygons: Vec<_> = vs.iter().map(|&v| triangle(0, v, [0; 3])).collect();
         let link = |p: &Polygon| match *p {
-            Polygon::Triangle { edges, .. } => edges,
+            Polygon::Triangle { links, .. } => links,
             _ => unreachable!("only triangles went in"),
         };
         polygon::edges(&polygons).expect("a short list").iter().map(link).collect()
@@ -87,26 +86,25 @@ fn links() {
 #[test]
 #[cfg_attr(not(reference), ignore = "the reference is not here: set REFERENCE")]
 fn octants() {
-    let lists = geometry::octants(&[0.0, 1.0, 1.0].map(|x| [x; 3].into())).expect("three vertices");
-    assert_eq!(lists.items[0], [1]);
-    assert_eq!(lists.items[7], [0]);
-    assert_eq!(lists.items[1], [0, 1]);
-    let all: usize = lists.items.iter().map(Vec::len).sum();
+    let lists = geometry::octants(&[[0.0; 3], [1.0; 3], [1.0; 3]]).expect("three vertices");
+    assert_eq!(lists[0], [1]);
+    assert_eq!(lists[7], [0]);
+    assert_eq!(lists[1], [0, 1]);
+    let all: usize = lists.iter().map(Vec::len).sum();
     let bytes = geometry::octant_bytes(&lists, 0x5000_0000).expect("a low address");
     assert_eq!(bytes.len(), 128 + 4 * all);
     assert_eq!(bytes[..8], [1, 0, 0, 0, 2, 0, 0, 0]);
     assert_eq!(bytes[32..48], [0x60, 0, 0, 0x50, 0, 0, 0, 0, 0x64, 0, 0, 0x50, 0, 0, 0, 0]);
     let last = u64::MAX - 96 - 4 * all as u64;
     assert!(geometry::octant_bytes(&lists, last).is_ok());
-    assert_eq!(geometry::octant_bytes(&lists, last + 1), Err(Refusal::Address));
+    assert_eq!(geometry::octant_bytes(&lists, last + 1), Err(Refused(12)));
 }
 
 #[test]
 #[cfg_attr(not(reference), ignore = "the reference is not here: set REFERENCE")]
 fn materials() {
-    let material = |data1| BoundMaterial { data1, data2: 0 };
-    let made = polygon::materials(&[2, 0, 2, 9], &[1, 2, 1].map(material));
-    assert_eq!(made, Ok(Materials { list: [1, 0].map(material).to_vec(), indices: vec![0, 0, 0, 1] }));
+    let made = polygon::materials(&[2, 0, 2, 9], &[(1, 0), (2, 0), (1, 0)]);
+    assert_eq!(made, Ok(Materials { list: vec![(1, 0), (0, 0)], indices: vec![0, 0, 0, 1] }));
 }
 
 #[test]
@@ -115,16 +113,16 @@ fn ranges_and_the_node_limit() {
     on_large_stack(|| {
         let build = |n: usize| tree::build(&row(n), 1);
         let b = build(64).expect("64 boxes");
-        assert_eq!((b.built.nodes_count, b.built.nodes_capacity, b.built.trees_count), (127, 129, 1));
+        assert_eq!((b.nodes_count, b.nodes.len(), b.trees.len()), (127, 129, 1));
         let b = build(65).expect("65 boxes");
-        assert_eq!(b.built.nodes_count, 129);
-        assert!(b.trees().count() > 1 && b.trees().all(|t| t.node_index1 > 0), "node 0 is in no range");
+        assert_eq!(b.nodes_count, 129);
+        assert!(b.trees.len() > 1 && b.trees.iter().all(|t| t.node_index1 > 0), "node 0 is in no range");
         let b = build(16_384).expect("16,384 boxes");
-        assert_eq!(b.built.nodes_count, 32_767);
-        assert_eq!(build(16_385).err(), Some(Refusal::TooManyNodes));
-        assert_eq!(build(32_768).err(), Some(Refusal::ListTooLong));
-        assert_eq!(tree::build(&row(3), 0).err(), Some(Refusal::Threshold));
-        assert_eq!(tree::build(&row(3), 32_768).err(), Some(Refusal::Threshold));
+        assert_eq!(b.nodes_count, 32_767);
+        assert_eq!(build(16_385).err(), Some(Refused(4)));
+        assert_eq!(build(32_768).err(), Some(Refused(1)));
+        assert_eq!(tree::build(&row(3), 0).err(), Some(Refused(3)));
+        assert_eq!(tree::build(&row(3), 32_768).err(), Some(Refused(3)));
     });
 }
 
@@ -137,22 +135,24 @@ tree 0 -32767 -32767 -32767 32767 32767 32767 0 3
 ";
 
 /// Child box records, as the program `boxes` reads them; w is ignored.
-fn records(boxes: &[BvhItem]) -> Vec<u8> {
-    let child = |b: &BvhItem| Child::new(b.min, b.max, 0.04, Mat4::identity());
+fn records(boxes: &[Aabb]) -> Vec<u8> {
+    let child = |&aabb: &Aabb| Some(composite::Child { aabb, margin: 0.04, transform: geometry::IDENTITY });
     composite::child_boxes(&boxes.iter().map(child).collect::<Vec<_>>()).expect("a short list")
 }
 
 #[test]
 #[cfg_attr(not(reference), ignore = "the reference is not here: set REFERENCE")]
 fn listing_of_two_boxes() {
-    let from = |low: f32, high: f32| BvhItem::new(Vec3::new(low, -1.0, -1.0), Vec3::new(high, 1.0, 1.0));
-    let items = [from(-1.0, -0.5), from(0.5, 1.0)];
-    let input = records(&items);
+    let (left, right) = (
+        Aabb { min: [-1.0, -1.0, -1.0], max: [-0.5, 1.0, 1.0] },
+        Aabb { min: [0.5, -1.0, -1.0], max: [1.0, 1.0, 1.0] },
+    );
+    let input = records(&[left, right]);
     assert_eq!(tree::boxes(&input), LISTING);
     assert_eq!(tree::boxes(&input[..63]), "refused 13\n");
     assert_eq!(tree::boxes(&vec![0; 8_193]), "refused 1\n");
-    let built = tree::build(&items, 1).expect("two boxes");
-    assert_eq!(tree::listing(&built), LISTING);
+    let built = tree::build(&[Some(left), Some(right)], 1).expect("two boxes");
+    assert_eq!(built.listing(), LISTING);
     assert_eq!(built.order, [0, 1]);
     assert_eq!(built.node_bytes.len(), 80);
     assert_eq!(built.node_bytes[48..64], [0, 0, 0, 0, 0, 0, 0, 0, 0, 0, 0, 0, 1, 0, 0, 0], "padding");

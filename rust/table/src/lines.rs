@@ -80,20 +80,3 @@ pub fn print(out: &mut impl Write) -> io::Result<()> {
     // a case but for the end of its line
     write!(out, "01 00000000 00000000")
 }
-
-#[cfg(test)]
-mod tests {
-    use super::*;
-    use crate::count;
-
-    /// The lines end crates/replay/stdin, and the whole of it is judged as crates/replay/stdout says.
-    #[test]
-    fn the_program_reads_and_must_print_this() {
-        let stdin = include_bytes!("../../../crates/replay/stdin");
-        let (mut lines, mut counts) = (vec![], vec![]);
-        print(&mut lines).expect("a vector takes every line");
-        assert!(stdin.ends_with(&lines));
-        count::print(&stdin[..], &mut counts).expect("a vector takes every line");
-        assert_eq!(String::from_utf8_lossy(&counts), include_str!("../../../crates/replay/stdout"));
-    }
-}

@@ -1,4 +1,4 @@
-//! What the proved programs must print: worked out with Rust's own operators and the plain steps, `boxes`, `prepare` and `pairs` by
+//! What the proved programs must print: worked out with Rust's own operators and casts, `boxes`, `prepare` and `pairs` by
 //! the reference.
 //!
 //!     table --lines            hard cases, wrong lines and lines that are no case       (crates/replay/stdin, its end)
@@ -17,6 +17,7 @@ mod lines;
 mod meshes;
 mod operation;
 mod pairs;
+mod source;
 
 use std::io::{self, Write};
 
@@ -25,26 +26,30 @@ fn fail(why: &str) -> ! {
     std::process::exit(2);
 }
 
-/// The path that follows the first word.
-fn path(of: &str) -> String {
-    std::env::args().nth(2).unwrap_or_else(|| fail(&format!("{of} needs a path for the inputs")))
-}
-
 fn main() -> io::Result<()> {
     let mut out = io::BufWriter::new(io::stdout().lock());
-    let word = std::env::args().nth(1);
-    if let (Some("--boxes" | "--meshes" | "--prepares" | "--pairs"), Some(missing)) =
-        (word.as_deref(), oracle::missing())
-    {
-        fail(missing);
-    }
-    match word.as_deref() {
+    match std::env::args().nth(1).as_deref() {
         None => count::print(io::stdin().lock(), &mut out)?,
         Some("--lines") => lines::print(&mut out)?,
-        Some(word @ "--boxes") => boxes::print(&mut out, path(word).as_ref())?,
-        Some(word @ "--meshes") => meshes::print(&mut out, path(word).as_ref())?,
-        Some(word @ "--prepares") => drawn::print(&mut out, path(word).as_ref())?,
-        Some("--pairs") => pairs::print(&mut out)?,
+        Some("--boxes") => match (std::env::args().nth(2), oracle::missing()) {
+            (Some(folder), None) => boxes::print(&mut out, folder.as_ref())?,
+            (None, _) => fail("--boxes needs a folder for the inputs"),
+            (_, Some(missing)) => fail(missing),
+        },
+        Some("--meshes") => match (std::env::args().nth(2), oracle::missing()) {
+            (Some(folder), None) => meshes::print(&mut out, folder.as_ref())?,
+            (None, _) => fail("--meshes needs a folder for the inputs"),
+            (_, Some(missing)) => fail(missing),
+        },
+        Some("--prepares") => match (std::env::args().nth(2), oracle::missing()) {
+            (Some(file), None) => drawn::print(&mut out, file.as_ref())?,
+            (None, _) => fail("--prepares needs a file for the inputs"),
+            (_, Some(missing)) => fail(missing),
+        },
+        Some("--pairs") => match oracle::missing() {
+            None => pairs::print(&mut out)?,
+            Some(missing) => fail(missing),
+        },
         Some(other) => {
             fail(&format!("unknown word {other}; give none, --lines, --boxes, --meshes, --prepares or --pairs"))
         }

@@ -1,10 +1,8 @@
 //! Inputs for the program `prepare`, and what it must print for them, by the reference.
 
-use bounds::prepare::Quantised;
-use bounds::{BoundMaterial, BoundVertex, Geometry, Mat4, Polygon, Prepared, Refusal, Vec3};
-use compare::operation::made;
-use oracle::geometry::prepare;
-use oracle::polygon::{read, to_bytes};
+use oracle::geometry::{prepare, Geometry, Prepared, Quantised, IDENTITY};
+use oracle::polygon::{read, to_bytes, Polygon};
+use oracle::Vec3;
 use std::fs;
 use std::io::{self, Write};
 use std::path::Path;
@@ -13,35 +11,27 @@ use std::path::Path;
 const LIMIT: usize = 8_192;
 
 fn triangle(material: u8, v: [u16; 3]) -> Polygon {
-    Polygon::Triangle { material, area: 1.5, v, edges: [7, -1, 0] }
+    Polygon::Triangle { material, area: 1.5, v, links: [7, -1, 0] }
 }
 
 /// In the box around its vertices.
-fn mesh(kind: u8, margin: f32, vertices: Vec<[f32; 3]>, polygons: Vec<Polygon>) -> Geometry {
-    let (box_min, box_max) = around(&vertices);
-    Geometry {
-        box_min,
-        box_max,
-        box_center: Vec3::new(1.0, 2.0, 3.0),
-        sphere_center: Vec3::new(4.0, 5.0, 6.0),
-        sphere_radius: 7.0,
-        margin,
-        vertices: vertices.into_iter().map(Vec3::from).collect(),
-        polygons,
-        materials: [(1, 2), (3, 4), (1, 2)].map(material).to_vec(),
-        ..Geometry::new(kind)
-    }
-}
-
-pub fn material((data1, data2): (u32, u32)) -> BoundMaterial {
-    BoundMaterial { data1, data2 }
-}
-
-/// The least box around them.
-pub fn around(vertices: &[[f32; 3]]) -> (Vec3, Vec3) {
+fn mesh(kind: u8, margin: f32, vertices: Vec<Vec3>, polygons: Vec<Polygon>) -> Geometry {
     let least = |axis: usize| vertices.iter().map(|v| v[axis]).fold(f32::MAX, f32::min);
     let most = |axis: usize| vertices.iter().map(|v| v[axis]).fold(f32::MIN, f32::max);
-    (std::array::from_fn(least).into(), std::array::from_fn(most).into())
+    Geometry {
+        kind,
+        box_min: std::array::from_fn(least),
+        box_max: std::array::from_fn(most),
+        box_center: [1.0, 2.0, 3.0],
+        sphere_center: [4.0, 5.0, 6.0],
+        sphere_radius: 7.0,
+        margin,
+        center_geom: [0.0; 3],
+        transform: IDENTITY,
+        vertices,
+        polygons,
+        materials: vec![(1, 2), (3, 4), (1, 2)],
+    }
 }
 
 fn pyramid(kind: u8) -> Geometry {
@@ -62,14 +52,14 @@ fn cube(kind: u8, margin: f32) -> Geometry {
 /// A plate so thin that half its thickness is too large a margin.
 fn plate() -> Geometry {
     let mut g = cube(4, 0.25);
-    g.vertices.iter_mut().for_each(|v| v.z *= 0.01);
-    (g.box_min.z, g.box_max.z) = (-0.01, 0.01);
+    g.vertices.iter_mut().for_each(|v| v[2] *= 0.01);
+    (g.box_min[2], g.box_max[2]) = (-0.01, 0.01);
     g
 }
 
 /// Twelve polygons of every kind, moved and turned, three triangles on one edge: the second pass alters links.
 fn mixed(kind: u8) -> Geometry {
-    let vertices: Vec<[f32; 3]> =
+    let vertices: Vec<Vec3> =
         (0..12u32).map(|i| [37 * i % 16, 91 * i % 16, 53 * i % 16].map(|k| k as f32 - 8.0)).collect();
     let mut polygons: Vec<Polygon> = (0..9u16).map(|i| triangle((i % 4) as u8, [0, 1, i % 7 + 2])).collect();
     polygons[3] = triangle(5, [0x8000, 4, 40_000]);
@@ -78,16 +68,16 @@ fn mixed(kind: u8) -> Geometry {
     polygons.insert(6, Polygon::Box { material: 3, i: [0, 5, 7, -1] });
     polygons.insert(8, Polygon::Cylinder { material: 0, i1: 90, i2: 2, radius: f32::from_bits(0x7F80_0001) });
     let mut g = mesh(kind, 0.5, vertices, polygons);
-    g.center_geom = Vec3::new(5.0, -3.0, 0.25);
-    g.transform = Mat4([0., 1., 0., 0., -1., 0., 0., 0., 0., 0., 2., 0., 10., 20., 30., 1.]);
+    g.center_geom = [5.0, -3.0, 0.25];
+    g.transform = [0., 1., 0., 0., -1., 0., 0., 0., 0., 0., 2., 0., 10., 20., 30., 1.];
     g
 }
 
 /// Nothing but a box, whose words are copied.
 fn empty(kind: u8) -> Geometry {
     let mut g = mesh(kind, 0.04, Vec::new(), Vec::new());
-    g.box_min = Vec3::new(f32::from_bits(0x7F80_0001), -1.0, 0.0);
-    g.box_max = Vec3::new(1.0, f32::INFINITY, f32::from_bits(0xFFC0_1234));
+    (g.box_min, g.box_max) =
+        ([f32::from_bits(0x7F80_0001), -1.0, 0.0], [1.0, f32::INFINITY, f32::from_bits(0xFFC0_1234)]);
     g.sphere_radius = f32::from_bits(0xFFA0_0000);
     g
 }
@@ -95,8 +85,8 @@ fn empty(kind: u8) -> Geometry {
 /// A vertex that is no number, in no triangle, and one that is infinite.
 fn odd() -> Geometry {
     let mut g = cube(4, 0.5);
-    g.vertices.push(Vec3::new(f32::NAN, 0.0, -0.0));
-    g.vertices[2].y = f32::INFINITY;
+    g.vertices.push([f32::NAN, 0.0, -0.0]);
+    g.vertices[2][1] = f32::INFINITY;
     g
 }
 
@@ -109,7 +99,7 @@ fn bad() -> Geometry {
 fn many() -> Geometry {
     let mut g = pyramid(8);
     g.polygons = (0..=255).map(|material| Polygon::Sphere { material, index: 1, radius: 0.5 }).collect();
-    g.materials = (0..256).map(|i| material((i, 0))).collect();
+    g.materials = (0..256).map(|i| (i, 0)).collect();
     g
 }
 
@@ -157,7 +147,7 @@ fn most_vertices() -> Geometry {
 
 fn endless() -> Geometry {
     let mut g = pyramid(4);
-    (g.margin, g.box_max) = (f32::NAN, [f32::INFINITY; 3].into());
+    (g.margin, g.box_max) = (f32::NAN, [f32::INFINITY; 3]);
     g
 }
 
@@ -165,25 +155,36 @@ fn words(out: &mut Vec<u8>, words: impl IntoIterator<Item = u32>) {
     words.into_iter().for_each(|word| out.extend(word.to_le_bytes()));
 }
 
-fn floats(points: &[Vec3]) -> impl Iterator<Item = f32> + '_ {
-    points.iter().flat_map(|&p| <[f32; 3]>::from(p))
-}
-
-fn pairs(materials: &[BoundMaterial]) -> impl Iterator<Item = u32> + '_ {
-    materials.iter().flat_map(|m| [m.data1, m.data2])
+fn number(p: &Polygon) -> u8 {
+    match *p {
+        Polygon::Triangle { material, .. }
+        | Polygon::Sphere { material, .. }
+        | Polygon::Capsule { material, .. }
+        | Polygon::Box { material, .. }
+        | Polygon::Cylinder { material, .. } => material,
+    }
 }
 
 pub fn input(g: &Geometry) -> Vec<u8> {
     let mut out = Vec::new();
     words(&mut out, [g.kind as u32, g.polygons.len() as u32, g.vertices.len() as u32, g.materials.len() as u32]);
     let frame = [g.box_min, g.box_max, g.box_center, g.sphere_center];
-    words(&mut out, floats(&frame).chain([g.sphere_radius, g.margin]).map(f32::to_bits));
-    words(&mut out, floats(&[g.center_geom]).chain(g.transform.0).map(f32::to_bits));
-    words(&mut out, pairs(&g.materials));
-    words(&mut out, floats(&g.vertices).map(f32::to_bits));
+    words(&mut out, frame.into_iter().flatten().chain([g.sphere_radius, g.margin]).map(f32::to_bits));
+    words(&mut out, g.center_geom.into_iter().chain(g.transform).map(f32::to_bits));
+    words(&mut out, g.materials.iter().flat_map(|&(a, b)| [a, b]));
+    words(&mut out, g.vertices.iter().flatten().map(|x| x.to_bits()));
     out.extend(g.polygons.iter().flat_map(|&p| to_bytes(p)));
-    out.extend(g.polygons.iter().map(Polygon::material));
+    out.extend(g.polygons.iter().map(number));
     out
+}
+
+/// What is made has one NaN.
+fn made(x: f32) -> u32 {
+    if x.is_nan() {
+        0x7FC0_0000
+    } else {
+        x.to_bits()
+    }
 }
 
 fn line(out: &mut String, name: &str, bytes: &[u8]) {
@@ -193,42 +194,45 @@ fn line(out: &mut String, name: &str, bytes: &[u8]) {
     *out += "\n";
 }
 
+fn floats(q: &Quantised) -> Vec<u8> {
+    q.floats.iter().flatten().flat_map(|&x| made(x).to_le_bytes()).collect()
+}
+
 fn stored(q: &Quantised) -> Vec<u8> {
-    q.stored.iter().flat_map(|&BoundVertex(x, y, z)| [x, y, z]).flat_map(i16::to_le_bytes).collect()
+    q.stored.iter().flatten().flat_map(|n| n.to_le_bytes()).collect()
 }
 
 fn listing(kind: u8, p: &Prepared) -> String {
     let mut out = String::new();
-    let bytes = |list: &mut dyn Iterator<Item = u32>| list.flat_map(u32::to_le_bytes).collect::<Vec<u8>>();
-    let frame = [p.box_min, p.box_max, p.box_center, p.sphere_center];
-    let word = if p.bvh.is_some() { made } else { f32::to_bits };
-    line(&mut out, "frame", &bytes(&mut floats(&frame).chain([p.sphere_radius]).map(word)));
-    line(&mut out, "quantum", &bytes(&mut floats(&[p.quantum]).map(made)));
+    let bytes = |list: Vec<u32>| list.into_iter().flat_map(u32::to_le_bytes).collect::<Vec<u8>>();
+    let frame = [p.box_min, p.box_max, p.box_center, p.sphere_center].into_iter().flatten().chain([p.sphere_radius]);
+    let word = if p.tree.is_some() { made } else { f32::to_bits };
+    line(&mut out, "frame", &bytes(frame.map(word).collect()));
+    line(&mut out, "quantum", &bytes(p.quantum.map(made).to_vec()));
     line(&mut out, "materials", &(p.materials_count as u32).to_le_bytes());
-    let octants = p.octants.clone().unwrap_or_default().items;
-    line(&mut out, "octants", &bytes(&mut octants.iter().map(|list| list.len() as u32)));
-    let tree = p.bvh.as_ref().map_or(vec![0; 19], |tree| {
-        let b = &tree.built;
-        let counts = [b.nodes_count, b.nodes_capacity, b.trees_count, b.items_count];
-        let vectors = [b.bb_min, b.bb_max, b.bb_center, b.quantum_inverse, b.quantum];
-        counts.into_iter().chain(floats(&vectors).map(made)).collect()
+    let counts = p.octants.as_ref().map_or([0; 8], |lists| lists.each_ref().map(|list| list.len() as u32));
+    line(&mut out, "octants", &bytes(counts.to_vec()));
+    let tree = p.tree.as_ref().map_or(vec![0; 19], |t| {
+        let counts = [t.nodes_count, t.nodes.len(), t.trees.len(), t.order.len()].map(|n| n as u32);
+        let vectors = [t.min, t.max, t.cen, t.inverse, t.quantum].into_iter().flat_map(|[x, y, z, _]| [x, y, z]);
+        counts.into_iter().chain(vectors.map(made)).collect()
     });
-    line(&mut out, "tree", &bytes(&mut tree.into_iter()));
-    line(&mut out, "list", &bytes(&mut pairs(&p.materials)));
-    line(&mut out, "indices", &p.polygon_material_indices);
-    line(&mut out, "polygons", &p.polygons);
+    line(&mut out, "tree", &bytes(tree));
+    line(&mut out, "list", &bytes(p.materials.iter().flat_map(|&(a, b)| [a, b]).collect()));
+    line(&mut out, "indices", &p.material_indices);
+    line(&mut out, "polygons", &p.polygon_bytes);
     line(&mut out, "vertices", &stored(&p.vertices));
-    line(&mut out, "floats", &bytes(&mut floats(&p.vertices.floats).map(made)));
+    line(&mut out, "floats", &floats(&p.vertices));
     if kind == 4 {
-        let shrunk = p.vertices_shrunk.clone().unwrap_or_default();
+        let shrunk = p.shrunk.clone().unwrap_or_default();
         line(&mut out, "shrunk", &stored(&shrunk));
-        line(&mut out, "shrunk_floats", &bytes(&mut floats(&shrunk.floats).map(made)));
-        line(&mut out, "lists", &bytes(&mut octants.iter().flatten().copied()));
+        line(&mut out, "shrunk_floats", &floats(&shrunk));
+        line(&mut out, "lists", &bytes(p.octants.iter().flatten().flatten().copied().collect()));
     }
-    if let Some(t) = &p.bvh {
+    if let Some(t) = &p.tree {
         line(&mut out, "nodes", &t.node_bytes);
         line(&mut out, "trees", &t.tree_bytes);
-        line(&mut out, "order", &t.order.iter().flat_map(|place| place.to_le_bytes()).collect::<Vec<u8>>());
+        line(&mut out, "order", &t.order.iter().flat_map(|&place| (place as u16).to_le_bytes()).collect::<Vec<u8>>());
     }
     out
 }
@@ -240,12 +244,12 @@ pub fn printed(g: &Geometry, input: &[u8]) -> String {
     let unknown = records.chunks_exact(16).take(g.polygons.len()).any(|record| read(record).is_err());
     let known = [4, 8].contains(&g.kind);
     let answer = match () {
-        _ if input.len() > LIMIT => Err(Refusal::ListTooLong),
-        _ if input.len() != whole => Err(Refusal::RaggedInput),
-        _ if known && unknown => Err(Refusal::UnknownKind),
-        _ => prepare(g),
+        _ if input.len() > LIMIT => Err(1),
+        _ if input.len() != whole => Err(13),
+        _ if known && unknown => Err(6),
+        _ => prepare(g).map_err(|refused| refused.0),
     };
-    answer.map_or_else(|refusal| format!("refused {}\n", refusal.number()), |p| listing(g.kind, &p))
+    answer.map_or_else(|number| format!("refused {number}\n"), |p| listing(g.kind, &p))
 }
 
 fn cases() -> Vec<(&'static str, Geometry, Vec<u8>)> {

@@ -1,10 +1,8 @@
 //! What the program `pairs` prints, by the reference's records and the plain Rust walk over them. Lists and queries come
 //! from the formula of crates/pairs (draw, lists, queries).
-use bounds::{BvhItem, Vec3};
-use compare::promises::over;
-use oracle::tree;
-use oracle::Aabb;
-use plain::walk::{meets, Walked};
+use oracle::tree::{self, Built};
+use oracle::walk::{Walk, Walked};
+use oracle::{Aabb, Vec3};
 use std::io::{self, Write};
 
 const QUERIES: u32 = 16;
@@ -54,15 +52,15 @@ impl Draws {
         upper(self.next(), n)
     }
 
-    fn whole(&mut self, x: u32, y: u32, z: u32) -> [f32; 3] {
+    fn whole(&mut self, x: u32, y: u32, z: u32) -> Vec3 {
         [x, y, z].map(|n| self.below(n) as f32)
     }
 
     fn area(&mut self, shape: Shape) -> Aabb {
         let min = self.whole(shape.span, shape.span, shape.depth).map(|v| v - 100.0);
         let sides = self.whole(shape.side, shape.side, shape.side);
-        let max: [f32; 3] = std::array::from_fn(|i| min[i] + sides[i]);
-        Aabb { min: min.map(|v| v * shape.grain).into(), max: max.map(|v| v * shape.grain).into() }
+        let max: Vec3 = std::array::from_fn(|i| min[i] + sides[i]);
+        Aabb { min: min.map(|v| v * shape.grain), max: max.map(|v| v * shape.grain) }
     }
 }
 
@@ -70,24 +68,19 @@ fn upper(s: u32, n: u32) -> u32 {
     (s >> 16).checked_rem(n).unwrap_or(0)
 }
 
-/// The entries; absent ones have a box too, near which queries are asked.
-fn list(shape: Shape, draws: &mut Draws) -> Vec<BvhItem> {
+/// The entries, each with whether it is present.
+fn list(shape: Shape, draws: &mut Draws) -> Vec<(bool, Aabb)> {
     let entry = |_| {
         let mark = draws.next();
-        let present = shape.absent == 0 || upper(mark, shape.absent) != 0;
-        let Aabb { min, max } = draws.area(shape);
-        BvhItem { present: present as u32, min, max }
+        (shape.absent == 0 || upper(mark, shape.absent) != 0, draws.area(shape))
     };
     (0..shape.entries).map(entry).collect()
 }
 
-fn query(k: u32, list: &[BvhItem], shape: Shape, mut draws: Draws) -> Aabb {
-    let cube = |min: f32, max: f32| Aabb { min: [min; 3].into(), max: [max; 3].into() };
+fn query(k: u32, list: &[(bool, Aabb)], shape: Shape, mut draws: Draws) -> Aabb {
+    let cube = |min: f32, max: f32| Aabb { min: [min; 3], max: [max; 3] };
     let (all, grain) = (f32::INFINITY, shape.grain);
-    let mut near = || {
-        let drawn = list.get(draws.below(list.len() as u32) as usize);
-        drawn.map_or(cube(0.0, 0.0), |&BvhItem { min, max, .. }| Aabb { min, max })
-    };
+    let mut near = || list.get(draws.below(list.len() as u32) as usize).map_or(cube(0.0, 0.0), |&(_, area)| area);
     match k {
         0 => cube(-all, all),
         1 => cube(all, -all),
@@ -99,8 +92,8 @@ fn query(k: u32, list: &[BvhItem], shape: Shape, mut draws: Draws) -> Aabb {
             let Aabb { min, max } = near();
             let (min, max) = match k {
                 6 => (min, max),
-                7 => (max, moved(max, grain)),
-                8 => (moved(min, -grain), min),
+                7 => (max, max.map(|v| v + grain)),
+                8 => (min.map(|v| v - grain), min),
                 9 => (max, min),
                 10 => (min, min),
                 _ => (max, max),
@@ -111,8 +104,8 @@ fn query(k: u32, list: &[BvhItem], shape: Shape, mut draws: Draws) -> Aabb {
     }
 }
 
-fn moved(v: Vec3, by: f32) -> Vec3 {
-    <[f32; 3]>::from(v).map(|x| x + by).into()
+fn meets(a: Aabb, b: Aabb) -> bool {
+    (0..3).all(|i| a.min[i] <= b.max[i] && b.min[i] <= a.max[i])
 }
 
 /// Counts over the queries of a list.
@@ -128,13 +121,12 @@ struct Tally {
 
 impl Tally {
     /// Holds a walk's answer against comparing every box.
-    fn note(&mut self, walked: Walked, items: &[usize], list: &[BvhItem], query: Aabb, records: usize) {
+    fn note(&mut self, walked: Walked, items: &[usize], list: &[(bool, Aabb)], query: Aabb, records: usize) {
         let times = |place: usize| items.iter().filter(|&&item| item == place).count();
-        let met = |item: &BvhItem| item.present != 0 && meets(item, query.min, query.max);
-        let meeting: Vec<usize> = (0..list.len()).filter(|&i| met(&list[i])).collect();
+        let meeting: Vec<usize> = (0..list.len()).filter(|&i| list[i].0 && meets(list[i].1, query)).collect();
         let missed = meeting.iter().filter(|&&i| times(i) == 0).count();
         let twice: usize = (0..list.len()).map(|i| times(i).saturating_sub(1)).sum();
-        let stray = items.iter().any(|&i| list.get(i).is_none_or(|item| item.present == 0));
+        let stray = items.iter().any(|&i| !list.get(i).is_some_and(|e| e.0));
         self.handed += walked.handed;
         self.meeting += meeting.len();
         self.reads += walked.reads;
@@ -144,27 +136,46 @@ impl Tally {
     }
 }
 
+fn walk(built: &Built, query: Aabb, item_count: usize, out: &mut [u16]) -> Walked {
+    let xyz = |v: [f32; 4]| [v[0], v[1], v[2]];
+    Walk {
+        query,
+        cen: xyz(built.cen),
+        inverse: xyz(built.inverse),
+        nodes: &built.node_bytes,
+        node_count: built.nodes_count,
+        trees: &built.tree_bytes,
+        tree_count: built.trees.len(),
+        item_count,
+    }
+    .run(out)
+}
+
 pub fn print(out: &mut impl Write) -> io::Result<()> {
     let mut failures = 0;
     for (number, shape) in SHAPES.into_iter().enumerate() {
         let mut draws = Draws(number as u32);
         draws.next();
         let list = list(shape, &mut draws);
+        let items: Vec<Option<Aabb>> = list.iter().map(|&(present, area)| present.then_some(area)).collect();
+        let present = items.iter().flatten().count();
         for threshold in [1, 4] {
-            let built = tree::build(&list, threshold).map_err(io::Error::other)?;
-            let (nodes, trees) = (built.built.nodes_count as usize, built.built.trees_count as usize);
-            let (mut tally, mut draws, mut positions) = (Tally::default(), draws, vec![0; built.items_count]);
+            let built = tree::build(&items, threshold).map_err(|r| io::Error::other(format!("refused {}", r.0)))?;
+            let (item_count, mut tally, mut draws) =
+                (if threshold == 1 { list.len() } else { present }, Tally::default(), draws);
+            let mut positions = vec![0; item_count];
             for k in 0..QUERIES {
                 let query = query(k, &list, shape, draws);
-                let walked = over(&built, query).run(&mut positions);
-                let item = |&p: &u16| if threshold == 1 { p as usize } else { built.order[p as usize] as usize };
+                let walked = walk(&built, query, item_count, &mut positions);
+                let item = |&p: &u16| if threshold == 1 { p as usize } else { built.order[p as usize] };
                 let given: Vec<usize> = positions[..walked.handed].iter().map(item).collect();
-                tally.note(walked, &given, &list, query, nodes + trees);
+                tally.note(walked, &given, &list, query, built.nodes_count + built.trees.len());
                 (0..6).for_each(|_| {
                     draws.next();
                 });
             }
             let Tally { handed, meeting, reads, missed, twice, .. } = tally;
+            let (nodes, trees) = (built.nodes_count, built.trees.len());
             writeln!(
                 out,
                 "list {number} threshold {threshold} nodes {nodes} trees {trees} queries {QUERIES} handed {handed} \

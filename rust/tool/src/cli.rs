@@ -4,29 +4,18 @@ use crate::boxes::{number, point, Form};
 use crate::commands;
 use crate::dump::Loading;
 use crate::failure::Failure;
-use crate::mesh::{Given, Up};
-use crate::options::{self, Row};
-use crate::output::Target;
-use crate::world::merge::Merge;
+use crate::mesh::Given;
 use crate::{help, output};
 use bounds::{Geometry, Vec3};
 
-/// A command.
+/// A command: its name, what it does in a line, the options that it takes, and how many words at least and at most.
 pub struct Command {
     pub name: &'static str,
-    /// What it does, in a line.
     pub does: &'static str,
-    /// The words behind its name, in each form that it has.
-    pub forms: &'static [&'static str],
-    /// How many words at least and at most.
-    pub words: (usize, usize),
-    /// The options that it takes, beside `--help`.
     pub options: &'static [&'static str],
+    pub words: (usize, usize),
     pub run: fn(&Line) -> Result<Answer, Failure>,
-    /// What more there is to say of it, in paragraphs; a line that begins with two spaces stands as it is.
     pub help: &'static str,
-    /// Command lines that show it, two spaces before each.
-    pub examples: &'static str,
 }
 
 /// What a command answers, and the exit status that goes with it.
@@ -46,59 +35,48 @@ impl Answer {
 #[derive(Debug, Default)]
 pub struct Line {
     pub words: Vec<String>,
-    /// An option's name, and the words behind it.
-    pub options: Vec<(&'static str, Vec<String>)>,
+    pub options: Vec<(String, String)>,
 }
 
+/// Options that are followed by a word.
+const WITH_VALUE: [&str; 7] = ["--threshold", "--kind", "--margin", "--out", "-o", "--all", "--query"];
+
+/// Options that are not.
+const ALONE: [&str; 4] = ["--json", "--text", "--records", "--help"];
+
 impl Line {
-    /// Cuts a command line into words and options. What begins with `-` and is a point is a word, and so is all behind `--`.
+    /// Cuts a command line into words and options. What begins with `-` and is a point is a word.
     pub fn of(given: &[String]) -> Result<Line, Failure> {
         let mut line = Line::default();
         let mut rest = given.iter();
         while let Some(word) = rest.next() {
-            if word == "--" {
-                line.words.extend(rest.by_ref().cloned());
+            let word = if word == "-h" { "--help" } else { word };
+            if WITH_VALUE.contains(&word) {
+                let value = rest.next().ok_or_else(|| Failure::Usage(format!("{word} needs a value behind it")))?;
+                line.options.push((word.into(), value.clone()));
+                if word == "--query" {
+                    let second =
+                        rest.next().ok_or_else(|| Failure::Usage("--query needs two corners: MIN MAX".into()))?;
+                    line.options.push(("--query-max".into(), second.clone()));
+                }
+            } else if ALONE.contains(&word) {
+                line.options.push((word.into(), String::new()));
             } else if word.starts_with('-') && word != "-" && point(word).is_none() {
-                line.options.push(option(word, &mut rest)?);
+                return Err(Failure::Usage(format!("option {word} is unknown")));
             } else {
-                line.words.push(word.clone());
+                line.words.push(word.into());
             }
         }
         Ok(line)
     }
 
-    /// The words behind an option, of the last where it is given twice.
-    pub fn values(&self, name: &str) -> Option<&[String]> {
-        self.options.iter().rev().find(|(given, _)| *given == name).map(|(_, values)| values.as_slice())
-    }
-
-    /// The word behind an option.
+    /// An option's value, the last where it is given twice.
     pub fn option(&self, name: &str) -> Option<&str> {
-        self.values(name)?.first().map(String::as_str)
-    }
-
-    /// Whether an option is given.
-    pub fn has(&self, name: &str) -> bool {
-        self.values(name).is_some()
+        self.options.iter().rev().find(|(given, _)| given == name).map(|(_, value)| value.as_str())
     }
 
     pub fn json(&self) -> bool {
-        self.has("--json")
-    }
-
-    /// Where the answer is to be written, if not to standard output.
-    fn target(&self) -> Option<Target<'_>> {
-        self.option("--out").map(|path| Target { path, force: self.has("--force") })
-    }
-
-    /// The file to be written, if there is one; asked for before the work is done, which would else be lost.
-    pub fn file(&self) -> Result<Option<Target<'_>>, Failure> {
-        self.target().map(|target| target.file().map(|()| target)).transpose()
-    }
-
-    /// The folder to be written, if there is one; asked for before the work is done.
-    pub fn folder(&self) -> Result<Option<Target<'_>>, Failure> {
-        self.target().map(|target| target.folder().map(|()| target)).transpose()
+        self.option("--json").is_some()
     }
 
     pub fn threshold(&self) -> Result<Option<u32>, Failure> {
@@ -109,32 +87,22 @@ impl Line {
         self.option("--threshold").map(parse).transpose()
     }
 
-    /// The kind and the margin of a mesh, and which axis of its file is up.
+    /// The kind and the margin of a mesh.
     pub fn mesh(&self) -> Result<Given, Failure> {
         let kind = |word: &str| match word {
             "4" => Ok(Geometry::PLAIN),
             "8" => Ok(Geometry::BVH),
             _ => Err(Failure::Usage(format!("--kind '{word}': expected 4 or 8"))),
         };
-        let up = |word: &str| match word {
-            "y" => Ok(Up::Y),
-            "z" => Ok(Up::Z),
-            _ => Err(Failure::Usage(format!("--up '{word}': expected y or z"))),
-        };
+        let margin = |word: &str| number(word).map_err(|words| Failure::Usage(format!("--margin: {words}")));
         Ok(Given {
             kind: self.option("--kind").map(kind).transpose()?,
             margin: self.option("--margin").map(margin).transpose()?,
-            up: self.option("--up").map(up).transpose()?,
         })
     }
 
-    /// Which materials are to be one.
-    pub fn merge(&self) -> Result<Option<Merge>, Failure> {
-        self.option("--merge-materials").map(Merge::read).transpose()
-    }
-
     pub fn form(&self) -> Option<Form> {
-        let given = |name: &str, form: Form| self.has(name).then_some(form);
+        let given = |name: &str, form: Form| self.option(name).map(|_| form);
         given("--text", Form::Text).or(given("--records", Form::Children))
     }
 
@@ -142,35 +110,6 @@ impl Line {
     pub fn loading(&self) -> Result<Loading, Failure> {
         Ok(Loading { threshold: self.threshold()?, form: self.form(), mesh: self.mesh()? })
     }
-}
-
-/// An option and the words behind it; `--kind 4` and `--kind=4` are the same.
-fn option<'a>(word: &str, rest: &mut impl Iterator<Item = &'a String>) -> Result<(&'static str, Vec<String>), Failure> {
-    let (name, joined) = match word.split_once('=') {
-        Some((name, value)) if name.starts_with("--") => (name, Some(value)),
-        _ => (word, None),
-    };
-    let unknown = || Failure::Usage(format!("option {name} is unknown"));
-    let Row { name, values: wanted, .. } = options::named(name).ok_or_else(unknown)?;
-    if let (Some(value), []) = (joined, wanted) {
-        return Err(Failure::Usage(format!("{name} takes no value: leave out '={value}'")));
-    }
-    let mut values: Vec<String> = joined.map(String::from).into_iter().collect();
-    values.extend(rest.take(wanted.len() - values.len()).cloned());
-    if values.len() < wanted.len() {
-        let words = wanted[values.len()..].join(" ");
-        return Err(Failure::Usage(format!("{name} needs {words} behind it")));
-    }
-    Ok((name, values))
-}
-
-/// A margin that vertices can be moved by.
-fn margin(word: &str) -> Result<f32, Failure> {
-    let value = number(word).map_err(|words| Failure::Usage(format!("--margin: {words}")))?;
-    if !value.is_finite() || value < 0.0 {
-        return Err(Failure::Usage(format!("--margin '{word}': expected a finite number, 0 or more")));
-    }
-    Ok(value)
 }
 
 /// A corner of a query: three numbers with commas.
@@ -194,31 +133,36 @@ pub fn run(given: &[String]) -> Result<u8, Failure> {
 fn respond(given: &[String]) -> Result<Answer, Failure> {
     let line = Line::of(given)?;
     let Some((name, words)) = line.words.split_first() else {
-        return match () {
-            () if line.has("--help") => Ok(Answer::of(help::overview())),
-            () if line.has("--version") => Ok(Answer::of(help::version() + "\n")),
-            () => Err(Failure::Usage("no command is given".into())),
+        let asked = line.option("--help").is_some();
+        return if asked {
+            Ok(Answer::of(help::overview()))
+        } else {
+            Err(Failure::Usage("no command is given".into()))
         };
     };
-    let command = commands::named(name)?;
-    if line.has("--help") {
-        return Ok(Answer::of(help::of(&command)));
+    let table = commands::table();
+    let Some(command) = table.iter().find(|command| command.name == name) else {
+        return match (name.as_str(), words) {
+            ("help", []) => Ok(Answer::of(help::overview())),
+            _ => Err(Failure::Usage(format!("command '{name}' is unknown"))),
+        };
+    };
+    if line.option("--help").is_some() {
+        return Ok(Answer::of(help::of(command)));
     }
-    check(&command, words, &line)?;
+    check(command, words, &line)?;
     (command.run)(&Line { words: words.to_vec(), options: line.options })
 }
 
 /// Whether a command takes these words and options.
 fn check(command: &Command, words: &[String], line: &Line) -> Result<(), Failure> {
-    if let Some((name, _)) = line.options.iter().find(|(name, _)| !command.options.contains(name)) {
+    let taken = |name: &str| name == "--query-max" || name == "--json" || command.options.contains(&name);
+    if let Some((name, _)) = line.options.iter().find(|(name, _)| !taken(name)) {
         return Err(Failure::Usage(format!("`bounds {}` takes no {name}", command.name)));
     }
     let (least, most) = command.words;
     if words.len() < least || words.len() > most {
-        return Err(Failure::Usage(format!("expected: {}", help::forms(command).join("\n          or: "))));
-    }
-    if line.has("--force") && !line.has("--out") {
-        return Err(Failure::Usage("--force goes with --out PATH, which it replaces".into()));
+        return Err(Failure::Usage(format!("expected: {}", command.help.lines().next().unwrap_or(""))));
     }
     Ok(())
 }

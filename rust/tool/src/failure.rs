@@ -12,9 +12,7 @@ pub enum Failure {
     Usage(String),
     /// A file cannot be read or written, or does not hold what it should.
     File(String),
-    /// The library refuses the input, by its number and in words.
-    Library(u32, String),
-    /// A value cannot be accounted for.
+    /// The library refuses the input, or a value cannot be accounted for.
     Refused(String),
     /// Standard output does not take the answer.
     Output(io::Error),
@@ -24,33 +22,15 @@ impl Failure {
     /// 1 for a refusal, 2 for usage and files.
     pub fn status(&self) -> u8 {
         match self {
-            Failure::Library(..) | Failure::Refused(_) => 1,
+            Failure::Refused(_) => 1,
             Failure::Usage(_) | Failure::File(_) | Failure::Output(_) => 2,
         }
     }
 
-    /// The library's number of a refusal.
-    pub fn refusal(&self) -> Option<u32> {
-        match self {
-            Failure::Library(number, _) => Some(*number),
-            _ => None,
-        }
-    }
-
-    /// For programs: the words, the status, and the library's number where it is its refusal.
+    /// For programs: the words and the status.
     pub fn json(&self) -> String {
-        let number = |n: u32| Json::Number(n as i64);
-        let members = vec![
-            ("error", self.to_string().into()),
-            ("status", number(self.status() as u32)),
-            ("refusal", self.refusal().map(number).into()),
-        ];
-        format!("{}\n", Json::Object(members))
-    }
-
-    /// A refusal of the library, with words around what it says.
-    pub fn library(refusal: Refusal, words: String) -> Failure {
-        Failure::Library(refusal.number(), words)
+        let status = Json::Number(self.status() as i64);
+        format!("{}\n", Json::Object(vec![("error", self.to_string().into()), ("status", status)]))
     }
 
     /// A file that cannot be reached.
@@ -61,13 +41,13 @@ impl Failure {
 
 impl From<Refusal> for Failure {
     fn from(refusal: Refusal) -> Failure {
-        Failure::library(refusal, refusal.to_string())
+        Failure::Refused(refusal.to_string())
     }
 }
 
 impl From<Refused> for Failure {
     fn from(refused: Refused) -> Failure {
-        Failure::library(refused.refusal, refused.to_string())
+        Failure::Refused(refused.to_string())
     }
 }
 
@@ -75,21 +55,8 @@ impl fmt::Display for Failure {
     fn fmt(&self, f: &mut fmt::Formatter) -> fmt::Result {
         match self {
             Failure::Usage(words) => write!(f, "bounds: {words}\n`bounds --help` shows the commands, with examples"),
-            Failure::File(words) | Failure::Library(_, words) | Failure::Refused(words) => write!(f, "bounds: {words}"),
+            Failure::File(words) | Failure::Refused(words) => write!(f, "bounds: {words}"),
             Failure::Output(error) => write!(f, "bounds: standard output cannot be written: {error}"),
         }
-    }
-}
-
-#[cfg(test)]
-mod tests {
-    use super::*;
-
-    #[test]
-    fn a_refusal_has_its_number_and_other_failures_none() {
-        let refused = Failure::from(Refusal::TooManyNodes);
-        assert!(refused.json().ends_with("\"status\": 1, \"refusal\": 4}\n"), "{}", refused.json());
-        let usage = Failure::Usage("no command is given".into());
-        assert!(usage.json().ends_with("\"status\": 2, \"refusal\": null}\n"), "{}", usage.json());
     }
 }

@@ -8,7 +8,6 @@ use crate::number;
 use crate::rules::Rule::{self, *};
 use bounds::premises::{Axis, Corner};
 use std::fmt;
-use std::hash::Hash;
 use std::ops::Range;
 
 pub const AXES: [Axis; 3] = [Axis::X, Axis::Y, Axis::Z];
@@ -58,46 +57,6 @@ pub enum Field {
     Order(usize),
 }
 
-/// A field of a tree's records or of a prepared mesh: both are compared, shown and explained alike.
-pub trait Recorded: Copy + Eq + Hash + fmt::Display {
-    /// What has such fields.
-    type Of<'r>: Copy;
-
-    /// Every field, in the order in which they are shown.
-    fn all(of: Self::Of<'_>) -> Vec<Self>;
-
-    /// Its raw bytes, where it is there.
-    fn raw(self, of: Self::Of<'_>) -> Option<Vec<u8>>;
-
-    /// The value of its bytes.
-    fn value_of(self, raw: &[u8]) -> Value;
-
-    /// An address follows from no input: who writes the header gives it.
-    fn is_given(self) -> bool;
-
-    /// Whether a NaN in it was made by arithmetic, so that its bits are free.
-    fn is_made(self, of: Self::Of<'_>) -> bool;
-
-    /// Its value, where it is there.
-    fn value(self, of: Self::Of<'_>) -> Option<Value> {
-        Some(self.value_of(&self.raw(of)?))
-    }
-
-    /// Whether its bytes are those of a NaN.
-    fn is_nan(self, raw: &[u8]) -> bool {
-        matches!(self.value_of(raw), Value::Word(word) if f32::from_bits(word).is_nan())
-    }
-
-    /// Whether two have the same in it: the same bytes, or each some NaN that arithmetic made.
-    fn same(self, a: Self::Of<'_>, b: Self::Of<'_>) -> bool {
-        let made = self.is_made(a) && self.is_made(b);
-        match (self.raw(a), self.raw(b)) {
-            (Some(a), Some(b)) => a == b || made && self.is_nan(&a) && self.is_nan(&b),
-            (a, b) => a == b,
-        }
-    }
-}
-
 /// A field's value.
 #[derive(Clone, Copy, Debug, PartialEq, Eq)]
 pub enum Value {
@@ -111,8 +70,6 @@ pub enum Value {
     /// A polygon's vertex; of a triangle's bit 15 is a flag.
     Corner(u16),
     Material(u32, u32),
-    /// An axis of a file.
-    Letter(char),
 }
 
 /// The kinds of polygons by their numbers.
@@ -163,21 +120,25 @@ impl InRecord {
         boxes.chain([InRecord::First, InRecord::Second]).collect()
     }
 
-    /// Which of a record's eight numbers it is.
-    pub fn number(self) -> usize {
-        match self {
-            InRecord::Box(corner, axis) => 3 * corner as usize + axis as usize,
-            InRecord::First => 6,
-            InRecord::Second => 7,
-        }
-    }
-
     fn bytes(self) -> Range<usize> {
-        2 * self.number()..2 * self.number() + 2
+        let at = match self {
+            InRecord::Box(corner, axis) => 6 * corner as usize + 2 * axis as usize,
+            InRecord::First => 12,
+            InRecord::Second => 14,
+        };
+        at..at + 2
     }
 }
 
 impl Field {
+    /// Every field of a dump's bytes, in the order in which they are shown.
+    pub fn all(records: &Records) -> Vec<Field> {
+        let header = InHeader::all().into_iter().map(Field::Header);
+        let nodes = (0..records.capacity()).flat_map(|k| InRecord::all().into_iter().map(move |f| Field::Node(k, f)));
+        let trees = (0..records.tree_count()).flat_map(|k| InRecord::all().into_iter().map(move |f| Field::Tree(k, f)));
+        header.chain(nodes).chain(trees).chain((0..records.order.len()).map(Field::Order)).collect()
+    }
+
     /// Its bytes within its record, header or list.
     pub fn bytes(self) -> Range<usize> {
         match self {
@@ -212,15 +173,51 @@ impl Field {
         }
     }
 
-    /// The place that a value of a record's box stands for. Padding stands for none.
-    pub fn stands_for(self, records: &Records) -> Option<String> {
-        match (self, self.value(records)?) {
-            (Field::Node(k, _), _) if k >= records.node_count() => None,
-            (Field::Node(_, InRecord::Box(_, axis)) | Field::Tree(_, InRecord::Box(_, axis)), Value::Short(value)) => {
-                Some(number::place(records.stands_for(axis as usize, value)))
-            }
-            _ => None,
+    /// Its raw bytes, where the records have it.
+    pub fn raw(self, records: &Records) -> Option<Vec<u8>> {
+        let part = match self {
+            Field::Header(_) => &records.header[..],
+            Field::Node(k, _) => records.nodes.get(k.checked_mul(16)?..)?.get(..16)?,
+            Field::Tree(k, _) => records.trees.get(k.checked_mul(16)?..)?.get(..16)?,
+            Field::Order(k) => return records.order.get(k).map(|place| place.to_le_bytes().to_vec()),
+        };
+        Some(part[self.bytes()].to_vec())
+    }
+
+    /// Its value, where the records have it.
+    pub fn value(self, records: &Records) -> Option<Value> {
+        Some(self.value_of(&self.raw(records)?))
+    }
+
+    /// The value of its bytes.
+    pub fn value_of(self, raw: &[u8]) -> Value {
+        let number = raw.iter().rev().fold(0u64, |sum, &byte| sum << 8 | byte as u64);
+        match self {
+            Field::Header(InHeader::NodeAddress | InHeader::TreeAddress) => Value::Address(number),
+            Field::Header(InHeader::Zeros | InHeader::LastZeros) => Value::Zeros(raw.iter().all(|&byte| byte == 0)),
+            Field::Header(InHeader::Point(..) | InHeader::Filling(_)) => Value::Word(number as u32),
+            Field::Header(_) | Field::Order(_) => Value::Number(number as u32),
+            Field::Node(..) | Field::Tree(..) => Value::Short(number as u16 as i16),
         }
+    }
+
+    /// Whether a NaN in it was made by arithmetic, so that its bits are free, or an address, which no input gives.
+    pub fn is_made(self) -> bool {
+        matches!(self, Field::Header(InHeader::Point(Point::Cen | Point::Inverse | Point::Quantum, _)))
+    }
+
+    /// An address follows from no box: who writes the header gives it.
+    pub fn is_given(self) -> bool {
+        matches!(self, Field::Header(InHeader::NodeAddress | InHeader::TreeAddress))
+    }
+
+    /// Whether two dumps have the same in it: the same bytes, or each some NaN that arithmetic made.
+    pub fn same(self, a: &Records, b: &Records) -> bool {
+        let (a, b) = (self.raw(a), self.raw(b));
+        let nan = |raw: &Option<Vec<u8>>| {
+            raw.as_ref().is_some_and(|raw| matches!(self.value_of(raw), Value::Word(w) if f32::from_bits(w).is_nan()))
+        };
+        a == b || self.is_made() && nan(&a) && nan(&b)
     }
 
     /// The rules that made it, by the tables of docs/RULES.md. Padding has one rule.
@@ -238,58 +235,21 @@ impl Field {
 
     /// The field of a name: `node 9 min.x`, `tree 0 last`, `header cen.x`, `order 5`.
     pub fn parse(words: &[String]) -> Option<Field> {
+        let name = |fields: Vec<Field>, name: &str| fields.into_iter().find(|field| field.name() == name);
         let number = |word: &str| word.parse::<usize>().ok();
-        let record = |k: &str, of: fn(usize, InRecord) -> Field, name: &str| {
-            let k = number(k)?;
-            InRecord::all().into_iter().map(|at| of(k, at)).find(|field| field.name() == name)
-        };
         match words.iter().map(String::as_str).collect::<Vec<_>>()[..] {
-            ["header", name] => InHeader::all().into_iter().map(Field::Header).find(|field| field.name() == name),
-            ["node", k, name] => record(k, Field::Node, name),
-            ["tree", k, name] => record(k, Field::Tree, name),
+            ["header", field] => name(InHeader::all().into_iter().map(Field::Header).collect(), field),
+            ["node", k, field] => {
+                let k = number(k)?;
+                name(InRecord::all().into_iter().map(|f| Field::Node(k, f)).collect(), field)
+            }
+            ["tree", k, field] => {
+                let k = number(k)?;
+                name(InRecord::all().into_iter().map(|f| Field::Tree(k, f)).collect(), field)
+            }
             ["order", k] => Some(Field::Order(number(k)?)),
             _ => None,
         }
-    }
-}
-
-impl Recorded for Field {
-    type Of<'r> = &'r Records;
-
-    fn all(records: &Records) -> Vec<Field> {
-        let header = InHeader::all().into_iter().map(Field::Header);
-        let nodes = (0..records.capacity()).flat_map(|k| InRecord::all().into_iter().map(move |f| Field::Node(k, f)));
-        let trees = (0..records.tree_count()).flat_map(|k| InRecord::all().into_iter().map(move |f| Field::Tree(k, f)));
-        header.chain(nodes).chain(trees).chain((0..records.order.len()).map(Field::Order)).collect()
-    }
-
-    fn raw(self, records: &Records) -> Option<Vec<u8>> {
-        let part = match self {
-            Field::Header(_) => &records.header[..],
-            Field::Node(k, _) => records.nodes.get(k.checked_mul(16)?..)?.get(..16)?,
-            Field::Tree(k, _) => records.trees.get(k.checked_mul(16)?..)?.get(..16)?,
-            Field::Order(k) => return records.order.get(k).map(|place| place.to_le_bytes().to_vec()),
-        };
-        Some(part[self.bytes()].to_vec())
-    }
-
-    fn value_of(self, raw: &[u8]) -> Value {
-        let number = raw.iter().rev().fold(0u64, |sum, &byte| sum << 8 | byte as u64);
-        match self {
-            Field::Header(InHeader::NodeAddress | InHeader::TreeAddress) => Value::Address(number),
-            Field::Header(InHeader::Zeros | InHeader::LastZeros) => Value::Zeros(raw.iter().all(|&byte| byte == 0)),
-            Field::Header(InHeader::Point(..) | InHeader::Filling(_)) => Value::Word(number as u32),
-            Field::Header(_) | Field::Order(_) => Value::Number(number as u32),
-            Field::Node(..) | Field::Tree(..) => Value::Short(number as u16 as i16),
-        }
-    }
-
-    fn is_given(self) -> bool {
-        matches!(self, Field::Header(InHeader::NodeAddress | InHeader::TreeAddress))
-    }
-
-    fn is_made(self, _: &Records) -> bool {
-        matches!(self, Field::Header(InHeader::Point(Point::Cen | Point::Inverse | Point::Quantum, _)))
     }
 }
 
@@ -335,7 +295,6 @@ impl fmt::Display for Value {
             Value::Corner(corner) if *corner > 0x7FFF => f.pad(&format!("{} + {}", corner & 0x7FFF, 0x8000)),
             Value::Corner(corner) => f.pad(&corner.to_string()),
             Value::Material(first, second) => f.pad(&format!("({first:08X}, {second:08X})")),
-            Value::Letter(letter) => f.pad(&letter.to_string()),
         }
     }
 }

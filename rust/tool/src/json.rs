@@ -1,6 +1,5 @@
 //! JSON, as far as answers need it: written, never read.
 
-use bounds::Vec3;
 use std::fmt;
 
 /// A value. Objects keep the order in which their members were given, so that the text is stable.
@@ -24,11 +23,6 @@ impl Json {
     pub fn float(word: u32) -> Json {
         let value = crate::number::float(f32::from_bits(word));
         Json::Object(vec![("value", value.into()), ("word", crate::number::word(word).into())])
-    }
-
-    /// A point, float by float.
-    pub fn point(v: Vec3) -> Json {
-        Json::list([v.x, v.y, v.z].map(|x| Json::float(x.to_bits())))
     }
 }
 

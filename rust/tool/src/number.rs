@@ -40,10 +40,9 @@ pub fn counted(n: usize, noun: &str) -> String {
     }
 }
 
-/// `nodes`, `boxes`, `vertices`, `children`.
+/// `nodes`, `boxes`, `vertices`.
 pub fn plural(noun: &str) -> String {
     match noun.strip_suffix("ex") {
-        _ if noun == "child" => "children".into(),
         Some(stem) => format!("{stem}ices"),
         None if noun.ends_with('x') => format!("{noun}es"),
         None => format!("{noun}s"),
@@ -65,14 +64,6 @@ pub fn some<T: std::fmt::Display>(of: &[T]) -> String {
     format!("{} .. {} ({} in all)", join(&of[..SHOWN / 2]), join(&of[of.len() - 2..]), of.len())
 }
 
-/// The first of a list in words, and how many more there are.
-pub fn cut<T>(list: &[T], most: usize, words: impl Fn(&T) -> String) -> Vec<String> {
-    let more = list.len().saturating_sub(most);
-    let mut lines: Vec<String> = list.iter().take(most).map(words).collect();
-    lines.extend((more > 0).then(|| format!("and {more} more")));
-    lines
-}
-
 #[cfg(test)]
 mod tests {
     use super::*;
@@ -83,8 +74,8 @@ mod tests {
         assert_eq!(both(0x7FC0_0000), "NaN (7FC00000)");
         assert_eq!([0.0, 8.5, -1e9, 1e-5, f64::NAN].map(place), ["0.000", "8.500", "-1.000e9", "1.000e-5", "nowhere"]);
         assert_eq!(
-            (counted(1, "box"), counted(2, "box"), counted(0, "node"), counted(4, "child")),
-            ("1 box".into(), "2 boxes".into(), "0 nodes".into(), "4 children".into())
+            (counted(1, "box"), counted(2, "box"), counted(0, "node")),
+            ("1 box".into(), "2 boxes".into(), "0 nodes".into())
         );
         assert_eq!(some(&[1, 2, 3]), "1,2,3");
         assert_eq!(some(&(0..100).collect::<Vec<_>>()), "0,1,2,3,4,5 .. 98,99 (100 in all)");

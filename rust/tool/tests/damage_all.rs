@@ -3,15 +3,22 @@
 mod common;
 
 use bounds::Vec3;
-use common::{dump, length, list, Random, THRESHOLDS};
+use common::{length, list, Random, THRESHOLDS};
 use tool::account::{account, traced};
+use tool::boxes::{Boxes, Origin};
 use tool::diff::compare;
 use tool::draw::{Picture, Query};
 use tool::dump::Dump;
 use tool::explain::query::Asked;
 use tool::explain::Explainer;
-use tool::field::{Field, Recorded};
-use tool::trace::Fields;
+use tool::field::Field;
+
+fn dump(random: &mut Random) -> Dump {
+    let n = 1 + length(random).min(40);
+    let (items, threshold) = (list(random, n), random.pick(&THRESHOLDS));
+    let boxes = Boxes { items, origin: Origin::Entries { file: "boxes.bin".into() } };
+    Dump::build("random", boxes, threshold).expect("within the limits").0
+}
 
 /// A few bytes of the records, the padding among them, become others.
 fn damage(random: &mut Random, dump: &mut Dump) {
@@ -39,11 +46,10 @@ fn damage(random: &mut Random, dump: &mut Dump) {
 
 #[test]
 fn damaged_records_are_told_as_such() {
-    let mut random = Random::new(99);
+    let mut random = Random(99);
     let (mut damaged, mut walked, mut explained) = (0, 0, 0);
     for _ in 0..600 {
-        let n = 1 + length(&mut random).min(40);
-        let whole = dump("random", list(&mut random, n), random.pick(&THRESHOLDS));
+        let whole = dump(&mut random);
         let mut broken = whole.clone();
         damage(&mut random, &mut broken);
         let account = account(&broken).expect("its input can be built");
@@ -60,8 +66,7 @@ fn damaged_records_are_told_as_such() {
         let (min, max) = (query.min, query.max);
         if broken.walk(min, max).is_ok() {
             for item in 0..broken.entries {
-                explainer
-                    .query(&Asked { dump: &broken, min, max, item, rounded: None }, &|field| !account.differs(field));
+                explainer.query(&Asked { dump: &broken, min, max, item }, &|field| !account.differs(field));
             }
             walked += 1;
         }

@@ -3,9 +3,16 @@
 mod common;
 
 use bounds::BvhItem;
-use common::{dump, length, list, Random, THRESHOLDS};
+use common::{length, list, Random, THRESHOLDS};
 use std::collections::BTreeMap;
+use tool::boxes::{Boxes, Origin};
 use tool::diff::{compare, Cause, Verdict};
+use tool::dump::Dump;
+
+fn dump(name: &str, items: &[BvhItem], threshold: u32) -> Dump {
+    let boxes = Boxes { items: items.to_vec(), origin: Origin::Children { file: name.into() } };
+    Dump::build(name, boxes, threshold).expect("within the limits").0
+}
 
 /// One to three changes: a value, an entry's presence, the list's length; now and then the threshold.
 fn changed(random: &mut Random, items: &[BvhItem], threshold: u32) -> (Vec<BvhItem>, u32) {
@@ -29,14 +36,14 @@ fn changed(random: &mut Random, items: &[BvhItem], threshold: u32) -> (Vec<BvhIt
 
 #[test]
 fn each_field_has_one_cause() {
-    let mut random = Random::new(5);
+    let mut random = Random(5);
     let mut seen: BTreeMap<String, usize> = BTreeMap::new();
     let (mut pairs, mut fields, mut lost) = (0, 0, 0);
     for _ in 0..600 {
         let n = length(&mut random);
         let (items, threshold) = (list(&mut random, n), random.pick(&THRESHOLDS));
         let (others, other_threshold) = changed(&mut random, &items, threshold);
-        let (a, b) = (dump("a", items, threshold), dump("b", others, other_threshold));
+        let (a, b) = (dump("a", &items, threshold), dump("b", &others, other_threshold));
         let comparison = compare(&a, &b).expect("two dumps");
         let known = comparison.known.as_ref().expect("both inputs");
         let caused: usize = known.causes.iter().map(|cause| cause.fields.len()).sum();
@@ -62,11 +69,11 @@ fn each_field_has_one_cause() {
 
 #[test]
 fn a_dump_and_itself_are_the_same() {
-    let mut random = Random::new(6);
+    let mut random = Random(6);
     for _ in 0..100 {
         let n = length(&mut random);
         let (items, threshold) = (list(&mut random, n), random.pick(&THRESHOLDS));
-        let (a, b) = (dump("a", items.clone(), threshold), dump("b", items, threshold));
+        let (a, b) = (dump("a", &items, threshold), dump("b", &items, threshold));
         let comparison = compare(&a, &b).expect("two dumps");
         assert!(
             comparison.fields.is_empty() && comparison.text().contains("the inputs are the same; no field differs")

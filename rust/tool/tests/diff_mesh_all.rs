@@ -19,7 +19,7 @@ fn compared(a: &MeshFolder, b: &MeshFolder, look: impl FnOnce(&MeshComparison)) 
 
 #[test]
 fn each_field_has_one_cause() {
-    let mut random = Random::new(21);
+    let mut random = Random(21);
     let mut seen: BTreeMap<String, usize> = BTreeMap::new();
     let (mut pairs, mut fields, mut lost, mut elsewhere) = (0, 0, 0, 0);
     while pairs < 400 {
@@ -64,7 +64,7 @@ fn each_field_has_one_cause() {
 
 #[test]
 fn a_mesh_and_itself_are_the_same() {
-    let mut random = Random::new(22);
+    let mut random = Random(22);
     let mut pairs = 0;
     while pairs < 60 {
         let geometry = mesh(&mut random, if pairs % 2 == 0 { Geometry::PLAIN } else { Geometry::BVH });
@@ -80,7 +80,7 @@ fn a_mesh_and_itself_are_the_same() {
 /// A byte that no input gives is named as such, and counts for no other cause.
 #[test]
 fn damaged_bytes_are_their_own_cause() {
-    let mut random = Random::new(23);
+    let mut random = Random(23);
     let mut pairs = 0;
     while pairs < 40 {
         let geometry = mesh(&mut random, if pairs % 2 == 0 { Geometry::PLAIN } else { Geometry::BVH });

@@ -3,14 +3,14 @@
 mod common;
 
 use bounds::{BvhItem, Tree};
-use common::{dump, length, list, Random, THRESHOLDS};
-use plain::tree::Trace;
+use common::{length, list, Random, THRESHOLDS};
 use std::io::Write;
 use tool::boxes::{Boxes, Origin};
-use tool::dump::Records;
+use tool::dump::{Dump, Records};
 use tool::explain::query::Asked;
 use tool::explain::Explainer;
-use tool::field::{Field, Recorded};
+use tool::field::Field;
+use tool::trace::Trace;
 
 const BUILDS: usize = 1_000;
 
@@ -32,7 +32,7 @@ struct Met {
 
 #[test]
 fn every_field_of_1000_random_builds() {
-    let mut random = Random::new(2026);
+    let mut random = Random(2026);
     let mut met = Met::default();
     while met.builds < BUILDS {
         let (items, threshold) = match met.builds {
@@ -43,7 +43,7 @@ fn every_field_of_1000_random_builds() {
             }
         };
         let tree = Tree::build(&items, threshold).expect("within the limits");
-        let records = Records::of(&tree).expect("a build's trees");
+        let records = Records::of(&tree);
         met.outside += tree.premises().is_err() as usize;
         let boxes = Boxes { items, origin: Origin::Children { file: "random.bin".into() } };
         each_field(&boxes, threshold, &records, &mut met);
@@ -78,7 +78,7 @@ fn each_field(boxes: &Boxes, threshold: u32, records: &Records, met: &mut Met) {
         let found = field.raw(records).expect("the field is there");
         let reached = match &explained.bytes {
             None => field.is_given(),
-            Some(bytes) => bytes == &found || field.is_made(records) && field.is_nan(bytes) && field.is_nan(&found),
+            Some(bytes) => bytes == &found || field.is_made() && nan(bytes) && nan(&found),
         };
         assert!(reached, "{field}: {} is not {found:02X?} of {:?} at {threshold}", explained.text(), boxes.items);
         assert!(!explained.steps.is_empty() && explained.steps.iter().any(|step| !step.rules.is_empty()), "{field}");
@@ -86,20 +86,25 @@ fn each_field(boxes: &Boxes, threshold: u32, records: &Records, met: &mut Met) {
         met.steps += explained.steps.len();
         met.wrapped += explained.steps.iter().any(|step| step.text.contains("WRAPPED")) as usize;
         met.sorted += explained.steps.iter().any(|step| step.text.contains("sorted")) as usize;
-        met.made_nan += (field.is_made(records) && field.is_nan(&found)) as usize;
+        met.made_nan += (field.is_made() && nan(&found)) as usize;
     }
+}
+
+fn nan(bytes: &[u8]) -> bool {
+    bytes.len() == 4 && f32::from_le_bytes([bytes[0], bytes[1], bytes[2], bytes[3]]).is_nan()
 }
 
 /// Every item of random lists, asked about with random queries: the story ends as the library's walk does.
 #[test]
 fn every_item_of_random_queries() {
-    let mut random = Random::new(7);
+    let mut random = Random(7);
     let (mut asked, mut handed_out, mut missed) = (0, 0, 0);
     for round in 0..400 {
         let n = 1 + length(&mut random);
         let threshold = random.pick(&THRESHOLDS);
         let items = list(&mut random, n);
-        let dump = dump("random.bin", items.clone(), threshold);
+        let boxes = Boxes { items: items.clone(), origin: Origin::Children { file: "random.bin".into() } };
+        let (dump, _) = Dump::build("random.bin", boxes, threshold).expect("within the limits");
         let trace = Trace::of(&items, threshold as usize);
         let explainer =
             Explainer { boxes: dump.input().expect("its input"), trace: &trace, records: &dump.records, mesh: None };
@@ -108,7 +113,7 @@ fn every_item_of_random_queries() {
         let found = dump.walk(query.min, query.max).expect("a build's records");
         let places: Vec<_> = found.positions.iter().map(|&p| dump.place(p as usize).expect("a place")).collect();
         for (item, entry) in items.iter().enumerate() {
-            let ask = Asked { dump: &dump, min: query.min, max: query.max, item, rounded: None };
+            let ask = Asked { dump: &dump, min: query.min, max: query.max, item };
             let (told, reads) = explainer.query(&ask, &|_| true);
             assert_eq!(reads, found.reads, "{}", told.text());
             let (handed, meets) = (places.contains(&item), entry.meets(query.min, query.max));

@@ -2,16 +2,16 @@
 
 mod common;
 
-use bounds::{Geometry, Polygon, ShrunkBy};
+use bounds::{Geometry, Polygon};
 use common::mesh::{folder, mesh};
 use common::Random;
-use plain::mesh::{MeshTrace, Standing};
 use std::collections::BTreeSet;
 use std::io::Write;
 use tool::explain::MeshExplainer;
 use tool::field::mesh::{Derived, InPolygon, MeshField};
-use tool::field::{Recorded, Value};
-use tool::mesh::{MeshFolder, Shrunk};
+use tool::field::Value;
+use tool::mesh::MeshFolder;
+use tool::trace::mesh::{MeshTrace, Standing};
 
 const PREPARES: usize = 200;
 
@@ -42,7 +42,7 @@ struct Met {
 
 #[test]
 fn every_field_of_200_random_prepares() {
-    let mut random = Random::new(17);
+    let mut random = Random(17);
     let mut met = Met::default();
     while met.prepares < PREPARES {
         let kind = if met.prepares % 2 == 0 { Geometry::PLAIN } else { Geometry::BVH };
@@ -71,19 +71,13 @@ fn each_field(folder: &MeshFolder, met: &mut Met) {
     let boxes = tree.as_ref().and_then(|tree| tree.boxes.as_ref());
     let with = MeshExplainer { origin: &mesh.origin, trace: &trace, derived, boxes };
     meet(&mesh.geometry, &trace, met);
-    let told = Shrunk::of(&mesh.geometry, folder.shrunk_by).map(|how| (how.by, how.failed));
-    let traced = trace.shrinking.as_ref().map(|shrinking| {
-        let failed = shrinking.trials.iter().filter(|trial| trial.failed.is_some()).count();
-        (shrinking.passed.map_or(ShrunkBy::Normals, ShrunkBy::Margin), failed)
-    });
-    assert_eq!(told, traced, "how vertices were shrunk: {:?}", mesh.geometry);
     for field in MeshField::all(&derived) {
         let explained = with.field(field);
         let found = field.raw(&derived).expect("the field is there");
-        let made = field.is_made(&derived) && field.is_nan(&found);
+        let made = field.is_made(derived.tree.is_some()) && is_nan(field, &found);
         let reached = match &explained.bytes {
             None => field.is_given(),
-            Some(bytes) => bytes == &found || made && field.is_nan(bytes),
+            Some(bytes) => bytes == &found || made && is_nan(field, bytes),
         };
         assert!(reached, "{field}: {} is not {found:02X?} of {:?}", explained.text(), mesh.geometry);
         assert!(!explained.steps.is_empty() && explained.steps.iter().any(|step| !step.rules.is_empty()), "{field}");
@@ -96,6 +90,10 @@ fn each_field(folder: &MeshFolder, met: &mut Met) {
         let words: Vec<String> = explained.of.split(' ').map(String::from).collect();
         assert_eq!(MeshField::parse(&words), Some(field), "the name leads back");
     }
+}
+
+fn is_nan(field: MeshField, raw: &[u8]) -> bool {
+    matches!(field.value_of(raw), Value::Word(word) if f32::from_bits(word).is_nan())
 }
 
 fn count(field: MeshField, derived: &Derived, met: &mut Met) {
@@ -112,7 +110,7 @@ fn count(field: MeshField, derived: &Derived, met: &mut Met) {
 fn meet(of: &Geometry, trace: &MeshTrace, met: &mut Met) {
     let kind = |polygon: &Polygon| polygon.to_bytes()[0] & 7;
     met.kinds.extend(of.polygons.iter().map(kind));
-    let corner = |polygon: &Polygon| plain::polygon::vertices(polygon);
+    let corner = |polygon: &Polygon| tool::trace::mesh::polygon::vertices(polygon);
     met.missing_vertices += of.polygons.iter().flat_map(corner).any(|v| v >= of.vertices.len()) as usize;
     met.nan_vertices += of.vertices.iter().any(|v| v.x.is_nan() || v.y.is_nan() || v.z.is_nan()) as usize;
     met.several_materials += (trace.materials.list.len() > 1) as usize;
@@ -132,7 +130,7 @@ fn meet(of: &Geometry, trace: &MeshTrace, met: &mut Met) {
 /// Every polygon of random trees, asked about with random queries: the story ends as the library's walk does.
 #[test]
 fn every_polygon_of_random_queries() {
-    let mut random = Random::new(18);
+    let mut random = Random(18);
     let (mut asked, mut handed, mut missed, mut meshes) = (0, 0, 0, 0);
     while meshes < 100 {
         let Some(folder) = folder("random", mesh(&mut random, Geometry::BVH)) else { continue };
@@ -172,7 +170,7 @@ fn corner(v: bounds::Vec3) -> String {
 /// A damaged byte is named, and what stands there is not explained; all else still is.
 #[test]
 fn what_the_input_does_not_give_is_not_explained() {
-    let mut random = Random::new(19);
+    let mut random = Random(19);
     let mut damaged = 0;
     while damaged < 60 {
         let kind = if damaged % 2 == 0 { Geometry::PLAIN } else { Geometry::BVH };

@@ -2,9 +2,10 @@
 
 mod common;
 
-use common::command::Folder;
-use common::{damage, Random, TURNING};
+use common::command::{expect, Folder};
+use common::Random;
 use std::fs::File;
+use std::process::Stdio;
 
 #[test]
 fn bad_usage_and_bad_files() {
@@ -54,7 +55,8 @@ fn bad_usage_and_bad_files() {
         "draw a.bin -o no/such/folder.svg",
         "draw a.bin --query 0,0,0",
     ];
-    folder.expect("faults.log", &lines);
+    let log: String = lines.iter().map(|line| folder.log(line)).collect();
+    expect("faults.log", &log);
     assert!(folder.names().iter().all(|name| !name.contains("tmp")), "{:?}", folder.names());
 }
 
@@ -63,7 +65,16 @@ fn bad_usage_and_bad_files() {
 fn damaged_dumps() {
     let folder = Folder::with_inputs("damaged");
     folder.run("build a.bin --out whole");
-    let copy = |to: &str, file: &str, change: &dyn Fn(&mut Vec<u8>)| folder.copy("whole", to, file, change);
+    let copy = |to: &str, file: &str, change: &dyn Fn(&mut Vec<u8>)| {
+        std::fs::create_dir(folder.0.join(to)).expect("a folder");
+        for name in ["dump.txt", "boxes.bin", "header.bin", "nodes.bin", "trees.bin", "order.bin"] {
+            let mut bytes = std::fs::read(folder.0.join("whole").join(name)).expect("a file of a dump");
+            if name == file {
+                change(&mut bytes);
+            }
+            std::fs::write(folder.0.join(to).join(name), bytes).expect("a copy");
+        }
+    };
     copy("value", "nodes.bin", &|bytes| bytes[16 * 9] ^= 4);
     copy("count", "nodes.bin", &|bytes| bytes[30] = 0xFF);
     copy("range", "trees.bin", &|bytes| bytes[15] = 0x7F);
@@ -110,7 +121,8 @@ fn damaged_dumps() {
         "diff records value",
         "dump whole --threshold 1",
     ];
-    folder.expect("damaged.log", &lines);
+    let log: String = lines.iter().map(|line| folder.log(line)).collect();
+    expect("damaged.log", &log);
 }
 
 /// A reader that goes away is no failure, and changes no status; a disk without room is one.
@@ -118,12 +130,20 @@ fn damaged_dumps() {
 fn closed_pipes_and_full_disks() {
     let folder = Folder::with_inputs("pipes");
     for (line, status) in [("dump a.bin", 0), ("--help", 0), ("check b.bin", 1), ("diff a.bin b.bin --json", 0)] {
-        folder.closed_pipe(line, status);
+        let (reader, writer) = std::io::pipe().expect("a pipe");
+        drop(reader);
+        let output = folder.command(line).stdout(writer).stderr(Stdio::piped()).output().expect("it runs");
+        assert_eq!((output.status.code(), output.stderr.len()), (Some(status), 0), "{line}");
     }
     for line in ["dump a.bin", "--help", "check b.bin", "draw a.bin", "explain a.bin node 0 id --json"] {
-        folder.full_disk(line);
+        let full = File::options().write(true).open("/dev/full").expect("/dev/full");
+        let output = folder.command(line).stdout(full).output().expect("it runs");
+        assert_eq!(output.status.code(), Some(2), "{line}");
+        assert!(String::from_utf8_lossy(&output.stderr).contains("standard output cannot be written"), "{line}");
     }
-    assert!(folder.wrong("draw a.bin -o /dev/full").contains("/dev/full: cannot be written"));
+    let output = folder.run("draw a.bin -o /dev/full");
+    assert_eq!(output.status.code(), Some(2));
+    assert!(String::from_utf8_lossy(&output.stderr).contains("/dev/full: cannot be written"));
     use std::os::unix::fs::FileTypeExt;
     assert!(std::fs::metadata("/dev/full").expect("it").file_type().is_char_device(), "it is still a device");
 }
@@ -145,13 +165,13 @@ fn standard_input_is_a_file() {
     assert!(String::from_utf8_lossy(&endless.stderr).contains("expected a list of at most 32,767 boxes"));
 }
 
-/// A picture replaces the one that was there, whole, where that is asked for; a folder that is there is left alone.
+/// A picture replaces the one that was there, whole; a folder that is there is left alone.
 #[test]
 fn files_are_replaced_whole_and_folders_kept() {
     let folder = Folder::with_inputs("whole");
     folder.write("old.svg", b"old");
-    assert!(folder.run("draw a.bin -o old.svg --force").status.success());
-    let drawn = folder.read_text("old.svg");
+    assert!(folder.run("draw a.bin -o old.svg").status.success());
+    let drawn = std::fs::read_to_string(folder.0.join("old.svg")).expect("a picture");
     assert!(drawn.starts_with("<svg") && drawn.ends_with("</svg>\n"));
     assert!(folder.run("build a.bin --out twice").status.success());
     assert_eq!(folder.run("build b.bin --out twice").status.code(), Some(2));
@@ -163,9 +183,10 @@ fn files_are_replaced_whole_and_folders_kept() {
 fn random_garbage() {
     let folder = Folder::with_inputs("garbage");
     folder.run("build a.bin --threshold 2 --out dump");
-    let whole = ["dump.txt", "boxes.bin", "header.bin", "nodes.bin", "trees.bin", "order.bin"]
-        .map(|name| (format!("dump/{name}"), folder.read(&format!("dump/{name}"))));
-    let mut random = Random::new(17);
+    let whole: Vec<(&str, Vec<u8>)> = ["dump.txt", "boxes.bin", "header.bin", "nodes.bin", "trees.bin", "order.bin"]
+        .map(|name| (name, std::fs::read(folder.0.join("dump").join(name)).expect("a file")))
+        .to_vec();
+    let mut random = Random(17);
     let commands = [
         "dump dump",
         "query dump 0,0,0 7,1,1",
@@ -179,18 +200,22 @@ fn random_garbage() {
         for (name, bytes) in &whole {
             let mut bytes = bytes.clone();
             for _ in 0..random.below(3) {
-                damage(&mut random, &mut bytes, &TURNING);
+                let at = random.below(bytes.len());
+                bytes[at] = random.pick(&[0, 1, 0x7F, 0x80, 0xFF, random.0 as u8]);
             }
             if random.below(40) == 0 {
                 bytes.truncate(random.below(bytes.len()));
             }
-            folder.write(name, &bytes);
+            folder.write(&format!("dump/{name}"), &bytes);
         }
         let length = random.below(200);
-        let noise: Vec<u8> = (0..length).map(|_| random.u32() as u8).collect();
+        let noise: Vec<u8> = (0..length).map(|_| random.next() as u8).collect();
         folder.write("noise", &noise);
         for line in [commands[round % commands.len()], "build noise", "check noise --records", "build noise --text"] {
-            statuses[folder.status(line)] += 1;
+            let output = folder.run(line);
+            let said = String::from_utf8_lossy(&output.stderr).into_owned();
+            assert!(!said.contains("panicked"), "{line}: {said}");
+            statuses[output.status.code().expect("a status") as usize] += 1;
         }
     }
     println!("exit status 0: {}, 1: {}, 2: {}", statuses[0], statuses[1], statuses[2]);

@@ -4,8 +4,9 @@
 mod common;
 
 use common::command::{expect, Folder};
-use common::{damage, terrain, Random, TURNING};
+use common::{terrain, Random};
 use std::fs::File;
+use std::process::Stdio;
 
 /// A pyramid as an .obj, with a quad.
 const PYRAMID: &str =
@@ -25,7 +26,7 @@ fn bad_meshes() {
     obj("letters", "f 1 2/x 3");
     obj("large", "v 1e39 0 0");
     obj("surface", "curv 0 1 1 2");
-    folder.write("bytes.obj", &[PYRAMID.as_bytes(), b"o \xFF\xFE\x01\n"].concat());
+    folder.write("bytes.obj", &[PYRAMID.as_bytes(), b"o \xFF\xFE\n"].concat());
     folder.write("empty.txt", b"# nothing\n");
     folder.write("noise.txt", b"no mesh at all\n");
     let text = |name: &str, line: &str| {
@@ -81,7 +82,8 @@ fn bad_meshes() {
         "prepare terrain.obj --out six.txt",
     ];
     lines.extend(usage.map(String::from));
-    folder.expect("bad_meshes.log", &lines);
+    let log: String = lines.iter().map(|line| folder.log(line)).collect();
+    expect("bad_meshes.log", &log);
     let half = |name: &String| name == "out" || name.contains("tmp");
     assert!(!folder.names().iter().any(half), "{:?}", folder.names());
 }
@@ -137,8 +139,21 @@ fn refused_meshes() {
         "check used.txt",
         "query many.obj 0,0,0 1,1,1",
     ];
-    folder.expect("refused_meshes.log", &lines);
+    let log: String = lines.iter().map(|line| folder.log(line)).collect();
+    expect("refused_meshes.log", &log);
     assert!(!folder.names().contains(&"out".to_string()), "{:?}", folder.names());
+}
+
+/// A copy of a prepared mesh in which a file is another.
+fn copy(folder: &Folder, from: &str, to: &str, file: &str, change: &dyn Fn(&mut Vec<u8>)) {
+    std::fs::create_dir(folder.0.join(to)).expect("a folder");
+    for name in folder.names_in(from) {
+        let mut bytes = std::fs::read(folder.0.join(from).join(&name)).expect("a file");
+        if name == file {
+            change(&mut bytes);
+        }
+        std::fs::write(folder.0.join(to).join(&name), bytes).expect("a copy");
+    }
 }
 
 #[test]
@@ -146,8 +161,8 @@ fn damaged_folders() {
     let folder = Folder::with_inputs("damaged-meshes");
     folder.run("prepare kinds.txt --out eight");
     folder.run("prepare kinds.txt --kind 4 --out four");
-    let eight = |to: &str, file: &str, change: &dyn Fn(&mut Vec<u8>)| folder.copy("eight", to, file, change);
-    let four = |to: &str, file: &str, change: &dyn Fn(&mut Vec<u8>)| folder.copy("four", to, file, change);
+    let eight = |to: &str, file: &str, change: &dyn Fn(&mut Vec<u8>)| copy(&folder, "eight", to, file, change);
+    let four = |to: &str, file: &str, change: &dyn Fn(&mut Vec<u8>)| copy(&folder, "four", to, file, change);
     eight("link", "polygons.bin", &|bytes| bytes[16 + 12] ^= 1);
     eight("unknown", "polygons.bin", &|bytes| bytes[0] |= 7);
     eight("polygons", "polygons.bin", &|bytes| bytes.truncate(100));
@@ -156,10 +171,6 @@ fn damaged_folders() {
     eight("vertex", "vertices.bin", &|bytes| bytes[7] ^= 0x80);
     eight("frame", "frame.bin", &|bytes| bytes.truncate(63));
     eight("quantum", "frame.bin", &|bytes| bytes[3] ^= 0x40);
-    eight("centre", "frame.bin", &|bytes| bytes[71] ^= 0x40);
-    eight("boxes", "boxes.bin", &|bytes| bytes.truncate(100));
-    eight("mark", "boxes.bin", &|bytes| bytes[28] = 3);
-    eight("corner", "boxes.bin", &|bytes| bytes[28 + 7] ^= 0x40);
     eight("leaf", "nodes.bin", &|bytes| bytes[16 * 3 + 14] = 0x7F);
     eight("range", "trees.bin", &|bytes| bytes[15] = 0x7F);
     eight("order", "order.bin", &|bytes| bytes[1] = 0xFF);
@@ -179,15 +190,6 @@ fn damaged_folders() {
     std::fs::remove_file(folder.0.join("records/mesh.txt")).expect("only the records");
     eight("missing", "dump.txt", &|_| ());
     std::fs::remove_file(folder.0.join("missing/indices.bin")).expect("a file less");
-    let seventh = |said: &'static str| {
-        move |bytes: &mut Vec<u8>| {
-            let six: String = String::from_utf8_lossy(bytes).split_inclusive('\n').take(6).collect();
-            *bytes = (six + said).into_bytes();
-        }
-    };
-    four("margin", "dump.txt", &seventh("shrunk margin 0.02\n"));
-    four("margins", "dump.txt", &seventh("shrunk margin wide\n"));
-    eight("normals", "dump.txt", &seventh("shrunk normals\n"));
     four("shrunk", "shrunk.bin", &|bytes| bytes[0] ^= 2);
     four("count", "octants.bin", &|bytes| bytes[4] = 200);
     four("octant", "octants.bin", &|bytes| bytes[32] ^= 1);
@@ -201,10 +203,6 @@ fn damaged_folders() {
         "dump vertex",
         "dump frame",
         "dump quantum",
-        "dump centre",
-        "dump boxes",
-        "dump mark",
-        "dump corner",
         "query leaf 6,-4,2 7,-3,2",
         "query range 6,-4,2 7,-3,2",
         "query order 6,-4,2 7,-3,2",
@@ -221,9 +219,6 @@ fn damaged_folders() {
         "query records 6,-4,2 7,-3,2",
         "draw records",
         "dump missing",
-        "dump margin",
-        "dump margins",
-        "dump normals",
         "dump shrunk",
         "dump count",
         "dump octant",
@@ -256,10 +251,18 @@ fn closed_pipes_and_full_disks() {
         ("draw terrain", 0),
     ];
     for (line, status) in lines {
-        folder.closed_pipe(line, status);
-        folder.full_disk(line);
+        let (reader, writer) = std::io::pipe().expect("a pipe");
+        drop(reader);
+        let output = folder.command(line).stdout(writer).stderr(Stdio::piped()).output().expect("it runs");
+        assert_eq!((output.status.code(), output.stderr.len()), (Some(status), 0), "{line}");
+        let full = File::options().write(true).open("/dev/full").expect("/dev/full");
+        let output = folder.command(line).stdout(full).output().expect("it runs");
+        assert_eq!(output.status.code(), Some(2), "{line}");
+        assert!(String::from_utf8_lossy(&output.stderr).contains("standard output cannot be written"), "{line}");
     }
-    assert!(folder.wrong("draw terrain -o /dev/full").contains("/dev/full: cannot be written"));
+    let output = folder.run("draw terrain -o /dev/full");
+    assert_eq!(output.status.code(), Some(2));
+    assert!(String::from_utf8_lossy(&output.stderr).contains("/dev/full: cannot be written"));
 }
 
 /// `-` is standard input, an .obj and our own text alike.
@@ -281,9 +284,9 @@ fn a_mesh_from_standard_input() {
 fn folders_are_written_whole() {
     let folder = Folder::with_inputs("mesh-whole");
     assert!(folder.run("prepare kinds.txt --out twice").status.success());
-    let before = folder.read("twice/polygons.bin");
+    let before = std::fs::read(folder.0.join("twice/polygons.bin")).expect("a file");
     assert_eq!(folder.run("prepare terrain.obj --out twice").status.code(), Some(2));
-    assert_eq!(folder.read("twice/polygons.bin"), before);
+    assert_eq!(std::fs::read(folder.0.join("twice/polygons.bin")).expect("a file"), before);
     assert_eq!(folder.run("prepare kinds.txt --out /dev/full/x").status.code(), Some(2));
     assert!(folder.names().iter().all(|name| !name.contains("tmp")), "{:?}", folder.names());
 }
@@ -295,14 +298,15 @@ fn random_garbage() {
     folder.run("prepare kinds.txt --out dump");
     folder.run("prepare kinds.txt --kind 4 --out plain");
     let files = |name: &str| -> Vec<(String, Vec<u8>)> {
-        let paths = folder.names_in(name).into_iter().map(|file| format!("{name}/{file}"));
-        paths.map(|path| (path.clone(), folder.read(&path))).collect()
+        let path =
+            |file: &String| (format!("{name}/{file}"), std::fs::read(folder.0.join(name).join(file)).expect("a file"));
+        folder.names_in(name).iter().map(path).collect()
     };
     let whole: Vec<(String, Vec<u8>)> = [files("dump"), files("plain")].concat();
-    let kinds = folder.read("kinds.txt");
+    let kinds = std::fs::read(folder.0.join("kinds.txt")).expect("a mesh");
     let hills = terrain::obj().into_bytes();
     let hills = [&hills[..2_000], &hills[hills.len() - 2_000..]].concat();
-    let mut random = Random::new(23);
+    let mut random = Random(23);
     let commands = [
         "dump dump",
         "dump plain",
@@ -316,7 +320,8 @@ fn random_garbage() {
         for (name, bytes) in &whole {
             let mut bytes = bytes.clone();
             if random.below(4) == 0 && !bytes.is_empty() {
-                damage(&mut random, &mut bytes, &TURNING);
+                let at = random.below(bytes.len());
+                bytes[at] = random.pick(&[0, 1, 0x7F, 0x80, 0xFF, random.0 as u8]);
             }
             if random.below(60) == 0 {
                 bytes.truncate(random.below(bytes.len() + 1));
@@ -325,7 +330,8 @@ fn random_garbage() {
         }
         let mut noise = if round % 2 == 0 { kinds.clone() } else { hills.clone() };
         for _ in 0..1 + random.below(3) {
-            damage(&mut random, &mut noise, b"09- \n#x\xFF");
+            let at = random.below(noise.len());
+            noise[at] = random.pick(&[b'0', b'9', b'-', b' ', b'\n', b'#', b'x', 0xFF, random.0 as u8]);
         }
         if random.below(4) == 0 {
             noise.truncate(random.below(noise.len()));
@@ -337,7 +343,10 @@ fn random_garbage() {
             format!("prepare noise.obj --kind {kind}"),
             "check noise.obj".into(),
         ] {
-            statuses[folder.status(&line)] += 1;
+            let output = folder.run(&line);
+            let said = String::from_utf8_lossy(&output.stderr).into_owned();
+            assert!(!said.contains("panicked"), "{line}: {said}");
+            statuses[output.status.code().expect("a status") as usize] += 1;
         }
     }
     println!("exit status 0: {}, 1: {}, 2: {}", statuses[0], statuses[1], statuses[2]);

@@ -3,14 +3,18 @@
 
 mod common;
 
-use common::command::{keep, Folder};
+use common::command::{expect, Folder};
 use common::terrain;
 use std::path::Path;
 
 /// The terrain among the inputs is the one that is made here.
 #[test]
 fn the_terrain_is_made_anew() {
-    keep(&Path::new(env!("CARGO_MANIFEST_DIR")).join("tests/inputs/terrain.obj"), &terrain::obj());
+    let path = Path::new(env!("CARGO_MANIFEST_DIR")).join("tests/inputs/terrain.obj");
+    if std::env::var_os("BLESS").is_some() {
+        std::fs::write(&path, terrain::obj()).expect("kept");
+    }
+    assert!(std::fs::read_to_string(path).expect("the terrain") == terrain::obj());
 }
 
 #[test]
@@ -51,10 +55,14 @@ fn a_terrain() {
         "draw four -o four.svg --json",
         "draw four --query 0,0,0 1,1,1",
     ];
-    folder.expect_cut("terrain.log", &lines);
+    let log: String = lines.iter().map(|line| folder.cut_log(line)).collect();
+    expect("terrain.log", &log);
+    let file = |path: &str| std::fs::read(folder.0.join(path)).expect("a file");
     for name in folder.names_in("four") {
-        let [four, again] = ["four", "again"].map(|of| folder.read(&format!("{of}/{name}")));
-        assert!(four == again, "{name} of the same mesh prepared again");
+        assert!(
+            file(&format!("four/{name}")) == file(&format!("again/{name}")),
+            "{name} of the same mesh prepared again"
+        );
     }
 }
 
@@ -75,7 +83,8 @@ fn every_kind_of_polygon() {
         "dump plain",
         "draw kinds --query 6,-4,2 7,-3,2 -o kinds.svg",
     ];
-    folder.expect("kinds.log", &lines);
+    let log: String = lines.iter().map(|line| folder.log(line)).collect();
+    expect("kinds.log", &log);
 }
 
 /// A NaN in one vertex: what the premises say, what is lost, and that its bits are kept.
@@ -94,7 +103,9 @@ fn a_terrain_with_a_nan() {
         "diff terrain.obj hole --json",
         "draw hole -o hole.svg",
     ];
-    folder.expect_cut("hole.log", &lines);
+    let log: String = lines.iter().map(|line| folder.cut_log(line)).collect();
+    expect("hole.log", &log);
     // Each asked for at its place here; the comparison asks at the places of the other, too.
-    assert!(folder.read_text("hole.svg").contains("1630 of 3040 polygons LOST"));
+    let drawn = std::fs::read_to_string(folder.0.join("hole.svg")).expect("a picture");
+    assert!(drawn.contains("1630 of 3040 polygons LOST"));
 }

@@ -1,51 +1,40 @@
-//! README.md shows what the tool prints: each block that begins with a command is run again, in a folder in which the inputs
-//! are where they are in the repository. `BLESS=1 cargo test -p tool` writes it anew. What docs/PREPARE.md shows of a program is in
-//! what that program must print.
+//! README.md shows what the tool prints: each block that begins with a command is run again, in the folder of the inputs.
+//! `BLESS=1 cargo test -p tool` writes it anew.
 
 mod common;
 
-use common::command::{keep, Folder};
+use common::command::Folder;
 use std::path::Path;
 
 /// A block of lines that are indented, its first a command.
 fn command(block: &str) -> Option<&str> {
-    block.lines().next()?.strip_prefix("    $ ./bounds ")
-}
-
-/// A file of the repository.
-fn page(name: &str) -> String {
-    std::fs::read_to_string(Path::new(env!("CARGO_MANIFEST_DIR")).join("../..").join(name)).expect("a page")
+    block.lines().next()?.strip_prefix("    $ bounds ")
 }
 
 #[test]
 fn the_page_shows_what_the_tool_prints() {
-    let page = page("README.md");
+    let path = Path::new(env!("CARGO_MANIFEST_DIR")).join("../../README.md");
+    let page = std::fs::read_to_string(&path).expect("README.md");
     let folder = Folder::with_inputs("readme");
-    let inputs = Path::new(env!("CARGO_MANIFEST_DIR")).join("tests/inputs");
-    std::fs::create_dir_all(folder.0.join("rust/tool/tests")).expect("a folder");
-    std::os::unix::fs::symlink(inputs, folder.0.join("rust/tool/tests/inputs")).expect("a link");
+    // Where the page runs one from rust/, its inputs are here too.
     let mut run = 0;
     let mut again = |block: &str| match command(block) {
         Some(line) => {
             run += 1;
-            let log = folder.log(line);
+            let log = folder.log(&line.replace("tool/tests/inputs/", ""));
             let rest: String = log.trim_end().lines().skip(1).map(|line| format!("\n    {line}")).collect();
-            format!("    $ ./bounds {line}{rest}")
+            format!("    $ bounds {line}{rest}")
         }
         None => block.to_string(),
     };
     let now = page.trim_end().split("\n\n").map(&mut again).collect::<Vec<_>>().join("\n\n") + "\n";
     assert!(run >= 3, "{run} blocks");
-    keep(&Path::new(env!("CARGO_MANIFEST_DIR")).join("../../README.md"), &now);
-}
-
-#[test]
-fn the_page_of_the_program_shows_its_lines() {
-    let (page, stdout) = (page("docs/PREPARE.md"), page("crates/prepare/stdout"));
-    let (_, section) = page.split_once("## The program `prepare`").expect("its section");
-    let shown: Vec<&str> = section.lines().filter_map(|line| line.strip_prefix("    ")).collect();
-    assert!(shown.len() >= 5 && stdout.lines().count() == 13);
-    for line in shown {
-        assert!(stdout.lines().any(|printed| printed == line), "{line}");
+    if std::env::var_os("BLESS").is_some() {
+        std::fs::write(path, now).expect("kept");
+        return;
     }
+    for (number, (is, was)) in now.lines().zip(page.lines()).enumerate() {
+        assert_eq!(is, was, "README.md, line {}", number + 1);
+    }
+    assert_eq!(now, page);
 }

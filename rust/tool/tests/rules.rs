@@ -3,7 +3,7 @@
 use std::collections::BTreeSet;
 use std::path::Path;
 use tool::field::mesh::{InPolygon, MeshField};
-use tool::field::{Field, InHeader, InRecord, Recorded};
+use tool::field::{Field, InHeader, InRecord};
 use tool::mesh::{place_of, rules_of, Given, Mesh, MeshFolder};
 use tool::rules::Rule;
 
@@ -82,7 +82,7 @@ fn the_rules_of_a_field_are_the_tables() {
 /// A mesh of every kind of polygon, prepared.
 fn kinds(kind: u8) -> MeshFolder {
     let path = Path::new(env!("CARGO_MANIFEST_DIR")).join("tests/inputs/kinds.txt");
-    let mesh = Mesh::read(&path.to_string_lossy(), Given { kind: Some(kind), ..Given::default() }).expect("a mesh");
+    let mesh = Mesh::read(&path.to_string_lossy(), Given { kind: Some(kind), margin: None }).expect("a mesh");
     MeshFolder::prepare("kinds", mesh).expect("it can be prepared")
 }
 
@@ -131,7 +131,7 @@ fn the_rules_of_an_output_are_the_tables() {
         let derived = folder.derived();
         for field in MeshField::all(&derived) {
             let output = match field {
-                MeshField::Polygon(..) | MeshField::PolygonBox(..) => "polygon bytes",
+                MeshField::Polygon(..) => "polygon bytes",
                 MeshField::MaterialCount | MeshField::Material(_) => "materials",
                 MeshField::MaterialIndex(_) => "indices",
                 MeshField::Quantum(_) => "quantum",

@@ -3,11 +3,24 @@
 
 mod common;
 
-use common::command::{keep, Folder};
+use common::command::Folder;
 use std::path::{Path, PathBuf};
 
 fn docs(name: &str) -> PathBuf {
     Path::new(env!("CARGO_MANIFEST_DIR")).join("../../docs").join(name)
+}
+
+/// Compares a page with the kept one, or keeps it.
+fn kept(name: &str, now: &str) {
+    if std::env::var_os("BLESS").is_some() {
+        std::fs::write(docs(name), now).expect("kept");
+        return;
+    }
+    let kept = std::fs::read_to_string(docs(name)).expect("the page");
+    for (number, (is, was)) in now.lines().zip(kept.lines()).enumerate() {
+        assert_eq!(is, was, "{name}, line {}", number + 1);
+    }
+    assert_eq!(now, kept, "{name}");
 }
 
 #[test]
@@ -24,10 +37,11 @@ fn the_page_shows_what_the_tool_prints() {
     };
     let now = page.split("```\n").map(&mut again).collect::<Vec<_>>().join("```\n");
     assert!(run >= 10, "{run} blocks");
-    keep(&docs("TELEPHONE.md"), &now);
+    kept("TELEPHONE.md", &now);
 }
 
 #[test]
 fn the_picture_is_the_tools() {
-    keep(&docs("nan.svg"), &Folder::with_inputs("nan").said("draw b.bin --query 6,0,0 7,1,1"));
+    let drawn = Folder::with_inputs("nan").run("draw b.bin --query 6,0,0 7,1,1").stdout;
+    kept("nan.svg", &String::from_utf8_lossy(&drawn));
 }

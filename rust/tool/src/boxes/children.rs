@@ -12,9 +12,10 @@ pub fn boxes(path: &str, bytes: &[u8]) -> Result<Boxes, Failure> {
     if !bytes.len().is_multiple_of(RECORD) {
         let (length, whole) = (bytes.len(), bytes.len() / RECORD);
         let words = format!("{path}: {length} bytes are {whole} records and {} bytes more", length % RECORD);
-        let ragged = Refusal::RaggedInput;
-        let words = format!("{ragged}\n{words}; boxes as text begin with `#` or a number");
-        return Err(Failure::library(ragged, words));
+        return Err(Failure::Refused(format!(
+            "{}\n{words}; boxes as text begin with `#` or a number",
+            Refusal::RaggedInput
+        )));
     }
     let word =
         |record: &[u8], at: usize| u32::from_le_bytes([record[at], record[at + 1], record[at + 2], record[at + 3]]);

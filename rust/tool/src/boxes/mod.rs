@@ -3,8 +3,7 @@
 mod children;
 mod text;
 
-pub use plain::fold::{entry, words};
-pub use text::{number, unmarked};
+pub use text::number;
 
 use crate::failure::Failure;
 use bounds::premises::{Axis, Corner};
@@ -13,9 +12,6 @@ use std::io::Read;
 
 /// The most bytes that are read of a file: far above what the entries of a build take in any of the forms.
 const MOST_BYTES: u64 = 1 << 26;
-
-/// The most of a file that may hold a mesh over the limits of one: some ten million triangles.
-const MOST_WORLD_BYTES: u64 = 1 << 30;
 
 /// A list of boxes as a file has it.
 #[derive(Clone, Debug)]
@@ -81,24 +77,17 @@ fn guess(bytes: &[u8]) -> Form {
 
 /// A file's bytes; `-` is standard input.
 pub fn read_file(path: &str) -> Result<Vec<u8>, Failure> {
-    read_at_most(path, MOST_BYTES, "a list of at most 32,767 boxes or polygons")
-}
-
-/// The bytes of a file with a mesh of any size.
-pub fn read_world(path: &str) -> Result<Vec<u8>, Failure> {
-    read_at_most(path, MOST_WORLD_BYTES, "a mesh of some millions of polygons")
-}
-
-fn read_at_most(path: &str, most: u64, expected: &str) -> Result<Vec<u8>, Failure> {
     let failed = |error| Failure::reach(path, "read", &error);
     let mut bytes = Vec::new();
     if path == "-" {
-        std::io::stdin().lock().take(most + 1).read_to_end(&mut bytes).map_err(failed)?;
+        std::io::stdin().lock().take(MOST_BYTES + 1).read_to_end(&mut bytes).map_err(failed)?;
     } else {
-        std::fs::File::open(path).map_err(failed)?.take(most + 1).read_to_end(&mut bytes).map_err(failed)?;
+        std::fs::File::open(path).map_err(failed)?.take(MOST_BYTES + 1).read_to_end(&mut bytes).map_err(failed)?;
     }
-    if bytes.len() as u64 > most {
-        return Err(Failure::File(format!("{path}: over {most} bytes; expected {expected}")));
+    if bytes.len() as u64 > MOST_BYTES {
+        return Err(Failure::File(format!(
+            "{path}: over {MOST_BYTES} bytes; expected a list of at most 32,767 boxes or polygons"
+        )));
     }
     Ok(bytes)
 }
@@ -131,4 +120,15 @@ impl Origin {
             Origin::Polygons { .. } => self.entry(place),
         }
     }
+}
+
+/// The six words of an entry's box: min x, y, z, max x, y, z.
+pub fn words(item: &BvhItem) -> [u32; 6] {
+    [item.min.x, item.min.y, item.min.z, item.max.x, item.max.y, item.max.z].map(f32::to_bits)
+}
+
+/// The entry of a mark and six words.
+pub fn entry(present: u32, w: [u32; 6]) -> BvhItem {
+    let [a, b, c, d, e, f] = w.map(f32::from_bits);
+    BvhItem { present, min: bounds::Vec3::new(a, b, c), max: bounds::Vec3::new(d, e, f) }
 }

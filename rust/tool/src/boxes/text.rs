@@ -36,14 +36,8 @@ fn six(line: &str) -> Result<[f32; 6], String> {
     numbers.try_into().map_err(|_| format!("{found} numbers; expected six: min x y z, max x y z"))
 }
 
-/// A text's bytes without the mark that some programs put before UTF-8.
-pub fn unmarked(bytes: &[u8]) -> &[u8] {
-    bytes.strip_prefix(b"\xEF\xBB\xBF").unwrap_or(bytes)
-}
-
 /// The lines that say something, by their numbers from 1.
 fn lines<'a>(path: &str, bytes: &'a [u8]) -> Result<Vec<(usize, &'a str)>, Failure> {
-    let bytes = unmarked(bytes);
     let text = std::str::from_utf8(bytes).map_err(|error| {
         let line = 1 + bytes[..error.valid_up_to()].iter().filter(|&&b| b == b'\n').count();
         Failure::File(format!("{path}, line {line}: bytes that are no text; expected text in UTF-8"))

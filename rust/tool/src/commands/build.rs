@@ -13,21 +13,21 @@ pub fn command() -> Command {
     Command {
         name: "build",
         does: "builds the tree of a list of boxes and writes its bytes",
-        forms: &["FILE"],
+        options: &["--threshold", "--out", "--text", "--records"],
         words: (1, 1),
-        options: &["--threshold", "--out", "--text", "--records", "--force", "--json"],
         run,
         help: HELP,
-        examples: EXAMPLES,
     }
 }
 
-const HELP: &str = "Builds the tree of the boxes in FILE; a leaf holds at most N (1 without it). Prints the listing of its records; with
+const HELP: &str = "bounds build FILE [--threshold N] [--out DIR] [--json]
+
+Builds the tree of the boxes in FILE; a leaf holds at most N (1 without it). Prints the listing of its records; with
 --out writes a dump instead, which must not exist yet: header.bin, nodes.bin, trees.bin, order.bin, boxes.bin (the
 input), listing.txt and dump.txt (kind, threshold, entries).
-";
 
-const EXAMPLES: &str = "  bounds build six.txt                       the listing, as the program `boxes` prints it
+examples
+  bounds build six.txt                       the listing, as the program `boxes` prints it
   bounds build six.txt --threshold 4 --out six
   bounds build children.bin --json
 ";
@@ -38,11 +38,10 @@ fn run(line: &Line) -> Result<Answer, Failure> {
     if form.is_none() && mesh::form(path, &bytes).is_some() {
         return Err(Failure::Usage(format!("{path} is a mesh: expected boxes; `bounds prepare` takes it")));
     }
-    let target = line.folder()?;
     let boxes = Boxes::of_bytes(path, &bytes, form)?;
     let (dump, tree) = Dump::build(&line.words[0], boxes, line.threshold()?.unwrap_or(1))?;
-    if let Some(target) = target {
-        dump.write(&target)?;
+    if let Some(path) = line.option("--out") {
+        dump.write(path)?;
     }
     if line.json() {
         return Ok(Answer::of(format!("{}\n", json(&dump, &tree, line.option("--out")))));

@@ -1,32 +1,30 @@
 //! `bounds dump`: every field, its bytes, its value and its rules. The text is stable, so that people can compare it.
 
 mod mesh;
-mod world;
 
 use crate::account::account;
 use crate::cli::{Answer, Command, Line};
-use crate::dump::{Dump, Opened};
+use crate::dump::{Dump, Opened, Records};
 use crate::failure::Failure;
-use crate::field::{Field, Recorded};
+use crate::field::{Field, InRecord, Value};
 use crate::json::Json;
-use crate::number::counted;
+use crate::number::{counted, place};
 use crate::rules;
-use crate::world::folder::is_world;
 
 pub fn command() -> Command {
     Command {
         name: "dump",
         does: "shows every field of a dump with the rules that made it",
-        forms: &["DUMP"],
+        options: &["--threshold", "--text", "--records", "--kind", "--margin"],
         words: (1, 1),
-        options: &["--threshold", "--text", "--records", "--kind", "--margin", "--up", "--json"],
         run,
         help: HELP,
-        examples: EXAMPLES,
     }
 }
 
-const HELP: &str = "Every field of header, node records, tree records and order list, one a line: its bytes, its name, its value (a float
+const HELP: &str = "bounds dump DUMP [--json]
+
+Every field of header, node records, tree records and order list, one a line: its bytes, its name, its value (a float
 with its word; of a record's box also the place that it stands for), and the rules of docs/RULES.md that made it. The
 same dump gives the same text, so that two can be compared; `bounds diff` says why they differ.
 
@@ -37,19 +35,15 @@ an entry: a mark, min x y z, max x y z) they can be dumped, queried and compared
 Of a prepared mesh: quantum, box, centres and radius, polygons, materials, their indices, vertices and the floats that they
 stand for, shrunk ones and octants or header, nodes, trees and order. Another builder's are a dump too: dump.txt is then
 `bounds dump 1`, `kind mesh`, `bound 8`, `polygons N`, `vertices N`, `materials N` (before they are filled up to four), and
-the other files are those that `bounds prepare` writes. Where the mesh was an .obj, each vertex and polygon has its line, its
-vertices' numbers and their values as the file has them behind it.
-";
+the other files are those that `bounds prepare` writes.
 
-const EXAMPLES: &str = "  bounds dump terrain
+examples
+  bounds dump terrain
   bounds dump six
   bounds dump six.txt --threshold 4
 ";
 
 fn run(line: &Line) -> Result<Answer, Failure> {
-    if is_world(&line.words[0]) {
-        return world::answer(&line.words[0], line.json());
-    }
     let dump = match Opened::load(&line.words[0], line.loading()?)? {
         Opened::Boxes(dump) => dump,
         Opened::Mesh(folder) => return mesh::answer(&folder, line.json()),
@@ -74,16 +68,31 @@ fn heading(dump: &Dump) -> Result<String, Failure> {
     };
     let bytes = match &dump.boxes {
         None => "not compared with an input".to_string(),
-        Some(_) => account(dump)?.warning().unwrap_or("as the input gives".into()),
+        Some(_) => account(dump)?.warning(dump).unwrap_or("as the input gives".into()),
     };
     Ok(format!("kind     boxes\ninput    {input}\nbytes    {bytes}\n"))
+}
+
+/// What a record's value stands for.
+fn meaning(dump: &Dump, field: Field) -> Option<String> {
+    tree_meaning(&dump.records, field)
+}
+
+fn tree_meaning(records: &Records, field: Field) -> Option<String> {
+    match (field, field.value(records)?) {
+        (Field::Node(k, _), _) if k >= records.node_count() => None,
+        (Field::Node(_, InRecord::Box(_, axis)) | Field::Tree(_, InRecord::Box(_, axis)), Value::Short(value)) => {
+            Some(place(records.stands_for(axis as usize, value)))
+        }
+        _ => None,
+    }
 }
 
 fn row(dump: &Dump, field: Field) -> String {
     let bytes = field.bytes();
     let bytes = format!("{}-{}", bytes.start, bytes.end - 1);
     let value = field.value(&dump.records).map_or(String::new(), |value| value.to_string());
-    let meaning = field.stands_for(&dump.records).unwrap_or_default();
+    let meaning = meaning(dump, field).unwrap_or_default();
     let rules = rules::list(field.rules(dump.records.node_count()));
     format!("{:<11} {bytes:>9}  {:<14} {value:<26} {meaning:>12}  {rules}\n", field.part(), field.name())
 }
@@ -95,7 +104,7 @@ fn json(dump: &Dump, field: Field) -> Json {
         ("at", field.bytes().start.into()),
         ("bytes", bytes.into()),
         ("value", field.value(&dump.records).map(|value| value.to_string()).into()),
-        ("stands_for", field.stands_for(&dump.records).into()),
+        ("stands_for", meaning(dump, field).into()),
         ("rules", Json::list(field.rules(dump.records.node_count()).iter().map(|rule| rule.name()))),
     ])
 }

@@ -35,39 +35,27 @@ pub enum Cause {
 }
 
 /// A cause with the fields that it explains, and what there is to say of it.
-pub struct Caused<C = Cause, F = Field> {
-    pub cause: C,
+pub struct Caused {
+    pub cause: Cause,
     pub title: String,
     pub rules: Vec<Rule>,
-    pub fields: Vec<F>,
+    pub fields: Vec<Field>,
     pub lines: Vec<String>,
-}
-
-/// Fields by their causes, in the causes' order; each cause has a title and rules. Only of the first causes all is told: a split is
-/// gone to from the root, and there may be thousands.
-pub fn by_cause<C: Ord + Copy, F: Copy>(
-    fields: &[F],
-    cause: impl Fn(F) -> C,
-    named: impl Fn(C) -> (String, Vec<Rule>),
-    told: impl Fn(C, &[F]) -> Vec<String>,
-) -> Vec<Caused<C, F>> {
-    let mut grouped: BTreeMap<C, Vec<F>> = BTreeMap::new();
-    for &field in fields {
-        grouped.entry(cause(field)).or_default().push(field);
-    }
-    let caused = |(at, (cause, fields)): (usize, (C, Vec<F>))| {
-        let (title, rules) = named(cause);
-        let lines = if at < TOLD { told(cause, &fields) } else { Vec::new() };
-        Caused { cause, title, rules, fields, lines }
-    };
-    grouped.into_iter().enumerate().map(caused).collect()
 }
 
 /// The causes of the fields that differ, in their order.
 pub fn causes(sides: &[Side; 2], fields: &[Field], changes: &[Change]) -> Vec<Caused> {
     let finder = Finder::of(sides);
-    let named = |cause: Cause| (cause.title("box"), cause.rules());
-    by_cause(fields, |field| finder.cause(field), named, |cause, _| finder.lines(changes, cause))
+    let mut grouped: BTreeMap<Cause, Vec<Field>> = BTreeMap::new();
+    for &field in fields {
+        grouped.entry(finder.cause(field)).or_default().push(field);
+    }
+    let told = grouped.into_iter().enumerate().map(|(at, (cause, fields))| {
+        // Each split is gone to from the root: of thousands only the first are.
+        let lines = if at < TOLD { finder.lines(changes, cause) } else { Vec::new() };
+        Caused { cause, title: cause.title("box"), rules: cause.rules(), fields, lines }
+    });
+    told.collect()
 }
 
 /// Finds the cause of a field.

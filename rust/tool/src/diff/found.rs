@@ -5,9 +5,8 @@ use crate::explain::query::first_miss;
 use crate::field::{AXES, CORNERS};
 use crate::number::{float, place};
 use crate::rules::Rule::*;
-use crate::trace::walk;
+use crate::trace::walk::{walk, Reading};
 use bounds::Vec3;
-use plain::walk::Reading;
 
 /// What became of a box.
 #[derive(Clone, Copy, Debug, PartialEq, Eq)]

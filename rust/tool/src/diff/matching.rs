@@ -1,6 +1,6 @@
 //! Nodes of two trees matched by the set of their items, and the first split above each that differs.
 
-use plain::tree::Trace;
+use crate::trace::Trace;
 use std::collections::HashMap;
 
 /// A set of places by its size and a sum of mixed words: equal sets have equal ones, and others by no chance that matters.

@@ -9,15 +9,16 @@ pub mod mesh;
 mod report;
 mod words;
 
-use crate::account::{account, differing, only, traced, Account};
+use crate::account::{account, differing, traced, Account};
 use crate::dump::Dump;
 use crate::failure::Failure;
-use crate::field::{Field, Recorded};
+use crate::field::{Field, InRecord, Value};
+use crate::number::place;
+use crate::trace::Trace;
 use bounds::premises::{ordinary, Broken};
 pub use causes::{Cause, Caused};
 pub use found::{Row, Verdict};
 pub use input::Change;
-use plain::tree::Trace;
 
 /// A dump with what its input gives.
 pub struct Side<'a> {
@@ -61,17 +62,13 @@ impl<'a> Side<'a> {
 /// Compares two dumps.
 pub fn compare<'a>(a: &'a Dump, b: &'a Dump) -> Result<Comparison<'a>, Failure> {
     let fields = differing(&a.records, &b.records);
-    let total = total::<Field>(&a.records, &b.records);
+    let only_b = Field::all(&b.records).into_iter().filter(|field| field.raw(&a.records).is_none()).count();
+    let total = Field::all(&a.records).len() + only_b;
     let known = match (&a.boxes, &b.boxes) {
         (Some(_), Some(_)) => Some(known(a, b, &fields)?),
         _ => None,
     };
     Ok(Comparison { a, b, fields, total, known })
-}
-
-/// How many fields either has.
-fn total<F: Recorded>(a: F::Of<'_>, b: F::Of<'_>) -> usize {
-    F::all(a).len() + only::<F>(b, a).len()
 }
 
 fn known<'a>(a: &'a Dump, b: &'a Dump, fields: &[Field]) -> Result<Known<'a>, Failure> {
@@ -83,9 +80,18 @@ fn known<'a>(a: &'a Dump, b: &'a Dump, fields: &[Field]) -> Result<Known<'a>, Fa
 }
 
 /// Record values of equal bytes, other than padding, that stand for other places.
-fn elsewhere(a: &Dump, b: &Dump) -> Vec<(Field, String, String)> {
+pub(crate) fn elsewhere(a: &Dump, b: &Dump) -> Vec<(Field, String, String)> {
+    let nodes = a.records.node_count().min(b.records.node_count());
+    let meaning = |dump: &Dump, field: Field| match (field, field.value(&dump.records)) {
+        (Field::Node(k, _), _) if k >= nodes => None,
+        (
+            Field::Node(_, InRecord::Box(_, axis)) | Field::Tree(_, InRecord::Box(_, axis)),
+            Some(Value::Short(value)),
+        ) => Some(place(dump.records.stands_for(axis as usize, value))),
+        _ => None,
+    };
     let both = |field: Field| {
-        let (in_a, in_b) = (field.stands_for(&a.records)?, field.stands_for(&b.records)?);
+        let (in_a, in_b) = (meaning(a, field)?, meaning(b, field)?);
         (field.same(&a.records, &b.records) && in_a != in_b).then_some((field, in_a, in_b))
     };
     Field::all(&a.records).into_iter().filter_map(both).collect()

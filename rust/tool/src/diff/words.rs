@@ -7,11 +7,11 @@ use super::Side;
 use crate::boxes::words;
 use crate::explain::value_name;
 use crate::field::{AXES, CORNERS};
-use crate::number::{counted, cut, float, place, plural, some};
+use crate::number::{counted, float, place, plural, some};
 use crate::rules::Rule::*;
-use plain::fold;
-use plain::scale::Scale;
-use plain::split::Split;
+use crate::trace::fold;
+use crate::trace::scale::Scale;
+use crate::trace::split::Split;
 use std::collections::BTreeSet;
 
 /// A fold over more boxes than this is told by its ends.
@@ -35,8 +35,13 @@ fn listed(sides: &[Side; 2], changes: &[Change], which: impl Fn(&Change) -> bool
         Some(rest) => format!("{} {rest}", sides[0].noun),
         None => change.to_string(),
     };
-    let all: Vec<&Change> = changes.iter().filter(|change| which(change)).collect();
-    cut(&all, SHOWN, |change| named(change))
+    let all: Vec<String> = changes.iter().filter(|change| which(change)).map(named).collect();
+    let more = all.len().saturating_sub(SHOWN);
+    let mut lines: Vec<String> = all.into_iter().take(SHOWN).collect();
+    if more > 0 {
+        lines.push(format!("and {more} more"));
+    }
+    lines
 }
 
 /// The box of all on an axis: the folds that changed, then what follows from them.

@@ -2,7 +2,7 @@
 
 use super::axis::tick;
 use super::svg::{Rect, Svg};
-use super::{Bar, Picture, Query, BLUE, GREY, INK, LABELS, MARGIN, RED, ROW, VIOLET, WIDTH};
+use super::{Bar, Picture, Query, GREY, INK, LABELS, MARGIN, RED, ROW, WIDTH};
 use crate::field::AXES;
 use crate::number::{counted, some};
 
@@ -20,8 +20,7 @@ impl Picture<'_> {
             let y = first + ROW * row as f64;
             self.label(svg, node, y);
             for axis in 0..3 {
-                let edge = if self.is_missed(node) { RED } else { INK };
-                draw_bar(svg, &self.bar(node, axis), &self.rulers[axis], [self.colour(node), edge], y);
+                draw_bar(svg, &self.bar(node, axis), &self.rulers[axis], self.colour(node), y);
             }
         }
         bottom
@@ -44,13 +43,8 @@ impl Picture<'_> {
         for axis in 0..3 {
             let (a, b) = self.rulers[axis].span(min[axis] as f64, max[axis] as f64);
             let band = Rect { x: a, y: top, w: (b - a).max(2.0), h: bottom - top };
-            svg.rect(band, &format!("fill=\"{BLUE}\" fill-opacity=\"0.2\""));
+            svg.rect(band, "fill=\"#1f77b4\" fill-opacity=\"0.2\"");
         }
-    }
-
-    /// Whether a leaf has a box that the query misses.
-    fn is_missed(&self, node: usize) -> bool {
-        self.trace.nodes[node].children.is_none() && self.trace.got(node).iter().any(|&place| self.missed[place])
     }
 
     /// `node 2: box 1,3,4, misses`, indented by its depth; with a query, whether it was read and met.
@@ -64,12 +58,11 @@ impl Picture<'_> {
         let (colour, said) = match (self.query, self.read[node]) {
             (None, _) => (INK, ""),
             (_, Some(true)) => (INK, ", meets"),
-            (_, Some(false)) => (INK, ", misses"),
+            (_, Some(false)) => (RED, ", misses"),
             (_, None) => (GREY, ", not read"),
         };
         let kind = if self.trace.nodes[node].children.is_some() { "node" } else { "leaf" };
-        let (colour, lost) = if self.is_missed(node) { (RED, ", MISSED") } else { (colour, "") };
-        let text = format!("{kind} {node}: {boxes}{said}{lost}");
+        let text = format!("{kind} {node}: {boxes}{said}");
         // A long label is not put so far in that it runs into the lanes.
         let room = LABELS - MARGIN - 8.0 - 6.3 * text.chars().count() as f64;
         let x = MARGIN + (9.0 * depth.min(8) as f64).min(room.max(0.0));
@@ -79,19 +72,19 @@ impl Picture<'_> {
 }
 
 /// What the record stands for, filled, and the floats around it, outlined.
-fn draw_bar(svg: &mut Svg, bar: &Bar, ruler: &super::Ruler, [colour, edge]: [&str; 2], y: f64) {
+fn draw_bar(svg: &mut Svg, bar: &Bar, ruler: &super::Ruler, colour: &str, y: f64) {
     let inside_out = bar.record.0 > bar.record.1;
     let (a, b) = ruler.span(bar.record.0, bar.record.1);
     let filled = Rect { x: a, y: y + 6.0, w: (b - a).max(1.5), h: ROW - 11.0 };
     if inside_out {
-        svg.rect(filled, &format!("fill=\"none\" stroke=\"{VIOLET}\" stroke-dasharray=\"4 3\""));
+        svg.rect(filled, &format!("fill=\"none\" stroke=\"{RED}\" stroke-dasharray=\"4 3\""));
     } else if bar.agrees {
         svg.rect(filled, &format!("fill=\"{colour}\""));
     } else {
-        svg.rect(filled, &format!("fill=\"{VIOLET}\" fill-opacity=\"0.75\""));
+        svg.rect(filled, &format!("fill=\"{RED}\" fill-opacity=\"0.75\""));
     }
     let (a, b) = ruler.span(bar.floats.0, bar.floats.1);
     let open = if bar.floats.0.is_nan() || bar.floats.1.is_nan() { " stroke-dasharray=\"2 3\"" } else { "" };
     let outline = Rect { x: a, y: y + 3.0, w: (b - a).max(1.5), h: ROW - 5.0 };
-    svg.rect(outline, &format!("fill=\"none\" stroke=\"{edge}\" stroke-width=\"1\"{open}"));
+    svg.rect(outline, &format!("fill=\"none\" stroke=\"{INK}\" stroke-width=\"1\"{open}"));
 }

@@ -1,18 +1,15 @@
-//! A prepared mesh as a picture: its polygons from above, where they stand, in the colours of their ranges or materials; and,
-//! where there is a tree, its rows.
+//! A prepared mesh as a picture: its polygons from above, where they stand, in the colours of their ranges or, without a tree,
+//! of their materials; and, where there is a tree, its rows.
 
 use super::above::Paper;
 use super::axis::Ruler;
-use super::materials::Materials;
 use super::svg::{Rect, Svg};
-use super::{handed, legend, Picture, Query, View, COLOURS, GREY, INK, LETTERS, MARGIN, RED, VIOLET, WIDTH};
+use super::{Picture, Query, COLOURS, GREY, INK, MARGIN, RED, WIDTH};
 use crate::account::{account, traced};
 use crate::dump::Dump;
-use crate::explain::query::rounded_words;
 use crate::failure::Failure;
-use crate::mesh::rounded::Rounded;
 use crate::mesh::state::{broken_words, corners, premises};
-use crate::mesh::{vertices, MeshAccount, MeshFolder};
+use crate::mesh::{positions, vertices, MeshAccount, MeshFolder};
 use crate::number::counted;
 use bounds::{BvhItem, Geometry, Polygon, Vec3};
 
@@ -22,26 +19,8 @@ const NAMED: usize = 60;
 /// Above so many polygons outlines are thin, lest they hide the colours.
 const MANY: usize = 1_000;
 
-/// Of what a query hands out: darker than the colours of ranges.
 const BLUE: &str = "#1f4e8c";
-
-/// The query's outline, which a white one sets off from what lies below it.
-const QUERY: &str = "fill=\"none\" stroke=\"#000000\" stroke-width=\"2\"";
-
-/// What the polygons' colours stand for.
-#[derive(Clone, Copy, Debug, PartialEq, Eq)]
-pub enum Colour {
-    Range,
-    Material,
-}
-
-/// How a mesh is to be drawn.
-#[derive(Clone, Copy, Debug, Default)]
-pub struct Look {
-    /// Without it ranges, or materials where there is no tree.
-    pub colour: Option<Colour>,
-    pub view: View,
-}
+const ORANGE: &str = "#e6550d";
 
 /// What a mesh's picture is made from.
 pub struct MeshPicture<'a> {
@@ -51,20 +30,14 @@ pub struct MeshPicture<'a> {
     points: Vec<Vec3>,
     /// The polygons' boxes.
     items: Vec<BvhItem>,
-    colour: Colour,
-    view: View,
-    materials: Materials,
-    /// By the numbers of the input: a range's number, if there is one, or a material's.
+    /// By the numbers of the input: a colour's number, if there is one.
     groups: Vec<Option<usize>>,
     /// By the numbers of the input: whether a query at a polygon's place does not hand it out.
     lost: Vec<bool>,
-    /// Whether the query handed a polygon out, and whether its box meets it, by the numbers of its file.
+    /// Whether the query handed a polygon out.
     handed: Vec<bool>,
-    meets: Vec<bool>,
     query: Option<Query>,
-    /// What was walked with.
-    walked: Option<Query>,
-    captions: Vec<(&'static str, String)>,
+    captions: Vec<String>,
     rulers: [Ruler; 2],
 }
 
@@ -77,19 +50,14 @@ pub struct Drawn {
 }
 
 /// Draws a prepared mesh, whose bytes are held to its input.
-pub fn draw(folder: &MeshFolder, accounted: &MeshAccount, query: Option<Query>, look: Look) -> Result<Drawn, Failure> {
+pub fn draw(folder: &MeshFolder, accounted: &MeshAccount, query: Option<Query>) -> Result<Drawn, Failure> {
     let tree = folder.tree()?;
-    let without = if tree.is_some() { Colour::Range } else { Colour::Material };
-    let colour = look.colour.unwrap_or(without);
-    if colour == Colour::Range && tree.is_none() {
-        return Err(Failure::Usage(format!("{} has no tree, so no ranges: leave out --colour range", folder.name)));
-    }
     if query.is_some() && tree.is_none() {
         return Err(Failure::Usage(format!("{} has no tree to query: leave out --query", folder.name)));
     }
-    let picture = MeshPicture::of(folder, accounted, tree.as_ref(), query, (colour, look.view))?;
+    let picture = MeshPicture::of(folder, accounted, tree.as_ref(), query)?;
     let polygons = folder.parts.polygons_count;
-    let mut svg = Svg::new(LETTERS);
+    let mut svg = Svg::default();
     let y = picture.title(&mut svg);
     let y = picture.above(&mut svg, y);
     let Some(dump) = &tree else {
@@ -98,8 +66,7 @@ pub fn draw(folder: &MeshFolder, accounted: &MeshAccount, query: Option<Query>, 
     };
     let boxes = account(dump)?;
     let trace = traced(dump, &boxes)?;
-    let missed = (0..polygons).map(|k| picture.is_missed(k)).collect();
-    let rows = Picture { noun: "polygon", query, missed, ..Picture::of(dump, &trace, &boxes, picture.walked) };
+    let rows = Picture { noun: "polygon", ..Picture::of(dump, &trace, &boxes, query) };
     let y = picture.rows_title(&mut svg, &rows, y + 40.0);
     let y = rows.lanes(&mut svg, y);
     let y = picture.legend(&mut svg, y + 44.0);
@@ -113,65 +80,45 @@ impl<'a> MeshPicture<'a> {
         accounted: &MeshAccount,
         tree: Option<&Dump>,
         query: Option<Query>,
-        (colour, view): (Colour, View),
     ) -> Result<MeshPicture<'a>, Failure> {
-        let mesh = folder.input()?;
-        let (geometry, materials) = (&mesh.geometry, Materials::new(mesh));
-        let (points, items) = (geometry.positions(), geometry.items()?);
+        let geometry = &folder.input()?.geometry;
+        let (points, items) = (positions(geometry), crate::mesh::items(geometry)?);
         let n = geometry.polygons.len();
-        let rounded = if query.is_some() { Rounded::of(mesh)? } else { None };
-        let walked = query.map(|query| rounded.as_ref().map_or(query, |rounded| rounded.widened(query)));
-        let handed = walked.zip(tree).map_or(vec![false; n], |(query, dump)| handed(dump, query, n));
-        let judged = rounded.as_ref().map_or(&items, |rounded| &rounded.boxes);
-        let meets = judged.iter().map(|item| query.is_some_and(|query| item.meets(query.min, query.max))).collect();
+        let mut handed = vec![false; n];
+        if let (Some(Query { min, max }), Some(dump)) = (query, tree) {
+            for position in dump.walk(min, max)?.positions {
+                let place = dump.place(position as usize).unwrap_or(n);
+                handed.get_mut(place).into_iter().for_each(|at| *at = true);
+            }
+        }
         let broken = premises(folder)?.and_then(|premises| premises.broken);
         let differs = !accounted.differing.is_empty();
         // Within the premises, over records that are what the input gives, none is: that is proved.
         let doubtful = tree.filter(|_| broken.is_some() || differs);
         let lost = doubtful.map_or(vec![false; n], |dump| lost(dump, &items));
         let mut captions = Vec::new();
-        if let (Some(rounded), true) = (&rounded, walked != query) {
-            captions.push((INK, format!("the query is widened: {}", rounded_words(&rounded.by))));
-        }
         if let Some(broken) = broken {
-            captions.push((VIOLET, format!("outside the premises, {}: polygons may be missed", broken_words(broken))));
+            captions.push(format!("outside the premises, {}: polygons may be missed", broken_words(broken)));
         }
         if differs {
             let fields = counted(accounted.differing.len(), "field");
-            captions.push((VIOLET, format!("{fields} of the folder not as its input gives")));
+            captions.push(format!("{fields} of the folder not as its input gives"));
         }
         if doubtful.is_some() {
             let many = lost.iter().filter(|&&lost| lost).count();
-            let of = counted(n, "polygon");
-            captions.push((RED, format!("{many} of {of} LOST: a query at their place does not hand them out")));
+            captions.push(format!(
+                "{many} of {} LOST: a query at their place does not hand them out",
+                counted(n, "polygon")
+            ));
         }
-        let rulers = [0, view.axis()].map(|axis| {
-            let pick = move |v: Vec3| [v.x, v.y, v.z][axis] as f64;
+        let rulers = [0, 1].map(|axis| {
+            let pick = move |v: Vec3| [v.x, v.y][axis] as f64;
             let boxes = items.iter().flat_map(|item| [pick(item.min), pick(item.max)]);
             let asked = query.iter().flat_map(|query| [pick(query.min), pick(query.max)]);
             Ruler::over(boxes.chain(asked), 0.0, 1.0)
         });
-        let groups = match (colour, tree) {
-            (Colour::Range, Some(dump)) => ranges(dump, n),
-            _ => materials.of.iter().copied().map(Some).collect(),
-        };
-        Ok(MeshPicture {
-            folder,
-            geometry,
-            points,
-            items,
-            colour,
-            view,
-            materials,
-            groups,
-            lost,
-            handed,
-            meets,
-            query,
-            walked,
-            captions,
-            rulers,
-        })
+        let groups = tree.map_or_else(|| materials(folder), |dump| ranges(dump, n));
+        Ok(MeshPicture { folder, geometry, points, items, groups, lost, handed, query, captions, rulers })
     }
 
     fn title(&self, svg: &mut Svg) -> f64 {
@@ -184,9 +131,9 @@ impl<'a> MeshPicture<'a> {
         let title = format!("{name}: kind {}, {p}, {v}{tree}", parts.kind);
         svg.text((MARGIN, 30.0), &format!("font-size=\"16\" font-weight=\"bold\" fill=\"{INK}\""), &title);
         let mut y = 30.0;
-        for (colour, caption) in &self.captions {
+        for caption in &self.captions {
             y += 18.0;
-            svg.text((MARGIN, y), &format!("fill=\"{colour}\""), caption);
+            svg.text((MARGIN, y), &format!("fill=\"{RED}\""), caption);
         }
         y + 26.0
     }
@@ -202,15 +149,14 @@ impl<'a> MeshPicture<'a> {
 
     /// The view from `top` on; answers where it ends.
     fn above(&self, svg: &mut Svg, top: f64) -> f64 {
-        svg.text((MARGIN, top), &format!("font-weight=\"bold\" fill=\"{INK}\""), self.view.words());
-        let paper = Paper::of(self.view, self.rulers[0], self.rulers[1], top + 10.0, 640.0);
+        svg.text((MARGIN, top), &format!("font-weight=\"bold\" fill=\"{INK}\""), "from above: x to the right, y up");
+        let paper = Paper::of(self.rulers[0], self.rulers[1], top + 10.0, 640.0);
         paper.grid(svg);
         self.fills(svg, &paper);
         self.marked(svg, &paper);
         if let Some(query) = self.query {
-            let at = paper.rect(self.view.spans(query.min, query.max));
-            svg.rect(at, "fill=\"none\" stroke=\"#ffffff\" stroke-width=\"5\"");
-            svg.rect(at, QUERY);
+            let at = paper.rect((query.min.x as f64, query.max.x as f64), (query.min.y as f64, query.max.y as f64));
+            svg.rect(at, &format!("fill=\"none\" stroke=\"{ORANGE}\" stroke-width=\"2\""));
         }
         if self.geometry.polygons.len() <= NAMED {
             self.names(svg, &paper);
@@ -225,31 +171,22 @@ impl<'a> MeshPicture<'a> {
         for group in (0..groups).map(Some).chain([None]) {
             let of = (0..self.items.len()).filter(|&k| self.groups[k] == group);
             let shape: String = of.map(|k| self.outline(paper, k)).collect();
-            let colour = group.map_or(GREY, |group| self.group_colour(group));
+            let colour = group.map_or(GREY, |group| COLOURS[group % COLOURS.len()]);
             svg.path(&shape, &format!("fill=\"{colour}\" stroke=\"{INK}\" stroke-width=\"{width}\""));
         }
         let lost: String = (0..self.items.len()).filter(|&k| self.lost[k]).map(|k| self.outline(paper, k)).collect();
-        svg.path(&lost, &format!("fill=\"{RED}\" fill-opacity=\"0.8\" stroke=\"none\""));
+        svg.path(&lost, &format!("fill=\"{RED}\" fill-opacity=\"0.55\" stroke=\"none\""));
         let odd = (0..self.items.len()).filter(|&k| !self.is_finite(k));
         let shape: String = odd.map(|k| self.box_outline(paper, k)).collect();
-        svg.path(&shape, &format!("fill=\"none\" stroke=\"{VIOLET}\" stroke-dasharray=\"4 3\""));
-    }
-
-    fn group_colour(&self, group: usize) -> &str {
-        match self.colour {
-            Colour::Range => COLOURS[group % COLOURS.len()],
-            Colour::Material => self.materials.all.get(group).map_or(GREY, |material| &material.colour),
-        }
+        svg.path(&shape, &format!("fill=\"none\" stroke=\"{RED}\" stroke-dasharray=\"4 3\""));
     }
 
     /// What a query was handed: dark where the box meets, light where it does not; red where one that meets was missed.
     fn marked(&self, svg: &mut Svg, paper: &Paper) {
-        if self.query.is_none() {
-            return;
-        }
+        let Some(Query { min, max }) = self.query else { return };
         let all = 0..self.items.len();
         let shape = |meets: bool, handed: bool| -> String {
-            let of = all.clone().filter(|&k| self.meets[k] == meets && self.handed[k] == handed);
+            let of = all.clone().filter(|&k| self.items[k].meets(min, max) == meets && self.handed[k] == handed);
             of.map(|k| self.outline(paper, k)).collect()
         };
         svg.path(&shape(false, true), &format!("fill=\"{BLUE}\" fill-opacity=\"0.25\" stroke=\"{BLUE}\""));
@@ -257,16 +194,11 @@ impl<'a> MeshPicture<'a> {
         svg.path(&shape(true, false), &format!("fill=\"{RED}\" fill-opacity=\"0.9\" stroke=\"{RED}\""));
     }
 
-    /// Whether a polygon's box meets the query and it is not handed out.
-    fn is_missed(&self, k: usize) -> bool {
-        self.meets[k] && !self.handed[k]
-    }
-
     fn names(&self, svg: &mut Svg, paper: &Paper) {
         for (place, item) in self.items.iter().enumerate() {
-            let ((left, right), (low, high)) = self.view.spans(item.min, item.max);
-            if (left + right + low + high).is_finite() {
-                let (x, y) = paper.at((item.min + item.max) * 0.5);
+            let (x, y) = (item.min.x as f64 + item.max.x as f64, item.min.y as f64 + item.max.y as f64);
+            if (x + y).is_finite() {
+                let (x, y) = paper.at(x / 2.0, y / 2.0);
                 let look = format!("text-anchor=\"middle\" font-size=\"10\" fill=\"{INK}\"");
                 svg.text((x, y + 4.0), &look, &place.to_string());
             }
@@ -276,10 +208,7 @@ impl<'a> MeshPicture<'a> {
     /// Whether a polygon is somewhere: its box, and of a triangle each corner.
     fn is_finite(&self, k: usize) -> bool {
         let item = &self.items[k];
-        let place = |v: Vec3| {
-            let (x, y) = self.view.flat(v);
-            x.is_finite() && y.is_finite()
-        };
+        let place = |v: Vec3| v.x.is_finite() && v.y.is_finite();
         let corner = |k: usize| self.points.get(k).is_none_or(|&v| place(v));
         place(item.min) && place(item.max) && corners(&self.geometry.polygons[k]).into_iter().all(corner)
     }
@@ -294,48 +223,46 @@ impl<'a> MeshPicture<'a> {
             return self.box_outline(paper, k);
         }
         let at = |k: usize| self.points.get(k).copied().unwrap_or(Vec3::ZERO);
-        let corners: Vec<(f64, f64)> = corners(polygon).into_iter().map(|k| paper.at(at(k))).collect();
+        let corners: Vec<(f64, f64)> =
+            corners(polygon).into_iter().map(|k| paper.at(at(k).x as f64, at(k).y as f64)).collect();
         shape(&corners)
     }
 
     fn box_outline(&self, paper: &Paper, k: usize) -> String {
         let item = &self.items[k];
-        let Rect { x, y, w, h } = paper.rect(self.view.spans(item.min, item.max));
+        let Rect { x, y, w, h } =
+            paper.rect((item.min.x as f64, item.max.x as f64), (item.min.y as f64, item.max.y as f64));
         shape(&[(x, y), (x + w, y), (x + w, y + h), (x, y + h)])
     }
 
     fn legend(&self, svg: &mut Svg, y: f64) -> f64 {
-        let mut entries = match self.colour {
-            Colour::Range => vec![(format!("fill=\"{}\"", COLOURS[0]), "a polygon, a colour a range".to_string())],
-            Colour::Material => self.materials.entries(),
-        };
+        let whose = if self.folder.parts.tree.is_some() { "range" } else { "material" };
+        let mut entries =
+            vec![(format!("fill=\"{}\" stroke=\"{INK}\"", COLOURS[0]), format!("a polygon, a colour a {whose}"))];
         let mut entry = |look: String, text: &str| entries.push((look, text.into()));
         if self.lost.contains(&true) {
-            entry(format!("fill=\"{RED}\" fill-opacity=\"0.8\""), "LOST: a query at its place does not find it");
+            entry(format!("fill=\"{RED}\" fill-opacity=\"0.55\""), "LOST: a query at its place does not find it");
         }
         if (0..self.items.len()).any(|k| !self.is_finite(k)) {
-            entry(
-                format!("fill=\"none\" stroke=\"{VIOLET}\" stroke-dasharray=\"4 3\""),
-                "the box of one that is nowhere",
-            );
+            entry(format!("fill=\"none\" stroke=\"{RED}\" stroke-dasharray=\"4 3\""), "the box of one that is nowhere");
         }
         if self.query.is_some() {
-            entry(QUERY.into(), "the query from above");
+            entry(format!("fill=\"none\" stroke=\"{ORANGE}\" stroke-width=\"2\""), "the query from above");
             entry(format!("fill=\"{BLUE}\" fill-opacity=\"0.6\""), "handed out, its box meets");
             entry(format!("fill=\"{BLUE}\" fill-opacity=\"0.25\""), "handed out, does not meet");
-        }
-        if (0..self.items.len()).any(|k| self.is_missed(k)) {
             entry(format!("fill=\"{RED}\" fill-opacity=\"0.9\""), "meets, missed");
         }
-        let y = legend(svg, y, &entries);
-        if self.colour == Colour::Material || self.materials.all.is_empty() {
-            return y;
+        let (mut x, mut y) = (MARGIN, y);
+        for (look, text) in entries {
+            let width = 40.0 + 7.2 * text.chars().count() as f64;
+            if x + width > WIDTH {
+                (x, y) = (MARGIN, y + 20.0);
+            }
+            svg.rect(Rect { x, y: y - 10.0, w: 18.0, h: 12.0 }, &look);
+            svg.text((x + 24.0, y), &format!("fill=\"{INK}\""), &text);
+            x += width;
         }
-        let y = y + 20.0;
-        svg.text((MARGIN, y), &format!("fill=\"{INK}\""), "materials, which --colour material shows:");
-        let listed: Vec<(String, String)> =
-            self.materials.entries().into_iter().map(|(_, words)| ("fill=\"none\"".to_string(), words)).collect();
-        legend(svg, y + 20.0, &listed)
+        y
     }
 }
 
@@ -370,4 +297,9 @@ fn ranges(dump: &Dump, n: usize) -> Vec<Option<usize>> {
     let mut groups: Vec<Option<usize>> = dump.leaves().into_iter().map(|leaf| leaf.and_then(range)).collect();
     groups.resize(n, None);
     groups
+}
+
+/// For each polygon its material's place in the list: without a tree the prepared ones are in the order of the given.
+fn materials(folder: &MeshFolder) -> Vec<Option<usize>> {
+    folder.prepared.polygon_material_indices.iter().map(|&index| Some(index as usize)).collect()
 }

@@ -1,30 +1,23 @@
 //! A dump as a picture: a row a node with a lane for each axis, and a view from above.
 //!
-//! The floats of a node's boxes are outlined, what its record stands for is filled: in the colour of its range, or violet
-//! where the two differ. A record that is inside out is dashed. A query is a band. Red is what a query misses, and nothing
-//! else.
+//! The floats of a node's boxes are outlined, what its record stands for is filled: in the colour of its range, or red
+//! where the two differ. A record that is inside out is dashed. A query is a band.
 
 mod above;
 mod axis;
 mod lanes;
-mod materials;
 pub mod mesh;
 mod rows;
-pub mod svg;
-mod view;
-pub mod world;
+mod svg;
 
 use crate::account::Account;
 use crate::dump::Dump;
-pub use crate::mesh::rounded::Query;
 use crate::number::counted;
-use crate::trace::walk;
+use crate::trace::walk::{walk, Reading};
+use crate::trace::Trace;
 use axis::Ruler;
-use bounds::{BvhItem, Vec3};
-use plain::tree::Trace;
-use plain::walk::Reading;
+use bounds::Vec3;
 use svg::{Rect, Svg};
-pub use view::View;
 
 const WIDTH: f64 = 1120.0;
 const MARGIN: f64 = 20.0;
@@ -33,20 +26,20 @@ const LABELS: f64 = 250.0;
 const GAP: f64 = 22.0;
 const ROW: f64 = 20.0;
 
-/// Height of letters.
-const LETTERS: f64 = 12.0;
-
-/// What a query misses.
 const RED: &str = "#d62728";
-/// What is not as it should be: a record that does not stand for its boxes. Blue to eyes that take red for green.
-const VIOLET: &str = "#6a3d9a";
-const BLUE: &str = "#1f77b4";
 const GREY: &str = "#b8b8b8";
 const INK: &str = "#222222";
 
-/// Colours of ranges and materials, none of them a red, told apart by their lightness too.
+/// Colours of ranges, told apart by eyes of every kind.
 const COLOURS: [&str; 9] =
-    ["#8fb8de", "#f2c879", "#9fd3a8", "#cdb3e0", "#c2e3e5", "#b8985f", "#e6e48f", "#7f93c4", "#7fb0a0"];
+    ["#8fb8de", "#f2c879", "#9fd3a8", "#cdb3e0", "#a9d6d8", "#e0b8a0", "#c9cc8f", "#f0b6c8", "#b9c4d6"];
+
+/// A query to be drawn.
+#[derive(Clone, Copy, Debug)]
+pub struct Query {
+    pub min: Vec3,
+    pub max: Vec3,
+}
 
 /// What a picture is made from.
 pub struct Picture<'a> {
@@ -54,8 +47,6 @@ pub struct Picture<'a> {
     pub trace: &'a Trace<'a>,
     pub account: &'a Account,
     pub query: Option<Query>,
-    /// From where it is seen from above.
-    view: View,
     /// What a row says that a node holds: `box`, or `polygon`.
     noun: &'static str,
     /// The nodes that have a row, in preorder, and which those are.
@@ -63,8 +54,6 @@ pub struct Picture<'a> {
     shown: &'static str,
     /// The records that the query read: whether each node met, where it was read.
     read: Vec<Option<bool>>,
-    /// By their places in the list: the boxes that meet the query and are not handed out.
-    missed: Vec<bool>,
     rulers: [Ruler; 3],
 }
 
@@ -87,19 +76,12 @@ impl<'a> Picture<'a> {
                 }
             }
         }
-        let missed = query.map_or(vec![false; trace.items.len()], |query| missed(dump, trace.items, query));
-        let rulers = [Ruler { low: 0.0, high: 1.0, left: 0.0, width: 1.0 }; 3];
-        let rows = Vec::new();
-        let (view, noun) = (View::default(), "box");
-        let mut picture = Picture { dump, trace, account, query, view, noun, rows, shown: "", read, missed, rulers };
+        let blank = Ruler { low: 0.0, high: 1.0, left: 0.0, width: 1.0 };
+        let mut picture =
+            Picture { dump, trace, account, query, noun: "box", rows: Vec::new(), shown: "", read, rulers: [blank; 3] };
         (picture.rows, picture.shown) = picture.choose_rows();
         picture.rulers = std::array::from_fn(|axis| picture.ruler(axis));
         picture
-    }
-
-    /// From another side.
-    pub fn seen(self, view: View) -> Self {
-        Picture { view, ..self }
     }
 
     /// How many nodes have a row.
@@ -109,7 +91,7 @@ impl<'a> Picture<'a> {
 
     /// The file.
     pub fn svg(&self) -> String {
-        let mut svg = Svg::new(LETTERS);
+        let mut svg = Svg::default();
         let mut y = self.title(&mut svg);
         y = self.lanes(&mut svg, y);
         y = self.above(&mut svg, y + 34.0);
@@ -132,17 +114,13 @@ impl<'a> Picture<'a> {
             y += 18.0;
             svg.text((MARGIN, y), &format!("fill=\"{colour}\""), text);
         };
-        let missed = self.missed.iter().filter(|&&missed| missed).count();
-        if missed > 0 {
-            caption(&format!("{} MISSED by the query", counted(missed, self.noun)), RED);
-        }
         if let Err(broken) = bounds::ordinary(trace.items) {
-            caption(&format!("outside the premises, {broken}: items may be missed"), VIOLET);
+            caption(&format!("outside the premises, {broken}: items may be missed"), RED);
         }
         if !self.account.differing.is_empty() {
             caption(
                 &format!("{} of the dump not as its input gives", counted(self.account.differing.len(), "field")),
-                VIOLET,
+                RED,
             );
         }
         if self.rows.len() < trace.nodes.len() {
@@ -182,49 +160,19 @@ impl<'a> Picture<'a> {
     }
 
     fn legend(&self, svg: &mut Svg, y: f64) -> f64 {
-        let mut entries = vec![
-            (format!("fill=\"none\" stroke=\"{INK}\""), "the boxes as floats".to_string()),
-            (format!("fill=\"{}\"", COLOURS[0]), "what the record stands for, a colour a range".into()),
-            (format!("fill=\"{VIOLET}\" fill-opacity=\"0.75\""), "where the two differ".into()),
-            (format!("fill=\"none\" stroke=\"{VIOLET}\" stroke-dasharray=\"4 3\""), "a record inside out".into()),
-        ];
+        let mut x = MARGIN;
+        let mut entry = |look: &str, text: &str| {
+            svg.rect(Rect { x, y: y - 10.0, w: 18.0, h: 12.0 }, look);
+            svg.text((x + 24.0, y), &format!("fill=\"{INK}\""), text);
+            x += 40.0 + 7.2 * text.chars().count() as f64;
+        };
+        entry(&format!("fill=\"none\" stroke=\"{INK}\""), "the boxes as floats");
+        entry(&format!("fill=\"{}\"", COLOURS[0]), "what the record stands for, a colour a range");
+        entry(&format!("fill=\"{RED}\" fill-opacity=\"0.75\""), "where the two differ");
+        entry(&format!("fill=\"none\" stroke=\"{RED}\" stroke-dasharray=\"4 3\""), "a record inside out");
         if self.query.is_some() {
-            entries.push((format!("fill=\"{BLUE}\" fill-opacity=\"0.2\""), "the query".into()));
+            entry("fill=\"#1f77b4\" fill-opacity=\"0.2\"", "the query");
         }
-        if self.missed.contains(&true) {
-            entries.push((format!("fill=\"{RED}\" fill-opacity=\"0.8\" stroke=\"{RED}\""), "meets it, missed".into()));
-        }
-        legend(svg, y, &entries)
+        y
     }
-}
-
-/// Patches with what each stands for, in lines from `y` on; answers where they end.
-fn legend(svg: &mut Svg, y: f64, entries: &[(String, String)]) -> f64 {
-    let (mut x, mut y) = (MARGIN, y);
-    for (look, text) in entries {
-        let width = 40.0 + 7.2 * text.chars().count() as f64;
-        if x > MARGIN && x + width > WIDTH {
-            (x, y) = (MARGIN, y + 20.0);
-        }
-        svg.rect(Rect { x, y: y - 10.0, w: 18.0, h: 12.0 }, look);
-        svg.text((x + 24.0, y), &format!("fill=\"{INK}\""), text);
-        x += width;
-    }
-    y
-}
-
-/// By their places in the list, which boxes a query hands out; none where its walk is refused.
-fn handed(dump: &Dump, Query { min, max }: Query, n: usize) -> Vec<bool> {
-    let mut handed = vec![false; n];
-    for position in dump.walk(min, max).map_or(Vec::new(), |found| found.positions) {
-        let place = dump.place(position as usize).unwrap_or(n);
-        handed.get_mut(place).into_iter().for_each(|at| *at = true);
-    }
-    handed
-}
-
-/// By their places in the list, which boxes meet a query and are not handed out.
-fn missed(dump: &Dump, items: &[BvhItem], query: Query) -> Vec<bool> {
-    let met = items.iter().map(|item| item.present != 0 && item.meets(query.min, query.max));
-    met.zip(handed(dump, query, items.len())).map(|(met, handed)| met && !handed).collect()
 }

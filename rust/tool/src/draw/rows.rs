@@ -1,7 +1,7 @@
 //! Which nodes have a row: all of a small tree; of a larger one those that say most.
 
 use super::Picture;
-use plain::tree::Trace;
+use crate::trace::Trace;
 use std::collections::BTreeSet;
 
 /// The most rows.

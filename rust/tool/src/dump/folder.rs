@@ -19,7 +19,7 @@
 use super::{Dump, Kind, Records};
 use crate::boxes::{entry, read_file, words, Boxes, Origin};
 use crate::failure::Failure;
-use crate::output::{write_folder, Target};
+use crate::output::write_folder;
 use std::path::Path;
 
 /// The first line of dump.txt.
@@ -29,10 +29,10 @@ pub const FIRST_LINE: &str = "bounds dump 1";
 const MOST_NODES: usize = 65_535;
 
 /// Bytes of an entry in boxes.bin.
-pub const ENTRY: usize = 28;
+const ENTRY: usize = 28;
 
 /// Writes a dump's files.
-pub fn write(dump: &Dump, target: &Target) -> Result<(), Failure> {
+pub fn write(dump: &Dump, path: &str) -> Result<(), Failure> {
     let Dump { threshold, entries, records, .. } = dump;
     let kind = Kind::Boxes.name();
     let first = format!("{FIRST_LINE}\nkind {kind}\nthreshold {threshold}\nentries {entries}\n");
@@ -42,7 +42,7 @@ pub fn write(dump: &Dump, target: &Target) -> Result<(), Failure> {
     if let Some(boxes) = &dump.boxes {
         files.push(("boxes.bin", boxes.items.iter().flat_map(entry_bytes).collect()));
     }
-    write_folder(target, &files)
+    write_folder(path, &files)
 }
 
 /// The files of a tree's records.
@@ -56,8 +56,7 @@ pub fn tree_files(records: &Records) -> [(&'static str, Vec<u8>); 4] {
     ]
 }
 
-/// The 28 bytes of an entry.
-pub fn entry_bytes(item: &bounds::BvhItem) -> Vec<u8> {
+fn entry_bytes(item: &bounds::BvhItem) -> Vec<u8> {
     let mark = u32::from(item.present != 0);
     std::iter::once(mark).chain(words(item)).flat_map(u32::to_le_bytes).collect()
 }

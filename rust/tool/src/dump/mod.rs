@@ -4,17 +4,15 @@ mod folder;
 mod opened;
 mod records;
 
-pub use folder::{entry_bytes, exactly, kind_of, manifest, tree_files, tree_records, ENTRY, FIRST_LINE};
+pub use folder::{exactly, kind_of, manifest, tree_files, tree_records, FIRST_LINE};
 pub use opened::Opened;
 pub use records::Records;
 
 use crate::boxes::{Boxes, Form};
 use crate::failure::Failure;
 use crate::mesh::Given;
-use crate::output::Target;
 use bounds::walk::{walk, Counts, Records as Lent};
 use bounds::{Tree, Vec3};
-use plain::walk::Walk;
 use std::path::Path;
 
 /// What a dump holds.
@@ -22,8 +20,6 @@ use std::path::Path;
 pub enum Kind {
     Boxes,
     Mesh,
-    /// A world that was split into meshes.
-    Composite,
 }
 
 impl Kind {
@@ -32,12 +28,11 @@ impl Kind {
         match self {
             Kind::Boxes => "boxes",
             Kind::Mesh => "mesh",
-            Kind::Composite => "composite",
         }
     }
 
     fn of_name(name: &str) -> Option<Kind> {
-        [Kind::Boxes, Kind::Mesh, Kind::Composite].into_iter().find(|kind| kind.name() == name)
+        [Kind::Boxes, Kind::Mesh].into_iter().find(|kind| kind.name() == name)
     }
 }
 
@@ -88,13 +83,13 @@ impl Dump {
     /// The dump of a list, made by the library.
     pub fn build(name: &str, boxes: Boxes, threshold: u32) -> Result<(Dump, Tree), Failure> {
         let tree = Tree::build(&boxes.items, threshold)?;
-        let (entries, records) = (boxes.items.len(), Records::of(&tree)?);
+        let (entries, records) = (boxes.items.len(), Records::of(&tree));
         Ok((Dump { name: name.into(), threshold, entries, boxes: Some(boxes), records }, tree))
     }
 
     /// Writes it as a folder, whole or not at all.
-    pub fn write(&self, target: &Target) -> Result<(), Failure> {
-        folder::write(self, target)
+    pub fn write(&self, path: &str) -> Result<(), Failure> {
+        folder::write(self, path)
     }
 
     /// Its input, without which nothing can be explained.
@@ -138,8 +133,8 @@ impl Dump {
         leaves
     }
 
-    /// The plain walk over the dump's bytes as they are.
-    pub fn plain_walk(&self, min: Vec3, max: Vec3) -> Walk<'_> {
+    /// The library's walk over the dump's bytes as they are.
+    pub fn walk(&self, min: Vec3, max: Vec3) -> Result<Found, Failure> {
         let records = &self.records;
         let lent = Lent {
             node_bytes: &records.nodes,
@@ -148,14 +143,8 @@ impl Dump {
             trees_count: records.tree_count(),
             items_count: self.item_count(),
         };
-        Walk { min, max, cen: records.centre(), inverse: records.inverse(), records: lent }
-    }
-
-    /// The library's walk over the dump's bytes as they are.
-    pub fn walk(&self, min: Vec3, max: Vec3) -> Result<Found, Failure> {
-        let Walk { cen, inverse, records, .. } = self.plain_walk(min, max);
-        let mut positions = vec![0; records.items_count];
-        let Counts { reads, handed } = walk(min, max, cen, inverse, &records, &mut positions)?;
+        let mut positions = vec![0; lent.items_count];
+        let Counts { reads, handed } = walk(min, max, records.centre(), records.inverse(), &lent, &mut positions)?;
         positions.truncate(handed);
         Ok(Found { positions, reads })
     }

@@ -4,7 +4,6 @@ use super::{kind_of, Dump, Kind, Loading};
 use crate::boxes::{read_file, Boxes};
 use crate::failure::Failure;
 use crate::mesh::{form, Given, Mesh, MeshFolder};
-use crate::world::folder::name_a_child;
 use std::path::Path;
 
 /// A dump of boxes or a prepared mesh.
@@ -28,7 +27,7 @@ impl Opened {
             return Ok(Opened::Mesh(Box::new(MeshFolder::prepare(path, mesh)?)));
         }
         if loading.mesh != Given::default() {
-            return Err(Failure::Usage(format!("{path} is no mesh: leave out --kind, --margin and --up")));
+            return Err(Failure::Usage(format!("{path} is no mesh: leave out --kind and --margin")));
         }
         let boxes = Boxes::of_bytes(path, &bytes, loading.form)?;
         Ok(Opened::Boxes(Box::new(Dump::build(path, boxes, loading.threshold.unwrap_or(1))?.0)))
@@ -41,10 +40,9 @@ impl Opened {
                 let words = format!("{path} is a prepared mesh and has its own kind and margin: leave the options out");
                 Err(Failure::Usage(words))
             }
-            Some(Kind::Composite) => Err(name_a_child(path)),
             Some(Kind::Mesh) => Ok(Opened::Mesh(Box::new(MeshFolder::read(path)?))),
             _ if loading.mesh != Given::default() => {
-                Err(Failure::Usage(format!("{path} is no mesh: leave out --kind, --margin and --up")))
+                Err(Failure::Usage(format!("{path} is no mesh: leave out --kind and --margin")))
             }
             _ => Ok(Opened::Boxes(Box::new(Dump::load(path, loading)?))),
         }

@@ -1,8 +1,8 @@
 //! The bytes of a tree as a builder holds them: header, node and tree records, order list.
 
 use bounds::bvh::{HEADER, RECORD};
-use bounds::tree::{Addresses, TreeRecords};
-use bounds::{BvhNode, BvhTree, Refusal, Vec3};
+use bounds::tree::Addresses;
+use bounds::{BvhNode, BvhTree, Tree, Vec3};
 
 /// Where a header is thought to lie; its records lie behind it.
 const BASE: u64 = 0x5000_0000;
@@ -18,11 +18,15 @@ pub struct Records {
 
 impl Records {
     /// What the library made.
-    pub fn of(tree: &TreeRecords) -> Result<Records, Refusal> {
+    pub fn of(tree: &Tree) -> Records {
         let nodes = BASE + HEADER as u64;
-        let header = tree.header(Addresses { nodes, trees: nodes + tree.node_bytes.len() as u64 })?;
-        let (nodes, trees, order) = (tree.node_bytes.clone(), tree.tree_bytes.clone(), tree.order.clone());
-        Ok(Records { header, nodes, trees, order })
+        let at = Addresses { nodes, trees: nodes + tree.node_bytes().len() as u64 };
+        Records {
+            header: tree.header(at),
+            nodes: tree.node_bytes().to_vec(),
+            trees: tree.tree_bytes().to_vec(),
+            order: tree.order().to_vec(),
+        }
     }
 
     /// A number of four bytes of the header.

@@ -5,7 +5,7 @@ use crate::boxes::words;
 use crate::field::{AXES, CORNERS};
 use crate::number::{both, counted, float};
 use crate::rules::Rule::*;
-use plain::fold;
+use crate::trace::fold;
 
 /// A fold over more boxes than this is told by its end.
 const SHOWN: usize = 8;

@@ -4,7 +4,6 @@ use super::{Explainer, Step};
 use crate::field::{InHeader, Point};
 use crate::number::{both, bytes, counted, float};
 use crate::rules::Rule::*;
-use crate::trace::header_word;
 use bounds::premises::Axis;
 
 impl Explainer<'_> {
@@ -65,7 +64,7 @@ impl Explainer<'_> {
         if point == Point::Inverse {
             steps.push(Step::new(&[T2], format!("inverse = 1 / {} = {}", float(scale.quantum), float(scale.inverse))));
         }
-        let word = header_word(self.trace, point, k);
+        let word = self.trace.point(point, k);
         steps.push(Step::new(&[R7], self.word_bytes(word)));
         steps
     }

@@ -13,16 +13,12 @@ pub use fold::value_name;
 pub use mesh::MeshExplainer;
 
 use crate::boxes::Boxes;
-use crate::cli::Answer;
 use crate::dump::Records;
-use crate::failure::Failure;
-use crate::field::{Field, Recorded};
+use crate::field::Field;
 use crate::json::Json;
 use crate::number;
 use crate::rules::{self, Rule};
-use crate::trace::Fields;
-use plain::tree::Trace;
-use query::Asked;
+use crate::trace::Trace;
 
 /// A step of an explanation: by which rules, what, and where its values stand.
 #[derive(Clone, Debug)]
@@ -115,36 +111,7 @@ impl<'a> Explainer<'a> {
     }
 }
 
-impl Explainer<'_> {
-    /// The split of a node, by its number.
-    pub fn split_at(&self, node: &str) -> Result<Explanation, Failure> {
-        let nodes = self.trace.nodes.len();
-        let node = node.parse().ok().filter(|&k: &usize| k < nodes);
-        let node = node.ok_or_else(|| Failure::Usage(format!("expected a node's number below {nodes}")))?;
-        self.split(node).ok_or_else(|| Failure::Usage(format!("node {node} is a leaf: it is not split")))
-    }
-
-    /// Why a query hands out an item, or not, where the library reads the same records.
-    pub fn asked(&self, asked: &Asked, is_given: &dyn Fn(Field) -> bool) -> Result<Explanation, Failure> {
-        let found = asked.dump.walk(asked.min, asked.max)?;
-        let (explanation, reads) = self.query(asked, is_given);
-        if reads != found.reads {
-            return Err(Failure::Refused("the trace reads other records than the library; it is not explained".into()));
-        }
-        Ok(explanation)
-    }
-}
-
 impl Explanation {
-    /// With a note where other bytes are not what the input gives.
-    pub fn answer(&self, warning: Option<String>, json: bool) -> Answer {
-        if json {
-            let json = Json::Object(vec![("explanation", self.json()), ("warning", warning.into())]);
-            return Answer::of(format!("{json}\n"));
-        }
-        Answer::of(warning.map_or(String::new(), |warning| format!("NOTE {warning}\n")) + &self.text())
-    }
-
     /// The lines that people read.
     pub fn text(&self) -> String {
         let mut text = format!("{}\n", self.heading);
@@ -171,5 +138,11 @@ impl Explanation {
             ("bytes", self.bytes.as_ref().map(|bytes| number::bytes(bytes)).into()),
             ("steps", Json::list(self.steps.iter().map(step))),
         ])
+    }
+}
+
+impl From<Explanation> for Json {
+    fn from(explanation: Explanation) -> Json {
+        explanation.json()
     }
 }

@@ -5,8 +5,8 @@ use super::{fold::value_name, Explainer, Step};
 use crate::field::{Field, InRecord};
 use crate::number::{counted, float, place, plural, some};
 use crate::rules::Rule::*;
+use crate::trace::scale::Quantised;
 use bounds::premises::{Axis, Corner};
-use plain::scale::Quantised;
 
 /// Of a longer path the levels in the middle are left out.
 const LEVELS_SHOWN: usize = 8;

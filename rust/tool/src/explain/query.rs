@@ -1,16 +1,13 @@
 //! Why a query hands an item out, or not: the records read on the way to its leaf.
 
 use super::{fold::value_name, Explainer, Explanation, Step};
-use crate::boxes::words;
 use crate::dump::Dump;
 use crate::field::{Field, InRecord};
-use crate::mesh::rounded::Query;
 use crate::number::{counted, float, place};
 use crate::rules::Rule::*;
-use crate::trace::{walk, Told};
+use crate::trace::walk::{walk, Miss, Reading, Span, Walked};
 use bounds::premises::{ordinary, Axis, Corner};
-use bounds::{BvhItem, Vec3};
-use plain::walk::{Miss, Reading, Span};
+use bounds::Vec3;
 
 /// What there is to say of an item and a query.
 pub struct Asked<'a> {
@@ -18,15 +15,6 @@ pub struct Asked<'a> {
     pub min: Vec3,
     pub max: Vec3,
     pub item: usize,
-    /// Of a mesh whose file's numbers centring rounded.
-    pub rounded: Option<Exact>,
-}
-
-/// What was asked, of which the query is the widened one, and the item's box as its file has it.
-pub struct Exact {
-    pub asked: Query,
-    pub item: BvhItem,
-    pub by: [f64; 3],
 }
 
 impl Explainer<'_> {
@@ -36,11 +24,10 @@ impl Explainer<'_> {
     /// Also answers how many records it saw read, which must be as many as the library read.
     pub fn query(&self, asked: &Asked, accounted: &dyn Fn(Field) -> bool) -> (Explanation, usize) {
         let walked = walk(asked.dump, asked.min, asked.max);
-        let place = |&position: &u16| asked.dump.place(position as usize);
+        let place = |&position: &usize| asked.dump.place(position);
         let handed = walked.positions.iter().filter_map(place).any(|place| place == asked.item);
-        let meets = asked.meets(&self.trace.items[asked.item]);
-        let mut steps: Vec<Step> = asked.rounded.iter().filter_map(|exact| exact.step(asked)).collect();
-        steps.push(Step::new(&[W1], format!("the query in records: {}", span_words(&walked.span))));
+        let meets = self.trace.items[asked.item].meets(asked.min, asked.max);
+        let mut steps = vec![Step::new(&[W1], format!("the query in records: {}", span_words(&walked.span)))];
         let leaf = asked.dump.leaves()[asked.item];
         match leaf {
             None => {
@@ -59,16 +46,16 @@ impl Explainer<'_> {
     }
 
     /// What was read on the way to a leaf, up to the record that misses.
-    fn readings(&self, asked: &Asked, walked: &Told, leaf: usize, accounted: &dyn Fn(Field) -> bool) -> Vec<Step> {
+    fn readings(&self, asked: &Asked, walked: &Walked, leaf: usize, accounted: &dyn Fn(Field) -> bool) -> Vec<Step> {
         let way = way(asked.dump, walked, leaf);
-        let met: Vec<String> = way.iter().filter(|r| r.miss().is_none()).map(|r| name_of(r)).collect();
+        let met: Vec<String> = way.iter().filter(|r| r.miss().is_none()).map(|r| r.name()).collect();
         let mut steps = Vec::new();
         if !met.is_empty() {
             steps.push(Step::new(&[W2, W3, W5], format!("meets: {}", shortened(&met))));
         }
         match way.iter().find(|r| r.miss().is_some()) {
             Some(reading) => steps.extend(self.missed(reading, leaf, accounted)),
-            None if way.last().is_some_and(|r| name_of(r) == format!("node {leaf}")) => {
+            None if way.last().is_some_and(|r| r.name() == format!("node {leaf}")) => {
                 steps.push(Step::new(&[W7], format!("node {leaf}, its leaf, meets and hands out its positions")));
                 steps.extend(self.apart(asked, leaf));
             }
@@ -79,12 +66,8 @@ impl Explainer<'_> {
 
     /// Where a box does not meet the query and its leaf's record does: on the axis on which it does not, both.
     fn apart(&self, asked: &Asked, leaf: usize) -> Option<Step> {
-        let v = asked
-            .rounded
-            .as_ref()
-            .map_or(self.trace.floats(asked.item), |exact| words(&exact.item).map(f32::from_bits));
-        let Query { min, max } = asked.asked();
-        let (min, max) = ([min.x, min.y, min.z], [max.x, max.y, max.z]);
+        let v = self.trace.floats(asked.item);
+        let (min, max) = ([asked.min.x, asked.min.y, asked.min.z], [asked.max.x, asked.max.y, asked.max.z]);
         let axis = (0..3).find(|&k| !(v[k] <= max[k] && min[k] <= v[k + 3]))?;
         let (records, node) = (&asked.dump.records, asked.dump.records.node(leaf)?);
         let stands = |value: i16| place(records.stands_for(axis, value));
@@ -104,7 +87,7 @@ impl Explainer<'_> {
         let (corner, relation, side) =
             if miss.record_above { (Corner::Min, "above", "max") } else { (Corner::Max, "below", "min") };
         let Miss { axis, record, query, .. } = miss;
-        let name = name_of(reading);
+        let name = reading.name();
         let text = format!("{name} misses on {axis}: its {corner} {record} is {relation} the query's {side} {query}");
         let over = match *reading {
             Reading::Tree { .. } => format!("its range is not read, node {leaf} with it"),
@@ -114,7 +97,7 @@ impl Explainer<'_> {
             }
         };
         let mut steps = vec![Step::new(&[W2], text), Step::new(&[W3, W5], over)];
-        let field = field_of(reading, corner, axis);
+        let field = reading.field(corner, axis);
         if accounted(field) {
             steps.extend(self.value_came(reading, corner, axis));
         } else {
@@ -155,41 +138,6 @@ impl Explainer<'_> {
     }
 }
 
-impl Asked<'_> {
-    /// The query before it was widened.
-    fn asked(&self) -> Query {
-        self.rounded.as_ref().map_or(Query { min: self.min, max: self.max }, |exact| exact.asked)
-    }
-
-    /// Whether the item's box meets what was asked, as its file has it.
-    fn meets(&self, stands: &BvhItem) -> bool {
-        let Query { min, max } = self.asked();
-        self.rounded.as_ref().map_or(stands, |exact| &exact.item).meets(min, max)
-    }
-}
-
-impl Exact {
-    /// What is said where the query became another: an endless one does not.
-    fn step(&self, of: &Asked) -> Option<Step> {
-        let walked = Query { min: of.min, max: of.max };
-        let words = |query: Query| format!("{} to {}", point_words(query.min), point_words(query.max));
-        let text = format!("{} is widened to {}: {}", words(self.asked), words(walked), rounded_words(&self.by));
-        (walked != self.asked).then(|| Step::new(&[K1, V1], text))
-    }
-}
-
-/// By how much a query is widened, and why.
-pub fn rounded_words(by: &[f64; 3]) -> String {
-    let axis = |(by, name): (&f64, &str)| (*by > 0.0).then(|| format!("{name} {by:?}"));
-    let moved: Vec<String> = by.iter().zip(["x", "y", "z"]).filter_map(axis).collect();
-    format!("about the centre the file's numbers are rounded by up to {}", moved.join(", "))
-}
-
-/// `6.0,0.0,0.0`.
-pub fn point_words(v: Vec3) -> String {
-    [v.x, v.y, v.z].map(float).join(",")
-}
-
 /// The tree record and the nodes that lead to a leaf, by the records alone.
 struct Above {
     tree: Option<usize>,
@@ -208,7 +156,7 @@ fn above(dump: &Dump, leaf: usize) -> Above {
 }
 
 /// The readings on the way to a leaf.
-fn way<'w>(dump: &Dump, walked: &'w Told, leaf: usize) -> Vec<&'w Reading> {
+fn way<'w>(dump: &Dump, walked: &'w Walked, leaf: usize) -> Vec<&'w Reading> {
     let above = above(dump, leaf);
     let on_it = |reading: &&Reading| match **reading {
         Reading::Tree { tree, .. } => above.tree == Some(tree),
@@ -218,18 +166,17 @@ fn way<'w>(dump: &Dump, walked: &'w Told, leaf: usize) -> Vec<&'w Reading> {
 }
 
 /// What was read besides: records on no way to the leaf.
-fn beside(dump: &Dump, walked: &Told, leaf: usize) -> Option<Step> {
+fn beside(dump: &Dump, walked: &Walked, leaf: usize) -> Option<Step> {
     let way = way(dump, walked, leaf);
     let other = walked.readings.iter().filter(|reading| !way.contains(reading));
-    let told = |reading: &Reading| {
-        format!("{} {}", name_of(reading), if reading.miss().is_none() { "meets" } else { "misses" })
-    };
+    let told =
+        |reading: &Reading| format!("{} {}", reading.name(), if reading.miss().is_none() { "meets" } else { "misses" });
     let told: Vec<String> = other.map(told).collect();
     (!told.is_empty()).then(|| Step::new(&[W5], format!("besides: {}", shortened(&told))))
 }
 
 /// The record on the way to a leaf that misses.
-pub fn first_miss(dump: &Dump, walked: &Told, leaf: usize) -> Option<Reading> {
+pub fn first_miss(dump: &Dump, walked: &Walked, leaf: usize) -> Option<Reading> {
     way(dump, walked, leaf).into_iter().find(|reading| reading.miss().is_some()).copied()
 }
 
@@ -259,17 +206,25 @@ fn shortened(names: &[String]) -> String {
     }
 }
 
-fn name_of(reading: &Reading) -> String {
-    match reading {
-        Reading::Tree { tree, .. } => format!("tree {tree}"),
-        Reading::Node { node, .. } => format!("node {node}"),
+impl Reading {
+    fn miss(&self) -> Option<Miss> {
+        match *self {
+            Reading::Tree { miss, .. } | Reading::Node { miss, .. } => miss,
+        }
     }
-}
 
-/// The field of a value of a reading's box.
-fn field_of(reading: &Reading, corner: Corner, axis: Axis) -> Field {
-    match *reading {
-        Reading::Tree { tree, .. } => Field::Tree(tree, InRecord::Box(corner, axis)),
-        Reading::Node { node, .. } => Field::Node(node, InRecord::Box(corner, axis)),
+    fn name(&self) -> String {
+        match self {
+            Reading::Tree { tree, .. } => format!("tree {tree}"),
+            Reading::Node { node, .. } => format!("node {node}"),
+        }
+    }
+
+    /// The field of a value of its box.
+    pub fn field(&self, corner: Corner, axis: Axis) -> Field {
+        match *self {
+            Reading::Tree { tree, .. } => Field::Tree(tree, InRecord::Box(corner, axis)),
+            Reading::Node { node, .. } => Field::Node(node, InRecord::Box(corner, axis)),
+        }
     }
 }

@@ -4,8 +4,8 @@ use super::{Explainer, Explanation, Step};
 use crate::field::AXES;
 use crate::number::{counted, float, some};
 use crate::rules::Rule::{self, *};
-use plain::split::Split;
-use plain::tree::Trace;
+use crate::trace::split::Split;
+use crate::trace::Trace;
 
 /// Whether a node is the second child of another.
 pub fn is_second(trace: &Trace, parent: usize, child: usize) -> bool {

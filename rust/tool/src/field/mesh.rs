@@ -1,7 +1,7 @@
 //! The fields of a prepared mesh: their names, bytes, values and rules. Those of its tree are [`Field`]s.
 
-use super::{Field, InHeader, Point, Recorded, Value, AXES, CORNERS};
-use crate::dump::{Records, ENTRY};
+use super::{Field, InHeader, Point, Value, AXES, CORNERS};
+use crate::dump::Records;
 use crate::rules::Rule::{self, *};
 use bounds::premises::{Axis, Corner};
 use bounds::prepare::{Prepared, Quantised};
@@ -17,8 +17,6 @@ const RECORD: usize = 16;
 pub struct Derived<'a> {
     pub prepared: &'a Prepared,
     pub tree: Option<&'a Records>,
-    /// The polygons' boxes as boxes.bin has them, where there is a tree.
-    pub boxes: &'a [u8],
 }
 
 /// A field of a polygon's record.
@@ -37,13 +35,11 @@ pub enum InPolygon {
     Zeros,
 }
 
-/// Which of a bound's centres.
+/// Which of a bound's two centres.
 #[derive(Clone, Copy, Debug, PartialEq, Eq, Hash)]
 pub enum Centre {
     Box,
     Sphere,
-    /// center_geom: what is added to a vertex before the transform.
-    Geom,
 }
 
 /// A field of what was derived of a mesh.
@@ -54,8 +50,6 @@ pub enum MeshField {
     Centre(Centre, Axis),
     Radius,
     Polygon(usize, InPolygon),
-    /// A value of a polygon's box, where the given vertices stand.
-    PolygonBox(usize, Corner, Axis),
     /// Before they are filled up to four.
     MaterialCount,
     Material(usize),
@@ -70,11 +64,6 @@ pub enum MeshField {
     Octant(usize, usize),
     /// Of the tree: header, nodes, trees, order.
     Tree(Field),
-}
-
-impl Centre {
-    /// Every one, in the order of the frame.
-    pub const ALL: [Centre; 3] = [Centre::Box, Centre::Sphere, Centre::Geom];
 }
 
 impl InPolygon {
@@ -171,17 +160,128 @@ impl Derived<'_> {
 }
 
 impl MeshField {
+    /// Every field, in the order in which they are shown.
+    pub fn all(of: &Derived) -> Vec<MeshField> {
+        use MeshField::*;
+        let p = of.prepared;
+        let points = |n: usize, field: fn(usize, Axis) -> MeshField| {
+            (0..n).flat_map(move |k| AXES.map(|axis| field(k, axis))).collect::<Vec<_>>()
+        };
+        let mut all: Vec<MeshField> = AXES.map(Quantum).to_vec();
+        all.extend(CORNERS.iter().flat_map(|&corner| AXES.map(|axis| Box(corner, axis))));
+        all.extend([self::Centre::Box, self::Centre::Sphere].into_iter().flat_map(|c| AXES.map(|a| Centre(c, a))));
+        all.push(Radius);
+        all.extend((0..p.polygons.len() / RECORD).flat_map(|k| of.polygon_fields(k)));
+        all.push(MaterialCount);
+        all.extend((0..p.materials.len()).map(Material));
+        all.extend((0..p.polygon_material_indices.len()).map(MaterialIndex));
+        all.extend(points(p.vertices.stored.len(), Vertex));
+        all.extend(points(p.vertices.floats.len(), VertexFloat));
+        if let Some(shrunk) = &p.vertices_shrunk {
+            all.extend(points(shrunk.stored.len(), Shrunk));
+            all.extend(points(shrunk.floats.len(), ShrunkFloat));
+        }
+        if let Some(octants) = &p.octants {
+            all.extend((0..8).map(OctantCount));
+            let indices = |(k, list): (usize, &Vec<u32>)| (0..list.len()).map(move |i| Octant(k, i));
+            all.extend(octants.items.iter().enumerate().flat_map(indices));
+        }
+        all.extend(of.tree.into_iter().flat_map(Field::all).map(Tree));
+        all
+    }
+
+    /// Its bytes, where it is there. Of a polygon's kind and area the bits that are theirs.
+    pub fn raw(self, of: &Derived) -> Option<Vec<u8>> {
+        let p = of.prepared;
+        match self {
+            MeshField::Quantum(axis) => Some(word(on(p.quantum, axis))),
+            MeshField::Box(Corner::Min, axis) => Some(word(on(p.box_min, axis))),
+            MeshField::Box(Corner::Max, axis) => Some(word(on(p.box_max, axis))),
+            MeshField::Centre(Centre::Box, axis) => Some(word(on(p.box_center, axis))),
+            MeshField::Centre(Centre::Sphere, axis) => Some(word(on(p.sphere_center, axis))),
+            MeshField::Radius => Some(word(p.sphere_radius)),
+            MeshField::Polygon(k, at) => at.raw(of.polygon(k)?),
+            MeshField::MaterialCount => Some((p.materials_count as u32).to_le_bytes().to_vec()),
+            MeshField::Material(k) => p.materials.get(k).map(material_bytes),
+            MeshField::MaterialIndex(k) => p.polygon_material_indices.get(k).map(|&index| vec![index]),
+            MeshField::Vertex(k, axis) => stored(&p.vertices, k, axis),
+            MeshField::VertexFloat(k, axis) => read_back(&p.vertices, k, axis),
+            MeshField::Shrunk(k, axis) => stored(p.vertices_shrunk.as_ref()?, k, axis),
+            MeshField::ShrunkFloat(k, axis) => read_back(p.vertices_shrunk.as_ref()?, k, axis),
+            MeshField::OctantCount(k) => Some((p.octants.as_ref()?.items.get(k)?.len() as u32).to_le_bytes().to_vec()),
+            MeshField::Octant(k, i) => {
+                p.octants.as_ref()?.items.get(k)?.get(i).map(|index| index.to_le_bytes().to_vec())
+            }
+            MeshField::Tree(field) => field.raw(of.tree?),
+        }
+    }
+
+    /// The value of its bytes.
+    pub fn value_of(self, raw: &[u8]) -> Value {
+        let number = raw.iter().rev().fold(0u64, |sum, &byte| sum << 8 | byte as u64);
+        match self {
+            MeshField::Quantum(_) | MeshField::Box(..) | MeshField::Centre(..) | MeshField::Radius => {
+                Value::Word(number as u32)
+            }
+            MeshField::Polygon(_, InPolygon::Area | InPolygon::Radius)
+            | MeshField::VertexFloat(..)
+            | MeshField::ShrunkFloat(..) => Value::Word(number as u32),
+            MeshField::Polygon(_, InPolygon::Kind) => Value::Kind(number as u8),
+            MeshField::Polygon(_, InPolygon::Vertex(_)) => Value::Corner(number as u16),
+            MeshField::Polygon(_, InPolygon::Zeros) => Value::Zeros(raw.iter().all(|&byte| byte == 0)),
+            MeshField::Polygon(_, InPolygon::Link(_)) | MeshField::Vertex(..) | MeshField::Shrunk(..) => {
+                Value::Short(number as u16 as i16)
+            }
+            MeshField::Material(_) => Value::Material(number as u32, (number >> 32) as u32),
+            MeshField::MaterialCount
+            | MeshField::MaterialIndex(_)
+            | MeshField::OctantCount(_)
+            | MeshField::Octant(..) => Value::Number(number as u32),
+            MeshField::Tree(field) => field.value_of(raw),
+        }
+    }
+
+    /// Its value, where it is there.
+    pub fn value(self, of: &Derived) -> Option<Value> {
+        Some(self.value_of(&self.raw(of)?))
+    }
+
+    /// An address of the tree's header, which follows from no mesh.
+    pub fn is_given(self) -> bool {
+        matches!(self, MeshField::Tree(field) if field.is_given())
+    }
+
+    /// Whether a NaN in it was made by arithmetic, so that its bits are free. With a tree the frame is the tree's, and the
+    /// tree's box is folded over vertices that went through the transform.
+    pub fn is_made(self, with_tree: bool) -> bool {
+        match self {
+            MeshField::Quantum(_) | MeshField::VertexFloat(..) | MeshField::ShrunkFloat(..) => true,
+            MeshField::Box(..) | MeshField::Centre(..) | MeshField::Radius => with_tree,
+            MeshField::Tree(Field::Header(InHeader::Point(Point::Min | Point::Max, _))) => true,
+            MeshField::Tree(field) => field.is_made(),
+            _ => false,
+        }
+    }
+
+    /// Whether two have the same in it: the same bytes, or each some NaN that arithmetic made.
+    pub fn same(self, a: &Derived, b: &Derived) -> bool {
+        let made = self.is_made(a.tree.is_some()) && self.is_made(b.tree.is_some());
+        let (a, b) = (self.raw(a), self.raw(b));
+        let nan = |raw: &Option<Vec<u8>>| {
+            raw.as_ref().is_some_and(|raw| matches!(self.value_of(raw), Value::Word(w) if f32::from_bits(w).is_nan()))
+        };
+        a == b || made && nan(&a) && nan(&b)
+    }
+
     /// The rules that made it, by docs/RULES.md.
     pub fn rules(self, of: &Derived) -> &'static [Rule] {
         let tree = of.tree.is_some();
         match self {
             MeshField::Quantum(_) => &[Q1],
-            MeshField::Centre(Centre::Geom, _) => &[F4],
             MeshField::Box(..) if tree => &[K5, T1, F3],
             MeshField::Centre(..) if tree => &[K5, T2],
             MeshField::Radius if tree => &[K5, V4],
             MeshField::Box(..) | MeshField::Centre(..) | MeshField::Radius => &[K5, F4],
-            MeshField::PolygonBox(..) => &[G9, K1, F3],
             MeshField::Polygon(_, InPolygon::Kind) => &[G3, G4],
             MeshField::Polygon(_, InPolygon::Link(_)) => &[E2, G3, G7],
             MeshField::Polygon(_, InPolygon::Area | InPolygon::Radius) => &[G2, G3],
@@ -205,7 +305,6 @@ impl MeshField {
             MeshField::Centre(..) => "center".into(),
             MeshField::Radius => "radius".into(),
             MeshField::Polygon(k, _) => format!("polygon {k}"),
-            MeshField::PolygonBox(k, ..) => format!("polygon_box {k}"),
             MeshField::MaterialCount => "material_count".into(),
             MeshField::Material(_) => "material".into(),
             MeshField::MaterialIndex(_) => "material_index".into(),
@@ -221,7 +320,7 @@ impl MeshField {
     /// Its name within that: `link 1`, `y`, `min.x`; none where the part is the whole.
     pub fn name(self) -> String {
         match self {
-            MeshField::Box(corner, axis) | MeshField::PolygonBox(_, corner, axis) => format!("{corner}.{axis}"),
+            MeshField::Box(corner, axis) => format!("{corner}.{axis}"),
             MeshField::Centre(centre, axis) => format!("{centre}.{axis}"),
             MeshField::Quantum(axis)
             | MeshField::Vertex(_, axis)
@@ -243,16 +342,12 @@ impl MeshField {
         let number = |word: &str| word.parse::<usize>().ok();
         let axis = |word: &str| AXES.into_iter().find(|axis| axis.to_string() == word);
         let corners = || CORNERS.into_iter().flat_map(|c| AXES.map(|a| Box(c, a)));
-        let centres = || self::Centre::ALL.into_iter().flat_map(|c| AXES.map(|a| Centre(c, a)));
+        let centres = || [self::Centre::Box, self::Centre::Sphere].into_iter().flat_map(|c| AXES.map(|a| Centre(c, a)));
         Some(match words.iter().map(String::as_str).collect::<Vec<_>>()[..] {
             ["quantum", a] => Quantum(axis(a)?),
             ["box", name] => corners().find(|field| field.name() == name)?,
             ["center", name] => centres().find(|field| field.name() == name)?,
             ["radius"] => Radius,
-            ["polygon_box", k, name] => {
-                let (k, values) = (number(k)?, || CORNERS.into_iter().flat_map(|c| AXES.map(|a| (c, a))));
-                values().map(|(c, a)| PolygonBox(k, c, a)).find(|field| field.name() == name)?
-            }
             ["polygon", k, ref name @ ..] => Polygon(number(k)?, in_polygon(name)?),
             ["material_count"] => MaterialCount,
             ["material", k] => Material(number(k)?),
@@ -285,114 +380,6 @@ fn material_bytes(of: &BoundMaterial) -> Vec<u8> {
     [of.data1, of.data2].into_iter().flat_map(u32::to_le_bytes).collect()
 }
 
-impl Recorded for MeshField {
-    type Of<'r> = &'r Derived<'r>;
-
-    fn all(of: &Derived) -> Vec<MeshField> {
-        use MeshField::*;
-        let p = of.prepared;
-        let points = |n: usize, field: fn(usize, Axis) -> MeshField| {
-            (0..n).flat_map(move |k| AXES.map(|axis| field(k, axis))).collect::<Vec<_>>()
-        };
-        let mut all: Vec<MeshField> = AXES.map(Quantum).to_vec();
-        all.extend(CORNERS.iter().flat_map(|&corner| AXES.map(|axis| Box(corner, axis))));
-        all.extend(self::Centre::ALL.into_iter().flat_map(|c| AXES.map(|a| Centre(c, a))));
-        all.push(Radius);
-        all.extend((0..p.polygons.len() / RECORD).flat_map(|k| of.polygon_fields(k)));
-        let corners = |k: usize| CORNERS.iter().flat_map(move |&corner| AXES.map(|axis| PolygonBox(k, corner, axis)));
-        all.extend((0..of.boxes.len() / ENTRY).flat_map(corners));
-        all.push(MaterialCount);
-        all.extend((0..p.materials.len()).map(Material));
-        all.extend((0..p.polygon_material_indices.len()).map(MaterialIndex));
-        all.extend(points(p.vertices.stored.len(), Vertex));
-        all.extend(points(p.vertices.floats.len(), VertexFloat));
-        if let Some(shrunk) = &p.vertices_shrunk {
-            all.extend(points(shrunk.stored.len(), Shrunk));
-            all.extend(points(shrunk.floats.len(), ShrunkFloat));
-        }
-        if let Some(octants) = &p.octants {
-            all.extend((0..8).map(OctantCount));
-            let indices = |(k, list): (usize, &Vec<u32>)| (0..list.len()).map(move |i| Octant(k, i));
-            all.extend(octants.items.iter().enumerate().flat_map(indices));
-        }
-        all.extend(of.tree.into_iter().flat_map(Field::all).map(Tree));
-        all
-    }
-
-    /// Of a polygon's kind and area the bits that are theirs.
-    fn raw(self, of: &Derived) -> Option<Vec<u8>> {
-        let p = of.prepared;
-        match self {
-            MeshField::Quantum(axis) => Some(word(on(p.quantum, axis))),
-            MeshField::Box(Corner::Min, axis) => Some(word(on(p.box_min, axis))),
-            MeshField::Box(Corner::Max, axis) => Some(word(on(p.box_max, axis))),
-            MeshField::Centre(Centre::Box, axis) => Some(word(on(p.box_center, axis))),
-            MeshField::Centre(Centre::Sphere, axis) => Some(word(on(p.sphere_center, axis))),
-            MeshField::Centre(Centre::Geom, axis) => Some(word(on(p.center_geom, axis))),
-            MeshField::Radius => Some(word(p.sphere_radius)),
-            MeshField::PolygonBox(k, corner, axis) => {
-                let at = k.checked_mul(ENTRY)?.checked_add(4 + 12 * corner as usize + 4 * axis as usize)?;
-                Some(of.boxes.get(at..)?.get(..4)?.to_vec())
-            }
-            MeshField::Polygon(k, at) => at.raw(of.polygon(k)?),
-            MeshField::MaterialCount => Some((p.materials_count as u32).to_le_bytes().to_vec()),
-            MeshField::Material(k) => p.materials.get(k).map(material_bytes),
-            MeshField::MaterialIndex(k) => p.polygon_material_indices.get(k).map(|&index| vec![index]),
-            MeshField::Vertex(k, axis) => stored(&p.vertices, k, axis),
-            MeshField::VertexFloat(k, axis) => read_back(&p.vertices, k, axis),
-            MeshField::Shrunk(k, axis) => stored(p.vertices_shrunk.as_ref()?, k, axis),
-            MeshField::ShrunkFloat(k, axis) => read_back(p.vertices_shrunk.as_ref()?, k, axis),
-            MeshField::OctantCount(k) => Some((p.octants.as_ref()?.items.get(k)?.len() as u32).to_le_bytes().to_vec()),
-            MeshField::Octant(k, i) => {
-                p.octants.as_ref()?.items.get(k)?.get(i).map(|index| index.to_le_bytes().to_vec())
-            }
-            MeshField::Tree(field) => field.raw(of.tree?),
-        }
-    }
-
-    fn value_of(self, raw: &[u8]) -> Value {
-        let number = raw.iter().rev().fold(0u64, |sum, &byte| sum << 8 | byte as u64);
-        match self {
-            MeshField::Quantum(_) | MeshField::Box(..) | MeshField::Centre(..) | MeshField::Radius => {
-                Value::Word(number as u32)
-            }
-            MeshField::Polygon(_, InPolygon::Area | InPolygon::Radius)
-            | MeshField::PolygonBox(..)
-            | MeshField::VertexFloat(..)
-            | MeshField::ShrunkFloat(..) => Value::Word(number as u32),
-            MeshField::Polygon(_, InPolygon::Kind) => Value::Kind(number as u8),
-            MeshField::Polygon(_, InPolygon::Vertex(_)) => Value::Corner(number as u16),
-            MeshField::Polygon(_, InPolygon::Zeros) => Value::Zeros(raw.iter().all(|&byte| byte == 0)),
-            MeshField::Polygon(_, InPolygon::Link(_)) | MeshField::Vertex(..) | MeshField::Shrunk(..) => {
-                Value::Short(number as u16 as i16)
-            }
-            MeshField::Material(_) => Value::Material(number as u32, (number >> 32) as u32),
-            MeshField::MaterialCount
-            | MeshField::MaterialIndex(_)
-            | MeshField::OctantCount(_)
-            | MeshField::Octant(..) => Value::Number(number as u32),
-            MeshField::Tree(field) => field.value_of(raw),
-        }
-    }
-
-    fn is_given(self) -> bool {
-        matches!(self, MeshField::Tree(field) if field.is_given())
-    }
-
-    /// With a tree the frame is the tree's, and the tree's box is folded over vertices that went through the transform.
-    fn is_made(self, of: &Derived) -> bool {
-        match self {
-            MeshField::Quantum(_) | MeshField::VertexFloat(..) | MeshField::ShrunkFloat(..) => true,
-            MeshField::PolygonBox(..) => true,
-            MeshField::Centre(Centre::Geom, _) => false,
-            MeshField::Box(..) | MeshField::Centre(..) | MeshField::Radius => of.tree.is_some(),
-            MeshField::Tree(Field::Header(InHeader::Point(Point::Min | Point::Max, _))) => true,
-            MeshField::Tree(field) => of.tree.is_some_and(|tree| field.is_made(tree)),
-            _ => false,
-        }
-    }
-}
-
 impl fmt::Display for MeshField {
     fn fmt(&self, f: &mut fmt::Formatter) -> fmt::Result {
         f.write_str(format!("{} {}", self.part(), self.name()).trim_end())
@@ -417,7 +404,6 @@ impl fmt::Display for Centre {
         f.write_str(match self {
             Centre::Box => "box",
             Centre::Sphere => "sphere",
-            Centre::Geom => "geom",
         })
     }
 }

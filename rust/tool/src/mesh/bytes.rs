@@ -1,11 +1,15 @@
 //! The bytes of a prepared mesh, part by part as a folder has them, and the values that they stand for.
 
-use crate::dump::{entry_bytes, Records};
-use bounds::prepare::Quantised;
-use bounds::{BoundMaterial, BoundVertex, Geometry, Octants, Prepared, Refusal, Vec3};
+use crate::dump::Records;
+use bounds::bvh::BuiltTree;
+use bounds::prepare::{PreparedTree, Quantised};
+use bounds::{tree_header, BoundMaterial, BoundVertex, Geometry, Octants, Prepared, Refusal, Vec3};
 
-/// Bytes of quantum, box_min, box_max, box_center, sphere_center, sphere_radius and center_geom, one behind the other.
-pub const FRAME: usize = 76;
+/// Where the tree's header is thought to lie; its records lie behind it.
+const HEADER_BASE: u64 = 0x5000_0000;
+
+/// Bytes of quantum, box_min, box_max, box_center, sphere_center and sphere_radius, one behind the other.
+pub const FRAME: usize = 64;
 
 /// Bytes of the octants before their lists: eight counts.
 pub const COUNTS: usize = 32;
@@ -34,19 +38,16 @@ pub struct Parts {
     pub shrunk_floats: Vec<u8>,
     /// Kind 4: eight counts, then the lists one behind the other, four bytes each; else empty.
     pub octants: Vec<u8>,
-    /// Kind 8 with polygons: 28 bytes a polygon, its box where the given vertices stand; else empty.
-    pub boxes: Vec<u8>,
     /// Kind 8 with polygons.
     pub tree: Option<Records>,
 }
 
 impl Parts {
-    /// What the library made, of a bound of this kind.
+    /// What the library made.
     pub fn of(kind: u8, prepared: &Prepared) -> Result<Parts, Refusal> {
         let &Prepared { quantum, box_min, box_max, box_center, sphere_center, sphere_radius, .. } = prepared;
         let points = [quantum, box_min, box_max, box_center, sphere_center];
-        let center = point_bytes(&[prepared.center_geom]);
-        let frame = point_bytes(&points).into_iter().chain(sphere_radius.to_le_bytes()).chain(center).collect();
+        let frame = point_bytes(&points).into_iter().chain(sphere_radius.to_le_bytes()).collect();
         let shrunk = prepared.vertices_shrunk.as_ref();
         Ok(Parts {
             kind,
@@ -62,12 +63,11 @@ impl Parts {
             shrunk: shrunk.map_or(Vec::new(), |vertices| stored_bytes(&vertices.stored)),
             shrunk_floats: shrunk.map_or(Vec::new(), |vertices| point_bytes(&vertices.floats)),
             octants: prepared.octants.as_ref().map_or(Vec::new(), octant_bytes),
-            boxes: prepared.bvh.iter().flat_map(|tree| tree.boxes()).flat_map(entry_bytes).collect(),
-            tree: prepared.bvh.as_ref().map(|tree| Records::of(tree)).transpose()?,
+            tree: prepared.bvh.as_ref().map(records).transpose()?,
         })
     }
 
-    /// The values that they stand for, but for the tree: its records may be damaged, and stay bytes.
+    /// The values that they stand for.
     pub fn prepared(&self) -> Prepared {
         let at = |k: usize| floats3(&self.frame, 12 * k);
         let (plain, v) = (self.kind == Geometry::PLAIN, self.vertices_count);
@@ -79,7 +79,6 @@ impl Parts {
             box_center: at(3),
             sphere_center: at(4),
             sphere_radius: f32::from_bits(word(&self.frame, 60)),
-            center_geom: floats3(&self.frame, 64),
             polygons: self.polygons.clone(),
             materials: self.materials.chunks_exact(8).map(material).collect(),
             materials_count: self.materials_count,
@@ -87,7 +86,12 @@ impl Parts {
             vertices: quantised(&self.vertices, &self.floats),
             vertices_shrunk: (plain && v > 0).then(|| quantised(&self.shrunk, &self.shrunk_floats)),
             octants: plain.then(|| Octants { items: std::array::from_fn(|k| self.octant(k)) }),
-            bvh: None,
+            bvh: self.tree.as_ref().map(|records| PreparedTree {
+                built: built(records, self.polygons_count),
+                node_bytes: records.nodes.clone(),
+                tree_bytes: records.trees.clone(),
+                order: records.order.clone(),
+            }),
         }
     }
 
@@ -115,6 +119,30 @@ impl Parts {
 fn octant_bytes(octants: &Octants) -> Vec<u8> {
     let counts = octants.items.iter().map(|list| list.len() as u32);
     counts.chain(octants.items.iter().flatten().copied()).flat_map(u32::to_le_bytes).collect()
+}
+
+/// The records of a tree over polygons, with a header.
+fn records(tree: &PreparedTree) -> Result<Records, Refusal> {
+    let mut header = [0; bounds::bvh::HEADER];
+    let nodes = HEADER_BASE + header.len() as u64;
+    tree_header(&mut header, &tree.built.bvh(nodes, nodes + tree.node_bytes.len() as u64))?;
+    let (nodes, trees, order) = (tree.node_bytes.clone(), tree.tree_bytes.clone(), tree.order.clone());
+    Ok(Records { header, nodes, trees, order })
+}
+
+/// The values of a tree, by its header.
+fn built(records: &Records, items: usize) -> BuiltTree {
+    BuiltTree {
+        nodes_count: records.header_word(8),
+        nodes_capacity: records.header_word(12),
+        trees_count: records.tree_count() as u32,
+        items_count: items as u32,
+        bb_min: records.header_point(32),
+        bb_max: records.header_point(48),
+        bb_center: records.centre(),
+        quantum_inverse: records.inverse(),
+        quantum: records.quantum(),
+    }
 }
 
 /// The word at a byte.

@@ -1,20 +1,40 @@
-//! A prepared mesh as a folder. docs/FILES.md has its files, byte by byte. mesh.txt, the input as our own text, may be missing,
-//! where only a builder's records are at hand; listing.txt is for people and is not read.
+//! A prepared mesh as a folder:
+//!
+//! ```text
+//! dump.txt           bounds dump 1
+//!                    kind mesh
+//!                    bound 8             4 or 8
+//!                    polygons 3042
+//!                    vertices 1600
+//!                    materials 3         before they were filled up to four
+//! mesh.txt           the input, as our own text
+//! frame.bin          quantum, box_min, box_max, box_center, sphere_center, sphere_radius: 16 floats
+//! polygons.bin       16 bytes a polygon, linked; of kind 8 in the order of the leaves
+//! materials.bin      8 bytes a material, filled up to four
+//! indices.bin        a byte a polygon: its material's place in materials.bin
+//! vertices.bin       6 bytes a vertex
+//! floats.bin         12 bytes a vertex: what these stand for
+//! shrunk.bin, shrunk_floats.bin                      kind 4 with vertices: the same of the shrunk ones
+//! octants.bin        kind 4: eight counts, then the eight lists one behind the other, four bytes each
+//! header.bin, nodes.bin, trees.bin, order.bin        kind 8 with polygons: as of boxes
+//! listing.txt        all of it as text, a line a record
+//! ```
+//!
+//! All numbers are little-endian. mesh.txt may be missing, where only a builder's records are at hand; listing.txt is for
+//! people and is not read.
 
 use super::bytes::{word, Parts, COUNTS, FRAME};
-use super::{shrunk, text, Given, Mesh};
-use crate::boxes::{self, number, read_file, Boxes};
-use crate::dump::{exactly, manifest, tree_files, tree_records, Dump, Kind, ENTRY};
+use super::{items, text, Given, Mesh};
+use crate::boxes::{self, read_file, Boxes};
+use crate::dump::{exactly, manifest, tree_files, tree_records, Dump, Kind};
 use crate::failure::Failure;
 use crate::field::mesh::Derived;
-use crate::number::{counted, float};
-use crate::output::{write_folder, Target};
-use crate::world::cut::Limits;
+use crate::number::counted;
+use crate::output::write_folder;
 use bounds::octants::VERTICES;
 use bounds::prepare::MATERIALS;
 use bounds::shrink::POLYGONS;
-use bounds::{Geometry, Polygon, Prepared, Refusal, ShrunkBy};
-use std::collections::HashSet;
+use bounds::{Geometry, Prepared, Refusal};
 use std::path::Path;
 
 /// The most items of a leaf of a prepared mesh's tree.
@@ -29,17 +49,15 @@ pub struct MeshFolder {
     pub parts: Parts,
     /// The values that the bytes stand for.
     pub prepared: Prepared,
-    /// How the vertices were shrunk, where that is known: of kind 4 with vertices.
-    pub shrunk_by: Option<ShrunkBy>,
 }
 
 impl MeshFolder {
     /// What the library makes of a mesh.
     pub fn prepare(name: &str, mesh: Mesh) -> Result<MeshFolder, Failure> {
         let geometry = &mesh.geometry;
-        let (prepared, shrunk_by) = shrunk::prepare(geometry).map_err(|refusal| refused(name, geometry, refusal))?;
+        let prepared = geometry.prepare().map_err(|refusal| refused(name, geometry, refusal))?;
         let parts = Parts::of(geometry.kind, &prepared)?;
-        Ok(MeshFolder { name: name.into(), mesh: Some(mesh), parts, prepared, shrunk_by })
+        Ok(MeshFolder { name: name.into(), mesh: Some(mesh), parts, prepared })
     }
 
     /// Its input, without which nothing can be explained.
@@ -57,8 +75,7 @@ impl MeshFolder {
 
     /// What was derived, as its fields are read.
     pub fn derived(&self) -> Derived<'_> {
-        let Parts { tree, boxes, .. } = &self.parts;
-        Derived { prepared: &self.prepared, tree: tree.as_ref(), boxes }
+        Derived { prepared: &self.prepared, tree: self.parts.tree.as_ref() }
     }
 
     /// The tree over its polygons as a dump of boxes: list places are those of the given polygons, positions those of the
@@ -68,7 +85,7 @@ impl MeshFolder {
         let boxes = |mesh: &Mesh| -> Result<Boxes, Failure> {
             let origin =
                 boxes::Origin::Polygons { file: mesh.origin.file.clone(), lines: mesh.origin.polygons.clone() };
-            Ok(Boxes { items: mesh.geometry.items()?, origin })
+            Ok(Boxes { items: items(&mesh.geometry)?, origin })
         };
         Ok(Some(Dump {
             name: self.name.clone(),
@@ -80,15 +97,10 @@ impl MeshFolder {
     }
 
     /// Writes it as a folder, whole or not at all.
-    pub fn write(&self, target: &Target) -> Result<(), Failure> {
-        write_folder(target, &self.files())
-    }
-
-    /// The files of its folder.
-    pub fn files(&self) -> Vec<(&'static str, Vec<u8>)> {
+    pub fn write(&self, path: &str) -> Result<(), Failure> {
         let parts = &self.parts;
         let mut files: Vec<(&str, Vec<u8>)> = vec![
-            ("dump.txt", first_file(parts, self.shrunk_by).into_bytes()),
+            ("dump.txt", first_file(parts).into_bytes()),
             ("frame.bin", parts.frame.clone()),
             ("polygons.bin", parts.polygons.clone()),
             ("materials.bin", parts.materials.clone()),
@@ -105,13 +117,12 @@ impl MeshFolder {
             }
         }
         if let Some(records) = &parts.tree {
-            files.push(("boxes.bin", parts.boxes.clone()));
             files.extend(tree_files(records));
         }
         if let Some(mesh) = &self.mesh {
-            files.push(("mesh.txt", text::write(mesh).into_bytes()));
+            files.push(("mesh.txt", text::write(&mesh.geometry, &mesh.names).into_bytes()));
         }
-        files
+        write_folder(path, &files)
     }
 
     /// Reads a folder.
@@ -123,8 +134,7 @@ impl MeshFolder {
             false => None,
         };
         let parts = read_parts(path, &first)?;
-        let (prepared, shrunk_by) = (parts.prepared(), first.shrunk_by);
-        let found = MeshFolder { name: path.into(), mesh, prepared, parts, shrunk_by };
+        let found = MeshFolder { name: path.into(), mesh, prepared: parts.prepared(), parts };
         found.belongs_together(&file("dump.txt"))?;
         Ok(found)
     }
@@ -150,7 +160,7 @@ fn read_parts(path: &str, first: &First) -> Result<Parts, Failure> {
     let part = |name: &str, size: usize, count: usize, of: &str| {
         exactly(&file(name), size, count, &format!("{of}, by dump.txt"))
     };
-    let &First { bound, polygons: p, vertices: v, materials, .. } = first;
+    let &First { bound, polygons: p, vertices: v, materials } = first;
     let plain = bound == Geometry::PLAIN;
     let shrunk = |name: &str, size: usize| match plain && v > 0 {
         true => part(name, size, v, "vertices"),
@@ -170,7 +180,6 @@ fn read_parts(path: &str, first: &First) -> Result<Parts, Failure> {
         shrunk: shrunk("shrunk.bin", 6)?,
         shrunk_floats: shrunk("shrunk_floats.bin", 12)?,
         octants: if plain { read_octants(&file("octants.bin"))? } else { Vec::new() },
-        boxes: if !plain && p > 0 { read_boxes(&file("boxes.bin"), p)? } else { Vec::new() },
         tree: if !plain && p > 0 { Some(tree_records(path, p)?) } else { None },
     };
     match &parts.tree {
@@ -180,19 +189,6 @@ fn read_parts(path: &str, first: &First) -> Result<Parts, Failure> {
             Err(Failure::File(words))
         }
         _ => Ok(parts),
-    }
-}
-
-/// The boxes of so many polygons, each of which is marked as present.
-fn read_boxes(path: &str, polygons: usize) -> Result<Vec<u8>, Failure> {
-    let bytes = exactly(path, ENTRY, polygons, "polygons, by dump.txt")?;
-    match bytes.chunks_exact(ENTRY).position(|entry| word(entry, 0) != 1) {
-        None => Ok(bytes),
-        Some(k) => {
-            let (at, mark) = (ENTRY * k, word(&bytes, ENTRY * k));
-            let words = format!("{path}, bytes {at}-{}: mark {mark}; expected 1: polygon {k} has a box", at + 3);
-            Err(Failure::File(words))
-        }
     }
 }
 
@@ -212,17 +208,6 @@ fn read_octants(path: &str) -> Result<Vec<u8>, Failure> {
     Ok(bytes)
 }
 
-/// What helps a mesh over the limits.
-const SPLIT: &str = ": --split cuts it into children within the limits";
-const MERGE: &str = ": --merge-materials makes fewer of them, --split cuts it into children within the limits";
-
-/// How many different materials the polygons of a geometry use.
-fn materials_used(geometry: &Geometry) -> usize {
-    let value =
-        |polygon: &Polygon| geometry.materials.get(polygon.material() as usize).map_or((0, 0), |m| (m.data1, m.data2));
-    geometry.polygons.iter().map(value).collect::<HashSet<_>>().len()
-}
-
 /// A refusal, what the mesh is, and what of it is to be changed.
 fn refused(name: &str, geometry: &Geometry, refusal: Refusal) -> Failure {
     let (p, v, m) = (geometry.polygons.len(), geometry.vertices.len(), geometry.materials.len());
@@ -233,18 +218,14 @@ fn refused(name: &str, geometry: &Geometry, refusal: Refusal) -> Failure {
         Refusal::ListTooLong => {
             let over = [(p, POLYGONS, "polygons"), (v, VERTICES, "vertices"), (m, MATERIALS, "materials")];
             let over = over.iter().filter(|(n, most, _)| n > most);
-            let many: String = over.map(|(n, most, of)| format!("; {} {of} too many", n - most)).collect();
-            many + if m > MATERIALS { MERGE } else { SPLIT }
+            over.map(|(n, most, of)| format!("; {} {of} too many", n - most)).collect()
         }
         Refusal::InfiniteMargin => format!("; margin {}", crate::number::float(geometry.margin)),
-        Refusal::TooManyMaterials => {
-            let used = materials_used(geometry);
-            format!("; its polygons use {used}, {} too many{MERGE}", used.saturating_sub(Limits::MESH.materials))
-        }
-        Refusal::TooManyNodes => SPLIT.into(),
+        Refusal::TooManyMaterials => "; its polygons may use 255".into(),
+        Refusal::TooManyNodes => "; split it: of a mesh the threshold is four".into(),
         _ => String::new(),
     };
-    Failure::library(refusal, format!("{refusal}\n{name}: {mesh}{change}"))
+    Failure::Refused(format!("{refusal}\n{name}: {mesh}{change}"))
 }
 
 /// `1 vertex`, `2 vertices`.
@@ -258,21 +239,12 @@ struct First {
     polygons: usize,
     vertices: usize,
     materials: usize,
-    /// Where it is said.
-    shrunk_by: Option<ShrunkBy>,
 }
 
-fn first_file(parts: &Parts, shrunk_by: Option<ShrunkBy>) -> String {
+fn first_file(parts: &Parts) -> String {
     let &Parts { kind, polygons_count, vertices_count, materials_count, .. } = parts;
     let head = format!("{}\nkind {}\n", crate::dump::FIRST_LINE, Kind::Mesh.name());
-    let counts =
-        format!("bound {kind}\npolygons {polygons_count}\nvertices {vertices_count}\nmaterials {materials_count}\n");
-    let shrunk = match shrunk_by {
-        Some(ShrunkBy::Margin(margin)) => format!("shrunk margin {}\n", float(margin)),
-        Some(ShrunkBy::Normals) => "shrunk normals\n".into(),
-        Some(ShrunkBy::NoVertices) | None => String::new(),
-    };
-    head + &counts + &shrunk
+    head + &format!("bound {kind}\npolygons {polygons_count}\nvertices {vertices_count}\nmaterials {materials_count}\n")
 }
 
 fn first_lines(path: &str) -> Result<First, Failure> {
@@ -281,21 +253,5 @@ fn first_lines(path: &str) -> Result<First, Failure> {
     if bound != Geometry::PLAIN as usize && bound != Geometry::BVH as usize {
         return Err(Failure::File(format!("{path}, line 3: 'bound {bound}'; expected `bound 4` or `bound 8`")));
     }
-    let shrinks = bound == Geometry::PLAIN as usize && vertices > 0;
-    Ok(First { bound: bound as u8, polygons, vertices, materials, shrunk_by: shrunk_line(path, shrinks)? })
-}
-
-/// The seventh line of dump.txt, where there is one: how the vertices of kind 4 were shrunk.
-fn shrunk_line(path: &str, shrinks: bool) -> Result<Option<ShrunkBy>, Failure> {
-    let bytes = read_file(path)?;
-    let text = String::from_utf8_lossy(&bytes);
-    let Some(line) = text.lines().nth(6) else { return Ok(None) };
-    let by = match line.split(' ').collect::<Vec<_>>()[..] {
-        ["shrunk", "margin", margin] => number(margin).ok().map(ShrunkBy::Margin),
-        ["shrunk", "normals"] => Some(ShrunkBy::Normals),
-        _ => None,
-    };
-    let expected = if shrinks { "`shrunk margin N` or `shrunk normals`" } else { "no line: nothing is shrunk" };
-    let wrong = || format!("{path}, line 7: '{}'; expected {expected}", line.escape_debug());
-    by.filter(|_| shrinks).map(Some).ok_or_else(|| Failure::File(wrong()))
+    Ok(First { bound: bound as u8, polygons, vertices, materials })
 }

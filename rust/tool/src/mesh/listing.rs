@@ -1,8 +1,6 @@
 //! A prepared mesh as text, a line a record: what people compare.
 
-use super::bytes::word;
 use super::folder::MeshFolder;
-use crate::dump::ENTRY;
 use crate::number::float;
 use bounds::{BoundVertex, Polygon, Vec3};
 
@@ -23,18 +21,12 @@ impl MeshFolder {
             ("sphere_center", p.sphere_center),
         ];
         text.extend(points.map(|(name, v)| format!("{name} {}\n", point(v))));
-        text += &format!("sphere_radius {}\n", float(p.sphere_radius));
-        text += &format!("center_geom {}\nmaterials {}\n", point(p.center_geom), p.materials_count);
+        text += &format!("sphere_radius {}\nmaterials {}\n", float(p.sphere_radius), p.materials_count);
         for (k, m) in p.materials.iter().enumerate() {
             text += &format!("material {k} 0x{:08X} 0x{:08X}\n", m.data1, m.data2);
         }
         for (k, (record, index)) in p.polygons.chunks_exact(16).zip(&p.polygon_material_indices).enumerate() {
             text += &format!("polygon {k} {} material {index}\n", polygon(record));
-        }
-        for (k, entry) in self.parts.boxes.chunks_exact(ENTRY).enumerate() {
-            let numbers: String =
-                entry[4..].chunks_exact(4).map(|value| format!(" {}", float(f32::from_bits(word(value, 0))))).collect();
-            text += &format!("polygon_box {k}{numbers}\n");
         }
         let vertices = |name: &str, of: &bounds::prepare::Quantised| -> String {
             let line = |(k, (&BoundVertex(x, y, z), &v)): (usize, (&BoundVertex, &Vec3))| {

@@ -1,36 +1,8 @@
 //! Lines and numbers of a mesh's text.
 
-pub use crate::boxes::{number, unmarked};
+pub use crate::boxes::number;
 use crate::failure::Failure;
 use bounds::Vec3;
-use std::borrow::Cow;
-
-/// A file's letters, and how they were read.
-pub struct Text<'a> {
-    pub letters: Cow<'a, str>,
-    /// It is no UTF-8: each byte is a letter of Latin-1.
-    pub latin_1: bool,
-}
-
-/// The text of a file: UTF-8, or else Latin-1, in which every byte is a letter; so many exporters write names and comments.
-/// What has control characters that no text has is neither.
-pub fn text<'a>(path: &str, bytes: &'a [u8]) -> Result<Text<'a>, Failure> {
-    if bytes.starts_with(b"\xFF\xFE") || bytes.starts_with(b"\xFE\xFF") {
-        return Err(wrong(path, 1, "text in UTF-16; expected UTF-8 or Latin-1"));
-    }
-    let bytes = unmarked(bytes);
-    let found = std::str::from_utf8(bytes);
-    let control = |byte: u8| byte < b' ' && !byte.is_ascii_whitespace();
-    let odd = |&byte: &u8| byte == 0 || found.is_err() && control(byte);
-    if let Some(at) = bytes.iter().position(odd) {
-        let line = 1 + bytes[..at].iter().filter(|&&byte| byte == b'\n').count();
-        return Err(wrong(path, line, format!("byte {:02X}, which no text has; expected text", bytes[at])));
-    }
-    Ok(match found {
-        Ok(letters) => Text { letters: letters.into(), latin_1: false },
-        Err(_) => Text { letters: bytes.iter().map(|&byte| char::from(byte)).collect(), latin_1: true },
-    })
-}
 
 /// A line that says something: its number from 1, its first word, and the words behind it.
 pub struct Said<'a> {
@@ -41,13 +13,17 @@ pub struct Said<'a> {
 }
 
 /// The lines that say something. `#` begins a comment.
-pub fn lines<'a>(text: &'a str) -> Vec<Said<'a>> {
+pub fn lines<'a>(path: &str, bytes: &'a [u8]) -> Result<Vec<Said<'a>>, Failure> {
+    let text = std::str::from_utf8(bytes).map_err(|error| {
+        let line = 1 + bytes[..error.valid_up_to()].iter().filter(|&&b| b == b'\n').count();
+        wrong(path, line, "bytes that are no text; expected text in UTF-8")
+    })?;
     let said = |(at, line): (usize, &'a str)| {
         let (said, comment) = line.split_once('#').unwrap_or((line, ""));
         let mut words = said.split_ascii_whitespace();
         Some(Said { line: at + 1, word: words.next()?, rest: words.collect(), comment: comment.trim() })
     };
-    text.lines().enumerate().filter_map(said).collect()
+    Ok(text.lines().enumerate().filter_map(said).collect())
 }
 
 /// A file that does not say what it should.
@@ -66,15 +42,7 @@ pub fn shown(word: &str) -> String {
     }
 }
 
-impl<'a> Said<'a> {
-    /// The line up to a word, and the words behind it where it is there.
-    pub fn parted(&self, at: &str) -> (Said<'a>, Option<Vec<&'a str>>) {
-        let Said { line, word, comment, .. } = *self;
-        let k = self.rest.iter().position(|&word| word == at);
-        let rest = self.rest[..k.unwrap_or(self.rest.len())].to_vec();
-        (Said { line, word, rest, comment }, k.map(|k| self.rest[k + 1..].to_vec()))
-    }
-
+impl Said<'_> {
     /// So many numbers behind the word, and no more.
     pub fn floats<const N: usize>(&self, of: &str) -> Result<[f32; N], String> {
         let found = self.rest.len();

@@ -8,7 +8,7 @@ use std::ops::Range;
 pub fn rules_of(field: MeshField, of: &Derived) -> Vec<Rule> {
     let more: &[Rule] = match (field, of.tree.is_some()) {
         (MeshField::Polygon(_, InPolygon::Link(_)), true) => &[K2, K3],
-        (MeshField::Polygon(..) | MeshField::PolygonBox(..) | MeshField::MaterialIndex(_), true) => &[K2],
+        (MeshField::Polygon(..) | MeshField::MaterialIndex(_), true) => &[K2],
         (MeshField::Polygon(_, InPolygon::Link(_)), false) => &[],
         (MeshField::Polygon(..), false) => &[G12],
         (MeshField::Octant(..) | MeshField::OctantCount(_), _) => &[K6],
@@ -28,9 +28,7 @@ pub fn place_of(field: MeshField, of: &Derived) -> Option<Range<usize>> {
         MeshField::Box(corner, axis) => four(12 + 12 * corner as usize + 4 * axis as usize),
         MeshField::Centre(Centre::Box, axis) => four(36 + 4 * axis as usize),
         MeshField::Centre(Centre::Sphere, axis) => four(48 + 4 * axis as usize),
-        MeshField::Centre(Centre::Geom, axis) => four(64 + 4 * axis as usize),
         MeshField::Radius => four(60),
-        MeshField::PolygonBox(_, corner, axis) => four(4 + 12 * corner as usize + 4 * axis as usize),
         MeshField::Polygon(_, InPolygon::Zeros) => return None,
         MeshField::Polygon(k, at) => in_record(at, of.polygon(k)?[0] & 7),
         MeshField::MaterialCount => return None,

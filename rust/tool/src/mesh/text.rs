@@ -17,7 +17,6 @@
 //! capsule 0 2 3 0.5             its material's number, two vertices, the radius
 //! box 0 1 2 3 4                 its material's number, four vertices
 //! cylinder 0 2 3 0.5            as a capsule
-//! source terrain.obj            what it was made of, see [`source`](super::source)
 //! ```
 //!
 //! `#` begins a comment; a material's is its name. Numbers count from 0 in the order of the lines. Floats are decimals, `inf`, `nan`, or `0x` and the
@@ -26,8 +25,7 @@
 
 use super::computed::complete;
 use super::origin::{Of, Origin};
-use super::parse::{self, bits, lines, number, shown, whole, wrong, Said};
-use super::source::{heading, Source, FROM};
+use super::parse::{bits, lines, number, shown, whole, wrong, Said};
 use super::{Form, Mesh, MARGIN};
 use crate::failure::Failure;
 use crate::number::{counted, float as decimal};
@@ -42,10 +40,9 @@ const EXPECTED: &str =
 
 /// The mesh of a text.
 pub fn mesh(path: &str, bytes: &[u8]) -> Result<Mesh, Failure> {
-    let read = parse::text(path, bytes)?;
-    let lines = lines(&read.letters);
-    let rest = match lines.split_first() {
-        Some((first, rest)) if said(first) == FIRST_LINE => rest,
+    let lines = lines(path, bytes)?;
+    let (first, rest) = match lines.split_first() {
+        Some((first, rest)) if said(first) == FIRST_LINE => (first, rest),
         Some((first, _)) => {
             let words = format!("'{}'; expected `{FIRST_LINE}`, or an .obj with its v and f", shown(&said(first)));
             return Err(wrong(path, first.line, words));
@@ -59,13 +56,11 @@ pub fn mesh(path: &str, bytes: &[u8]) -> Result<Mesh, Failure> {
     let mut geometry = Geometry::new(Geometry::BVH);
     geometry.margin = MARGIN;
     let mut mesh = Mesh { geometry, origin: Origin::new(path, Form::Text), names: Vec::new() };
-    mesh.origin.latin_1 = read.latin_1;
-    let mut source = Source::default();
+    debug_assert!(first.line > 0);
     for line in rest {
-        put(&mut mesh, &mut source, line).map_err(|words| wrong(path, line.line, words))?;
+        put(&mut mesh, line).map_err(|words| wrong(path, line.line, words))?;
     }
     complete(&mut mesh.geometry, &mesh.origin);
-    source.complete(&mut mesh)?;
     Ok(mesh)
 }
 
@@ -74,11 +69,8 @@ fn said(line: &Said) -> String {
 }
 
 /// What a line says.
-fn put(mesh: &mut Mesh, source: &mut Source, line: &Said) -> Result<(), String> {
+fn put(mesh: &mut Mesh, line: &Said) -> Result<(), String> {
     let geometry = &mut mesh.geometry;
-    if matches!(line.word, "source" | "up") {
-        return source.put(line);
-    }
     if let Some(of) = Of::ALL.into_iter().find(|of| of.name() == line.word) {
         if mesh.origin.bound.iter().any(|&(said, _)| said == of) {
             return Err(format!("{} is said a second time; expected it once", line.word));
@@ -86,7 +78,6 @@ fn put(mesh: &mut Mesh, source: &mut Source, line: &Said) -> Result<(), String> 
         mesh.origin.bound.push((of, line.line));
         return put_value(geometry, of, line);
     }
-    let (line, from) = line.parted(FROM);
     match line.word {
         "material" => {
             let [data1, data2] = line.rest[..] else {
@@ -97,17 +88,15 @@ fn put(mesh: &mut Mesh, source: &mut Source, line: &Said) -> Result<(), String> 
             mesh.names.push(line.comment.into());
         }
         "vertex" => {
-            let given = line.point()?;
-            geometry.vertices.push(given);
-            mesh.origin.given.push(given);
+            geometry.vertices.push(line.point()?);
             mesh.origin.vertices.push(line.line);
         }
         _ => {
-            geometry.polygons.push(polygon(&line)?);
+            geometry.polygons.push(polygon(line)?);
             mesh.origin.polygons.push(line.line);
         }
     }
-    source.from(line.word, from.as_deref())
+    Ok(())
 }
 
 fn put_value(geometry: &mut Geometry, of: Of, line: &Said) -> Result<(), String> {
@@ -175,12 +164,8 @@ fn point(v: Vec3) -> String {
     [v.x, v.y, v.z].map(exact).join(" ")
 }
 
-/// The text of a mesh, from which it is read again whole, its source too. Materials that have names get them as comments.
-pub fn write(mesh: &Mesh) -> String {
-    let Mesh { geometry, origin, names } = mesh;
-    let sourced = origin.form == Form::Obj;
-    let from = |words: &dyn Fn() -> String| if sourced { format!(" {FROM} {}", words()) } else { String::new() };
-    let line = |lines: &[usize], k: usize| from(&|| lines[k].to_string());
+/// The text of a geometry, from which it is read again whole. Materials that have names get them as comments.
+pub fn write(geometry: &Geometry, names: &[String]) -> String {
     let value = |of: Of| match of {
         Of::Kind => geometry.kind.to_string(),
         Of::Margin => exact(geometry.margin),
@@ -193,21 +178,14 @@ pub fn write(mesh: &Mesh) -> String {
         Of::SphereRadius => exact(geometry.sphere_radius),
     };
     let mut text = format!("{FIRST_LINE}\n");
-    text += &if sourced { heading(origin) } else { String::new() };
     text.extend(Of::ALL.map(|of| format!("{} {}\n", of.name(), value(of))));
     for (k, material) in geometry.materials.iter().enumerate() {
         let named = names.get(k).filter(|name| !name.is_empty());
         let name = named.map_or(String::new(), |name| format!(" # {}", shown(name)));
-        let from = line(&origin.materials, k);
-        text += &format!("material 0x{:08X} 0x{:08X}{from}{name}\n", material.data1, material.data2);
+        text += &format!("material 0x{:08X} 0x{:08X}{name}\n", material.data1, material.data2);
     }
-    for (k, &v) in geometry.vertices.iter().enumerate() {
-        let from = from(&|| format!("{} {} {}", origin.vertices[k], origin.number(k), point(origin.given[k])));
-        text += &format!("vertex {}{from}\n", point(v));
-    }
-    for (k, polygon) in geometry.polygons.iter().enumerate() {
-        text += &format!("{}{}\n", polygon_line(polygon), line(&origin.polygons, k));
-    }
+    text.extend(geometry.vertices.iter().map(|&v| format!("vertex {}\n", point(v))));
+    text.extend(geometry.polygons.iter().map(|polygon| format!("{}\n", polygon_line(polygon))));
     text
 }
 

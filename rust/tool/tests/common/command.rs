@@ -1,7 +1,6 @@
 //! Runs the command in a folder of its own, and writes down what it says.
 #![allow(dead_code)] // each test takes what it needs
 
-use std::fs::File;
 use std::path::{Path, PathBuf};
 use std::process::{Command, Output, Stdio};
 
@@ -35,74 +34,6 @@ impl Folder {
 
     pub fn write(&self, name: &str, bytes: &[u8]) {
         std::fs::write(self.0.join(name), bytes).expect("written");
-    }
-
-    pub fn read(&self, name: &str) -> Vec<u8> {
-        std::fs::read(self.0.join(name)).expect(name)
-    }
-
-    pub fn read_text(&self, name: &str) -> String {
-        String::from_utf8(self.read(name)).expect("text")
-    }
-
-    /// A copy of a folder in which one file is another.
-    pub fn copy(&self, from: &str, to: &str, file: &str, change: &dyn Fn(&mut Vec<u8>)) {
-        std::fs::create_dir(self.0.join(to)).expect("a folder");
-        for name in self.names_in(from) {
-            let mut bytes = self.read(&format!("{from}/{name}"));
-            if name == file {
-                change(&mut bytes);
-            }
-            self.write(&format!("{to}/{name}"), &bytes);
-        }
-    }
-
-    /// An answer: its status is 0.
-    pub fn said(&self, line: &str) -> String {
-        let output = self.run(line);
-        assert_eq!(output.status.code(), Some(0), "{line}: {}", String::from_utf8_lossy(&output.stderr));
-        String::from_utf8(output.stdout).expect("text")
-    }
-
-    /// What is said where there is no answer: its status is 2.
-    pub fn wrong(&self, line: &str) -> String {
-        let output = self.run(line);
-        assert_eq!(output.status.code(), Some(2), "{line}: {}", String::from_utf8_lossy(&output.stdout));
-        String::from_utf8(output.stderr).expect("text")
-    }
-
-    /// Whatever the files hold, there is a status and no panic.
-    pub fn status(&self, line: &str) -> usize {
-        let output = self.run(line);
-        let said = String::from_utf8_lossy(&output.stderr).into_owned();
-        assert!(!said.contains("panicked"), "{line}: {said}");
-        output.status.code().expect("a status") as usize
-    }
-
-    /// A reader that goes away is no failure, and changes no status.
-    pub fn closed_pipe(&self, line: &str, status: i32) {
-        let (reader, writer) = std::io::pipe().expect("a pipe");
-        drop(reader);
-        let output = self.command(line).stdout(writer).stderr(Stdio::piped()).output().expect("it runs");
-        assert_eq!((output.status.code(), output.stderr.len()), (Some(status), 0), "{line}");
-    }
-
-    /// A disk without room is a failure, whether standard output or a file is on it.
-    pub fn full_disk(&self, line: &str) {
-        let full = File::options().write(true).open("/dev/full").expect("/dev/full");
-        let output = self.command(line).stdout(full).output().expect("it runs");
-        assert_eq!(output.status.code(), Some(2), "{line}");
-        assert!(String::from_utf8_lossy(&output.stderr).contains("standard output cannot be written"), "{line}");
-    }
-
-    /// What the lines say is what is kept.
-    pub fn expect(&self, name: &str, lines: &[impl AsRef<str>]) {
-        expect(name, &lines.iter().map(|line| self.log(line.as_ref())).collect::<String>());
-    }
-
-    /// The same of commands that say much.
-    pub fn expect_cut(&self, name: &str, lines: &[&str]) {
-        expect(name, &lines.iter().map(|line| self.cut_log(line)).collect::<String>());
     }
 
     /// A shell's view of a command: the line, what it says, and its status where that is not 0.
@@ -163,18 +94,15 @@ impl Drop for Folder {
 
 /// Compares a log with the kept one; with BLESS set it is kept instead.
 pub fn expect(name: &str, log: &str) {
-    keep(&Path::new(env!("CARGO_MANIFEST_DIR")).join("tests/expected").join(name), log);
-}
-
-/// Compares a page with the kept one; with BLESS set it is kept instead.
-pub fn keep(path: &Path, page: &str) {
+    let path = Path::new(env!("CARGO_MANIFEST_DIR")).join("tests/expected").join(name);
     if std::env::var_os("BLESS").is_some() {
-        std::fs::write(path, page).expect("kept");
+        std::fs::create_dir_all(path.parent().expect("a folder")).expect("a folder");
+        std::fs::write(&path, log).expect("kept");
         return;
     }
-    let kept = std::fs::read_to_string(path).expect("the kept page; BLESS=1 cargo test -p tool keeps one");
-    for (number, (is, was)) in page.lines().zip(kept.lines()).enumerate() {
-        assert_eq!(is, was, "{}, line {}", path.display(), number + 1);
+    let kept = std::fs::read_to_string(&path).expect("the kept log; BLESS=1 cargo test -p tool keeps one");
+    for (number, (is, was)) in log.lines().zip(kept.lines()).enumerate() {
+        assert_eq!(is, was, "{name}, line {}", number + 1);
     }
-    assert_eq!(page, kept, "{}", path.display());
+    assert_eq!(log.lines().count(), kept.lines().count(), "{name}: lines");
 }

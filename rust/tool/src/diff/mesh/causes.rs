@@ -1,17 +1,16 @@
 //! The first cause of each field that differs.
 
-use super::input::Changes;
+use super::input::Change;
 use super::{words, MeshSide, NOUN};
-use crate::diff::causes::{by_cause, Cause, Caused, Finder};
-use crate::field::mesh::{on, Centre, InPolygon, MeshField};
-use crate::field::{Field, InRecord, AXES};
-use crate::mesh::Mesh;
+use crate::diff::causes::{Cause, Finder, TOLD};
+use crate::field::mesh::{on, InPolygon, MeshField};
+use crate::field::{Field, AXES};
 use crate::rules::Rule::{self, *};
-use bounds::premises::{Axis, Corner};
-use plain::links::edge;
-use plain::materials::material_of;
-use plain::polygon::corners;
-use std::collections::BTreeSet;
+use crate::trace::mesh::links::edge;
+use crate::trace::mesh::materials::material_of;
+use crate::trace::mesh::polygon::corners;
+use bounds::premises::Axis;
+use std::collections::{BTreeMap, BTreeSet};
 
 /// Why a field differs, first things first.
 #[derive(Clone, Copy, Debug, PartialEq, Eq, PartialOrd, Ord)]
@@ -30,12 +29,8 @@ pub enum MeshCause {
     Frame,
     /// Of the tree over the polygons, which gives the box, the centres, the radius and the order.
     Tree(Cause),
-    /// Which axis of the .obj is up.
-    Up,
     /// Vertices as they were given.
     Vertex,
-    /// Vertices that both .objs have alike, about another centre.
-    Centre,
     /// Polygons as they were given.
     Polygon,
     /// Which sides lie on an edge.
@@ -51,13 +46,31 @@ pub enum MeshCause {
 }
 
 /// A cause with the fields that it explains, and what there is to say of it.
-pub type MeshCaused = Caused<MeshCause, MeshField>;
+pub struct MeshCaused {
+    pub cause: MeshCause,
+    pub title: String,
+    pub rules: Vec<Rule>,
+    pub fields: Vec<MeshField>,
+    pub lines: Vec<String>,
+}
 
 /// The causes of the fields that differ, in their order.
-pub fn causes(sides: &[MeshSide; 2], tree: Option<Finder>, fields: &[MeshField], changes: &Changes) -> Vec<MeshCaused> {
+pub fn causes(
+    sides: &[MeshSide; 2],
+    tree: Option<Finder>,
+    fields: &[MeshField],
+    changes: &[Change],
+) -> Vec<MeshCaused> {
     let finder = MeshFinder::of(sides, tree);
-    let named = |cause: MeshCause| (cause.title(), cause.rules());
-    by_cause(fields, |field| finder.cause(field), named, |cause, fields| words::lines(&finder, changes, cause, fields))
+    let mut grouped: BTreeMap<MeshCause, Vec<MeshField>> = BTreeMap::new();
+    for &field in fields {
+        grouped.entry(finder.cause(field)).or_default().push(field);
+    }
+    let told = grouped.into_iter().enumerate().map(|(at, (cause, fields))| {
+        let lines = if at < TOLD { words::lines(&finder, changes, cause, &fields) } else { Vec::new() };
+        MeshCaused { cause, title: cause.title(), rules: cause.rules(), fields, lines }
+    });
+    told.collect()
 }
 
 /// Finds the cause of a field.
@@ -73,16 +86,6 @@ pub struct MeshFinder<'a> {
 /// Whether two floats are the same, or each some NaN.
 fn same(a: f32, b: f32) -> bool {
     a.to_bits() == b.to_bits() || a.is_nan() && b.is_nan()
-}
-
-/// Whether both are of .objs that have the same number for a vertex' axis.
-pub fn same_written(sides: &[MeshSide; 2], k: usize, axis: Axis) -> bool {
-    let [Some(a), Some(b)] = [0, 1].map(|side: usize| sides[side].folder.mesh.as_ref()) else { return false };
-    let written = |mesh: &Mesh| {
-        let &v = mesh.origin.given.get(k)?;
-        Some(on(mesh.origin.up.turned(v), axis).to_bits())
-    };
-    a.is_obj() && b.is_obj() && written(a).is_some() && written(a) == written(b)
 }
 
 impl<'a> MeshFinder<'a> {
@@ -101,11 +104,9 @@ impl<'a> MeshFinder<'a> {
         }
         match field {
             MeshField::Quantum(axis) | MeshField::Box(_, axis) => self.scale(axis),
-            MeshField::Centre(Centre::Geom, _) => MeshCause::Frame,
             MeshField::Centre(_, axis) => self.frame(axis as usize, MeshCause::Frame),
             MeshField::Radius => self.frame(self.scaled_axis(), MeshCause::Frame),
             MeshField::Polygon(k, at) => self.polygon(k, at),
-            MeshField::PolygonBox(k, corner, axis) => self.polygon_box(k, 3 * corner as usize + axis as usize),
             MeshField::MaterialCount | MeshField::Material(_) => self.materials(),
             MeshField::MaterialIndex(k) => self.material_index(k),
             MeshField::Vertex(k, axis) | MeshField::VertexFloat(k, axis) => self.vertex(k, axis),
@@ -130,34 +131,9 @@ impl<'a> MeshFinder<'a> {
 
     fn of_tree(&self, field: Field) -> MeshCause {
         match &self.tree {
-            Some(tree) => match tree.cause(field) {
-                Cause::Own(_) if self.centred_elsewhere(field) => MeshCause::Centre,
-                cause => MeshCause::Tree(cause),
-            },
+            Some(tree) => MeshCause::Tree(tree.cause(field)),
             None => self.lists(MeshCause::Polygons),
         }
-    }
-
-    /// Whether a value of a node's box is of a triangle that both .objs have alike: about another centre it was rounded otherwise.
-    fn centred_elsewhere(&self, field: Field) -> bool {
-        let written = |side: &MeshSide| {
-            let tree = side.trace.tree.as_ref()?;
-            let (node, at) = match field {
-                Field::Node(k, at) => (k, at),
-                Field::Tree(k, at) => (tree.ranges.get(k)?.0, at),
-                _ => return None,
-            };
-            let InRecord::Box(corner, axis) = at else { return None };
-            let corners = corners(&side.trace.of.polygons[tree.source(node, corner, axis)?])?;
-            let origin = &side.folder.mesh.as_ref()?.origin;
-            let value = |k: usize| Some(on(origin.up.turned(*origin.given.get(k)?), axis));
-            let values = corners.iter().map(|&k| value(k)).collect::<Option<Vec<f32>>>()?;
-            let least = |least: f32, x: &f32| if corner == Corner::Min { least.min(*x) } else { least.max(*x) };
-            Some(values[1..].iter().fold(values[0], least))
-        };
-        let [a, b] = [0, 1].map(|side: usize| written(&self.sides[side]));
-        let files = self.sides.iter().all(|side| side.folder.mesh.as_ref().is_some_and(Mesh::is_obj));
-        files && a.is_some() && a.map(f32::to_bits) == b.map(f32::to_bits)
     }
 
     /// A word of the frame: the tree's, or as it was given.
@@ -199,16 +175,6 @@ impl<'a> MeshFinder<'a> {
                 InPolygon::Link(slot) => self.link(k, slot),
                 _ => MeshCause::Polygon,
             },
-        }
-    }
-
-    /// A value of a box: of another polygon, or the polygon's own.
-    fn polygon_box(&self, k: usize, value: usize) -> MeshCause {
-        match [0, 1].map(|side: usize| self.sides[side].trace.order.get(k).copied()) {
-            _ if self.tree.is_none() => self.lists(MeshCause::Polygons),
-            [Some(one), Some(two)] if one == two => MeshCause::Tree(Cause::Own(value)),
-            [Some(_), Some(_)] => self.order(k),
-            _ => MeshCause::Polygons,
         }
     }
 
@@ -255,20 +221,8 @@ impl<'a> MeshFinder<'a> {
         let given = |side: &MeshSide| side.trace.of.vertices.get(k).map(|&v| on(v, axis).to_bits());
         match (given(&self.sides[0]), given(&self.sides[1])) {
             (None, _) | (_, None) => MeshCause::Vertices,
-            (one, two) if one != two => self.given_vertex(k, &[axis]),
+            (one, two) if one != two => MeshCause::Vertex,
             _ => self.scale(axis),
-        }
-    }
-
-    /// Why a vertex is another on one of these axes: where its file has it so, or because it is put about another centre.
-    fn given_vertex(&self, k: usize, axes: &[Axis]) -> MeshCause {
-        let up = |side: &MeshSide| side.folder.mesh.as_ref().map(|mesh| mesh.origin.up);
-        if axes.iter().all(|&axis| same_written(self.sides, k, axis)) {
-            MeshCause::Centre
-        } else if up(&self.sides[0]) != up(&self.sides[1]) {
-            MeshCause::Up
-        } else {
-            MeshCause::Vertex
         }
     }
 
@@ -291,7 +245,7 @@ impl<'a> MeshFinder<'a> {
         if margin(a.passed) != margin(b.passed) || by_normals {
             MeshCause::Margin
         } else if (0..3).any(|axis| !same(a.vertices[k][axis], b.vertices[k][axis])) {
-            self.given_vertex(k, &AXES)
+            MeshCause::Vertex
         } else if same(a.moved[k][axis], b.moved[k][axis]) {
             MeshCause::Box(axis)
         } else {
@@ -323,8 +277,7 @@ impl MeshCause {
             MeshCause::Box(_) => vec![K5, Q1, S8],
             MeshCause::Frame => vec![K5, F4],
             MeshCause::Tree(cause) => [vec![K2], cause.rules()].concat(),
-            MeshCause::Up | MeshCause::Vertex => vec![Q4, Q2],
-            MeshCause::Centre => vec![K1, V1, Q4, Q2],
+            MeshCause::Vertex => vec![Q4, Q2],
             MeshCause::Polygon => vec![G3, G12],
             MeshCause::Edges => vec![E1, E2],
             MeshCause::Material => vec![M1, M2],
@@ -343,9 +296,7 @@ impl MeshCause {
             MeshCause::Box(axis) => format!("the given box, axis {}", AXES[axis]),
             MeshCause::Frame => "the given centres and radius".into(),
             MeshCause::Tree(cause) => cause.title(NOUN),
-            MeshCause::Up => "the axis that is up".into(),
             MeshCause::Vertex => "vertices as they were given".into(),
-            MeshCause::Centre => "another centre, for vertices that the files have alike".into(),
             MeshCause::Polygon => "polygons as they were given".into(),
             MeshCause::Edges => "which sides lie on an edge".into(),
             MeshCause::Material => "the materials that polygons name".into(),

@@ -2,7 +2,7 @@
 
 use super::MeshSide;
 use crate::field::mesh::{InPolygon, MeshField};
-use crate::field::{Field, InRecord, Recorded, Value};
+use crate::field::{Field, InRecord, Value};
 use crate::number::{place, some};
 
 /// What a field stands for beside its value.
@@ -75,19 +75,22 @@ fn meaning(side: &MeshSide, field: MeshField) -> Option<String> {
         (MeshField::Vertex(k, axis), Value::Short(_)) => {
             Some(place(crate::field::mesh::on(*derived.prepared.vertices.floats.get(k)?, axis) as f64))
         }
-        (MeshField::Tree(field), _) => of_tree(side, field),
+        (MeshField::Tree(field), value) => of_tree(side, field, value),
         _ => None,
     }
 }
 
 /// A value of a record's box stands for a place, a leaf's id for the polygons that it holds.
-fn of_tree(side: &MeshSide, field: Field) -> Option<String> {
+fn of_tree(side: &MeshSide, field: Field, value: Value) -> Option<String> {
     let (tree, records) = (side.trace.tree.as_ref()?, side.folder.derived().tree?);
-    match field {
-        Field::Node(k, _) if k >= tree.nodes.len() => None,
-        Field::Node(k, InRecord::First) if tree.nodes[k].children.is_none() => {
+    match (field, value) {
+        (Field::Node(k, _), _) if k >= tree.nodes.len() => None,
+        (Field::Node(_, InRecord::Box(_, axis)) | Field::Tree(_, InRecord::Box(_, axis)), Value::Short(value)) => {
+            Some(place(records.stands_for(axis as usize, value)))
+        }
+        (Field::Node(k, InRecord::First), _) if tree.nodes[k].children.is_none() => {
             Some(format!("given polygons {}", some(&tree.got(k))))
         }
-        _ => field.stands_for(records),
+        _ => None,
     }
 }

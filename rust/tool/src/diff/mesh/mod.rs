@@ -9,20 +9,20 @@ mod report;
 mod words;
 
 use super::causes::Finder;
-use super::{found, total, Row, Side};
-use crate::account::unlike;
+use super::{found, Row, Side};
+use crate::account::Account;
 use crate::cli::Answer;
 use crate::dump::Dump;
 use crate::explain::mesh::traced;
 use crate::failure::Failure;
 use crate::field::mesh::MeshField;
-use crate::mesh::{account, MeshAccount, MeshFolder};
+use crate::mesh::{account, differing, MeshAccount, MeshFolder};
+use crate::trace::mesh::{MeshTrace, Standing, THRESHOLD};
+use crate::trace::Trace;
 use bounds::premises::ordinary;
 pub use causes::{MeshCause, MeshCaused};
 pub use elsewhere::Elsewhere;
-pub use input::{Change, Changes, Given};
-use plain::mesh::{MeshTrace, Standing, THRESHOLD};
-use plain::tree::Trace;
+pub use input::{Change, Given};
 
 /// What the trees' polygons are called: by the numbers that they were given.
 const NOUN: &str = "given polygon";
@@ -56,7 +56,7 @@ pub struct MeshKnown<'a> {
     pub sides: [MeshSide<'a>; 2],
     /// Where both have a tree.
     pub trees: Option<[Side<'a>; 2]>,
-    pub changes: Changes,
+    pub changes: Vec<Change>,
     pub causes: Vec<MeshCaused>,
     pub elsewhere: Vec<Elsewhere>,
     /// Of each polygon, by the number that it was given, whether a query at its box finds it.
@@ -93,10 +93,11 @@ impl<'a> MeshSide<'a> {
     /// Its tree, as one over boxes.
     fn tree(&self, grounds: &'a Grounds) -> Option<Side<'a>> {
         let dump = grounds.tree.as_ref()?;
-        let account = self.account.part(self.account.rebuilt.derived().tree?.clone(), |field| match field {
-            MeshField::Tree(field) => Some(field),
+        let fields = self.account.differing.iter().filter_map(|field| match field {
+            MeshField::Tree(field) => Some(*field),
             _ => None,
         });
+        let account = Account::of(self.account.rebuilt.derived().tree?.clone(), fields.collect());
         let trace = Trace::of(&grounds.standing.items, THRESHOLD);
         Some(Side { dump, broken: ordinary(trace.items).err(), account, trace, noun: NOUN })
     }
@@ -108,9 +109,9 @@ pub fn compare<'a>(
     b: &'a MeshFolder,
     grounds: Option<&'a [Grounds; 2]>,
 ) -> Result<MeshComparison<'a>, Failure> {
-    let (in_a, in_b) = (a.derived(), b.derived());
-    let fields: Vec<MeshField> = unlike(&in_a, &in_b);
-    let total = total::<MeshField>(&in_a, &in_b);
+    let fields = differing(a, b);
+    let only_b = MeshField::all(&b.derived()).into_iter().filter(|field| field.raw(&a.derived()).is_none()).count();
+    let total = MeshField::all(&a.derived()).len() + only_b;
     let known = grounds.map(|grounds| known(a, b, grounds, &fields)).transpose()?;
     Ok(MeshComparison { a, b, fields, total, known })
 }
@@ -126,7 +127,7 @@ fn known<'a>(
         (Some(one), Some(two)) => Some([one, two]),
         _ => None,
     };
-    let changes = input::changes(a.input()?, b.input()?);
+    let changes = input::changes(sides[0].trace.of, sides[1].trace.of);
     let causes = causes::causes(&sides, trees.as_ref().map(Finder::of), fields, &changes);
     let rows = trees.as_ref().map_or(Vec::new(), found::rows);
     let elsewhere = elsewhere::elsewhere(&sides);

@@ -1,24 +1,23 @@
 //! What there is to say of a cause: its values in a and in b.
 
-use super::causes::{same_written, MeshCause, MeshFinder};
-use super::input::{Change, Changes, Given};
+use super::causes::{MeshCause, MeshFinder};
+use super::input::{Change, Given};
 use super::MeshSide;
 use crate::diff::input as boxes;
 use crate::explain::mesh::why;
 use crate::field::mesh::{on, InPolygon, MeshField};
 use crate::field::AXES;
-use crate::number::{cut, float, some};
-use bounds::Geometry;
-use plain::links::{edge, Edge};
-use plain::polygon::corners;
-use plain::shrink::Shrinking;
+use crate::number::{float, some};
+use crate::trace::mesh::links::{edge, Edge};
+use crate::trace::mesh::polygon::corners;
+use crate::trace::mesh::shrink::Shrinking;
 use std::collections::BTreeSet;
 
 /// Longer lists are cut, and say so.
 const SHOWN: usize = 8;
 
 /// A cause in words.
-pub fn lines(finder: &MeshFinder, changes: &Changes, cause: MeshCause, fields: &[MeshField]) -> Vec<String> {
+pub fn lines(finder: &MeshFinder, changes: &[Change], cause: MeshCause, fields: &[MeshField]) -> Vec<String> {
     let of = |which: fn(Given) -> bool| listed(changes, |change| which(change.of));
     match cause {
         MeshCause::Bytes => vec!["the line `bytes` above names them; what stands there is not explained".into()],
@@ -26,14 +25,12 @@ pub fn lines(finder: &MeshFinder, changes: &Changes, cause: MeshCause, fields: &
         MeshCause::Polygons => of(|of| of == Given::Polygons),
         MeshCause::Vertices => of(|of| of == Given::Vertices),
         MeshCause::Box(axis) => box_lines(finder.sides, changes, axis),
-        MeshCause::Frame => of(|of| matches!(of, Given::Centre(..) | Given::Radius)),
+        MeshCause::Frame => of(|of| matches!(of, Given::Centre(0 | 1, _) | Given::Radius)),
         MeshCause::Tree(cause) => match &finder.tree {
             Some(tree) => tree.lines(&tree.box_changes(), cause),
             None => Vec::new(),
         },
-        MeshCause::Up => of(|of| of == Given::Up),
-        MeshCause::Vertex => of(|of| matches!(of, Given::Vertex(..) | Given::Written(..))),
-        MeshCause::Centre => centre_lines(finder.sides, fields),
+        MeshCause::Vertex => of(|of| matches!(of, Given::Vertex(..))),
         MeshCause::Polygon => of(|of| matches!(of, Given::Polygon(..))),
         MeshCause::Edges => edge_lines(finder.sides, fields),
         MeshCause::Material => of(|of| matches!(of, Given::Number(_) | Given::Material(_) | Given::Materials)),
@@ -46,40 +43,19 @@ pub fn lines(finder: &MeshFinder, changes: &Changes, cause: MeshCause, fields: &
     }
 }
 
-fn listed(changes: &Changes, which: impl Fn(&Change) -> bool) -> Vec<String> {
-    let all: Vec<&Change> = changes.all().filter(|change| which(change)).collect();
-    cut(&all, SHOWN, |change| change.to_string())
+fn listed(changes: &[Change], which: impl Fn(&Change) -> bool) -> Vec<String> {
+    let all: Vec<String> = changes.iter().filter(|change| which(change)).map(Change::to_string).collect();
+    cut(all)
 }
 
-/// What another centre does to vertices that both files have alike.
-fn centre_lines(sides: &[MeshSide; 2], fields: &[MeshField]) -> Vec<String> {
-    let [a, b] = [sides[0].trace.of, sides[1].trace.of];
-    let same = (0..a.vertices.len().min(b.vertices.len())).filter(|&k| AXES.iter().all(|&x| same_written(sides, k, x)));
-    let mut lines =
-        vec![format!("{} of {} vertices have the same numbers in both files", same.count(), a.vertices.len())];
-    for axis in AXES {
-        let (one, two) = (on(a.center_geom, axis), on(b.center_geom, axis));
-        if one.to_bits() != two.to_bits() {
-            let box_of = |of: &Geometry| format!("{}..{}", float(on(of.box_min, axis)), float(on(of.box_max, axis)));
-            let (from, to) = (box_of(a), box_of(b));
-            let centre =
-                format!("center_geom {axis} {} -> {}, the middle of {from} and of {to}", float(one), float(two));
-            lines.push(format!("{centre}: about it every {axis} is another number"));
-        }
-    }
-    let first = fields.iter().find_map(|field| match *field {
-        MeshField::Vertex(k, axis) | MeshField::VertexFloat(k, axis) => Some((k, axis)),
-        _ => None,
-    });
-    lines.extend(first.map(|(k, axis)| {
-        let (from, to) = (float(on(a.vertices[k], axis)), float(on(b.vertices[k], axis)));
-        let at = sides[0].folder.mesh.as_ref().map_or(String::new(), |mesh| mesh.origin.written(k));
-        format!("so vertex {k} ({at}) has {axis} {from} -> {to}")
-    }));
+fn cut(mut lines: Vec<String>) -> Vec<String> {
+    let more = lines.len().saturating_sub(SHOWN);
+    lines.truncate(SHOWN);
+    lines.extend((more > 0).then(|| format!("and {more} more")));
     lines
 }
 
-fn box_lines(sides: &[MeshSide; 2], changes: &Changes, axis: usize) -> Vec<String> {
+fn box_lines(sides: &[MeshSide; 2], changes: &[Change], axis: usize) -> Vec<String> {
     let mut lines = listed(changes, |change| match change.of {
         Given::Box(_, at) | Given::Centre(2, at) => at == axis,
         _ => false,
@@ -112,8 +88,7 @@ fn edge_lines(sides: &[MeshSide; 2], fields: &[MeshField]) -> Vec<String> {
         format!("edge {}-{}   a: {}   b: {}", edge.0, edge.1, told(&sides[0], edge), told(&sides[1], edge))
     };
     let doubled: BTreeSet<String> = edges.iter().flat_map(|&edge| doubles(sides, edge)).collect();
-    let all: Vec<String> = edges.into_iter().map(line).chain(doubled).collect();
-    cut(&all, SHOWN, String::clone)
+    cut(edges.into_iter().map(line).chain(doubled).collect())
 }
 
 /// Where a polygon has left an edge for another vertex at the same place: it looks the same and is no longer linked.
@@ -154,7 +129,7 @@ fn margin_line(of: &Shrinking, name: &str) -> String {
 }
 
 /// What is around the first vertex that is moved elsewhere.
-fn around_lines(sides: &[MeshSide; 2], changes: &Changes) -> Vec<String> {
+fn around_lines(sides: &[MeshSide; 2], changes: &[Change]) -> Vec<String> {
     let named = elsewhere(sides);
     let mut lines = Vec::new();
     if !named.is_empty() {
@@ -175,7 +150,7 @@ fn around_lines(sides: &[MeshSide; 2], changes: &Changes) -> Vec<String> {
     };
     lines.extend(sides.iter().zip(["a", "b"]).filter_map(|(side, name)| around(side, name)));
     let near = |change: &Change| {
-        matches!(change.of, Given::Vertex(..) | Given::Written(..) | Given::Polygon(..) | Given::Polygons)
+        matches!(change.of, Given::Vertex(..) | Given::Polygon(..) | Given::Polygons)
             || matches!(change.of, Given::Transform(_) | Given::Centre(2, _))
     };
     lines.extend(listed(changes, near));

@@ -6,8 +6,8 @@ use crate::field::{InHeader, Point};
 use crate::mesh::Of;
 use crate::number::{both, float};
 use crate::rules::Rule::*;
+use crate::trace::mesh::points::{point, sub};
 use bounds::premises::{Axis, Corner};
-use plain::points::{point, sub};
 
 impl MeshExplainer<'_> {
     pub fn frame_box(&self, corner: Corner, axis: Axis) -> Vec<Step> {
@@ -22,10 +22,6 @@ impl MeshExplainer<'_> {
         let of = match centre {
             Centre::Box => Of::BoxCenter,
             Centre::Sphere => Of::SphereCenter,
-            Centre::Geom => {
-                let text = format!("the word that was given, copied: {}", self.shown(MeshField::Centre(centre, axis)));
-                return vec![Step::new(&[F4], text).note(self.origin.of(Of::CenterGeom))];
-            }
         };
         self.given_or_tree(of, Point::Cen, MeshField::Centre(centre, axis), axis)
     }
@@ -48,7 +44,7 @@ impl MeshExplainer<'_> {
     }
 
     fn shown(&self, field: MeshField) -> String {
-        self.value_words(field).unwrap_or_default()
+        self.derived_value(field).map_or(String::new(), |value| value.to_string())
     }
 
     pub fn radius(&self) -> Vec<Step> {

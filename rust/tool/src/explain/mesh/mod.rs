@@ -10,21 +10,20 @@ mod vertex;
 
 pub use shrink::why;
 
-use super::query::{Asked, Exact};
+use super::query::Asked;
 use super::{Explainer, Explanation, Step};
 use crate::boxes::Boxes;
 use crate::cli::{corner, Answer};
 use crate::dump::Dump;
 use crate::failure::Failure;
 use crate::field::mesh::{Derived, MeshField};
-use crate::field::{Field, Recorded, Value};
-use crate::mesh::rounded::{Query, Rounded};
-use crate::mesh::{account, place_of, MeshAccount, MeshFolder, Origin};
+use crate::field::Field;
+use crate::json::Json;
+use crate::mesh::{account, MeshAccount, MeshFolder, Origin};
 use crate::number;
 use crate::rules::Rule;
-use crate::trace::Fields;
-use plain::mesh::{MeshTrace, Standing};
-use plain::points::Point;
+use crate::trace::mesh::points::Point;
+use crate::trace::mesh::{MeshTrace, Standing};
 
 /// What explanations of a prepared mesh are made from: where its values stand, its trace, and what the library derived.
 pub struct MeshExplainer<'a> {
@@ -50,7 +49,13 @@ pub fn answer(folder: &MeshFolder, words: &[String], json: bool) -> Result<Answe
         ["node", node, "split"] => with.split(folder, node)?,
         _ => explained(folder, &account, &with, MeshField::parse(words).ok_or_else(|| unknown(words))?)?,
     };
-    Ok(explanation.answer(account.warning(), json))
+    let warning = account.warning(folder);
+    if json {
+        let json = Json::Object(vec![("explanation", explanation.json()), ("warning", warning.into())]);
+        return Ok(Answer::of(format!("{json}\n")));
+    }
+    let warning = warning.map_or(String::new(), |warning| format!("NOTE {warning}\n"));
+    Ok(Answer::of(warning + &explanation.text()))
 }
 
 /// The preparing of a folder's mesh, step by step, which must come to the library's bytes in every field.
@@ -59,7 +64,15 @@ pub fn traced<'a>(
     account: &MeshAccount,
     standing: &'a Standing,
 ) -> Result<MeshTrace<'a>, Failure> {
-    MeshTrace::of(&folder.input()?.geometry, standing).reaching(&folder.name, &account.rebuilt.derived())
+    let trace = MeshTrace::of(&folder.input()?.geometry, standing);
+    let derived = account.rebuilt.derived();
+    match MeshField::all(&derived).into_iter().find(|&field| !trace.reaches(field, &derived)) {
+        None => Ok(trace),
+        Some(field) => {
+            let at = format!("the trace does not reach the library's bytes at {field}");
+            Err(Failure::Refused(format!("{}: {at}; nothing is explained", folder.name)))
+        }
+    }
 }
 
 fn unknown(words: &[String]) -> Failure {
@@ -76,10 +89,14 @@ fn explained(
     with: &MeshExplainer,
     field: MeshField,
 ) -> Result<Explanation, Failure> {
-    if field.raw(&folder.derived()).or(field.raw(&account.rebuilt.derived())).is_none() {
+    let there = |of: &MeshFolder| field.raw(&of.derived()).is_some();
+    if !there(folder) && !there(&account.rebuilt) {
         return Err(Failure::Usage(format!("{field}: {} has no such field; `bounds dump` shows all", folder.name)));
     }
-    account.given(field)?;
+    if account.differs(field) {
+        let words = account.difference(folder, field);
+        return Err(Failure::Refused(format!("{}: {words}; what stands there is not explained", folder.name)));
+    }
     Ok(with.field(field))
 }
 
@@ -95,7 +112,6 @@ impl<'a> MeshExplainer<'a> {
             MeshField::Centre(centre, axis) => self.centre(centre, axis),
             MeshField::Radius => self.radius(),
             MeshField::Polygon(k, at) => self.polygon(k, at),
-            MeshField::PolygonBox(k, corner, axis) => self.polygon_box(k, corner, axis),
             MeshField::MaterialCount => self.material_count(),
             MeshField::Material(k) => self.material(k),
             MeshField::MaterialIndex(k) => self.material_index(k),
@@ -120,26 +136,29 @@ impl<'a> MeshExplainer<'a> {
 
     /// `-12 = bytes 2-3 of vertex 7`.
     fn heading(&self, field: MeshField) -> String {
-        let value = self.value_words(field).unwrap_or("nothing".into());
-        let place = place_of(field, &self.derived).unwrap_or(0..1);
-        let at = |from: usize| format!("bytes {}-{}", from + place.start, from + place.end - 1);
+        let value = self.trace.bytes(field).map_or("nothing".into(), |raw| field.value_of(&raw).to_string());
+        let at = |size: usize, from: usize| format!("bytes {from}-{}", from + size - 1);
         let of = match field {
-            MeshField::Quantum(_) | MeshField::Box(..) | MeshField::Centre(..) | MeshField::Radius => {
-                format!("{} of the frame", at(0))
+            MeshField::Quantum(axis) => format!("{} of the frame", at(4, 4 * axis as usize)),
+            MeshField::Box(corner, axis) => {
+                format!("{} of the frame", at(4, 12 + 12 * corner as usize + 4 * axis as usize))
             }
+            MeshField::Centre(centre, axis) => {
+                format!("{} of the frame", at(4, 36 + 12 * centre as usize + 4 * axis as usize))
+            }
+            MeshField::Radius => format!("{} of the frame", at(4, 60)),
             MeshField::Polygon(k, at) => self.polygon_heading(k, at),
-            MeshField::PolygonBox(k, ..) => {
-                format!("{} of the box of {}", at(0), self.prepared_name(self.trace.order[k]))
-            }
             MeshField::MaterialCount => "how many materials there are before they are filled up to four".into(),
-            MeshField::Material(k) => format!("{} of the materials, material {k}", at(8 * k)),
+            MeshField::Material(k) => format!("{} of the materials, material {k}", at(8, 8 * k)),
             MeshField::MaterialIndex(k) => format!("the material of {}", self.prepared_name(self.trace.order[k])),
-            MeshField::Vertex(k, _) => format!("{} of vertex {k}", at(0)),
-            MeshField::VertexFloat(k, _) => format!("{} of the float of vertex {k}", at(0)),
-            MeshField::Shrunk(k, _) => format!("{} of shrunk vertex {k}", at(0)),
-            MeshField::ShrunkFloat(k, _) => format!("{} of the float of shrunk vertex {k}", at(0)),
+            MeshField::Vertex(k, axis) => format!("{} of vertex {k}", at(2, 2 * axis as usize)),
+            MeshField::VertexFloat(k, axis) => format!("{} of the float of vertex {k}", at(4, 4 * axis as usize)),
+            MeshField::Shrunk(k, axis) => format!("{} of shrunk vertex {k}", at(2, 2 * axis as usize)),
+            MeshField::ShrunkFloat(k, axis) => {
+                format!("{} of the float of shrunk vertex {k}", at(4, 4 * axis as usize))
+            }
             MeshField::OctantCount(k) => format!("how many vertices octant {k} has"),
-            MeshField::Octant(k, i) => format!("bytes {}-{} of octant {k}", 4 * i, 4 * i + 3),
+            MeshField::Octant(k, i) => format!("{} of octant {k}", at(4, 4 * i)),
             MeshField::Tree(_) => String::new(),
         };
         format!("{value} = {of}")
@@ -148,17 +167,17 @@ impl<'a> MeshExplainer<'a> {
     /// The bytes that a field comes to. Of a NaN that arithmetic made they are free.
     fn bytes_step(&self, field: MeshField) -> Option<Step> {
         let bytes = self.trace.bytes(field)?;
-        let text = match field.is_made(&self.derived) && field.is_nan(&bytes) {
+        let nan = bytes.len() == 4 && f32::from_le_bytes([bytes[0], bytes[1], bytes[2], bytes[3]]).is_nan();
+        let text = match field.is_made(self.trace.tree.is_some()) && nan {
             true => "a NaN that arithmetic made: any NaN's bytes".into(),
             false => format!("bytes {}", number::bytes(&bytes)),
         };
-        let short = matches!(field.value_of(&bytes), Value::Short(_));
+        let short = matches!(self.derived_value(field), Some(crate::field::Value::Short(_)));
         Some(Step::new(&[if short { Rule::R2 } else { Rule::R1 }], text))
     }
 
-    /// A field's value in words.
-    fn value_words(&self, field: MeshField) -> Option<String> {
-        Some(field.value_of(&self.trace.bytes(field)?).to_string())
+    fn derived_value(&self, field: MeshField) -> Option<crate::field::Value> {
+        Some(field.value_of(&self.trace.bytes(field)?))
     }
 
     /// A given polygon by its place in the prepared list.
@@ -172,7 +191,10 @@ impl<'a> MeshExplainer<'a> {
 
     fn split(&self, folder: &MeshFolder, node: &str) -> Result<Explanation, Failure> {
         let tree = self.tree().ok_or_else(|| without_tree(folder))?;
-        tree.split_at(node)
+        let nodes = tree.trace.nodes.len();
+        let node = node.parse().ok().filter(|&k: &usize| k < nodes);
+        let node = node.ok_or_else(|| Failure::Usage(format!("expected a node's number below {nodes}")))?;
+        tree.split(node).ok_or_else(|| Failure::Usage(format!("node {node} is a leaf: it is not split")))
     }
 
     /// Why a query hands out a polygon of the prepared list, or not.
@@ -190,14 +212,16 @@ impl<'a> MeshExplainer<'a> {
         let k = words[2].parse().ok().filter(|&k: &usize| k < n).ok_or_else(wrong)?;
         let order = |field: &&MeshField| matches!(field, MeshField::Tree(Field::Order(_)));
         if let Some(&field) = account.differing.iter().find(order) {
-            return Err(account.unexplained(field, "which polygon is which is not known"));
+            let words = account.difference(folder, field);
+            return Err(Failure::Refused(format!("{}: {words}; which polygon is which is not known", folder.name)));
         }
-        let item = self.trace.order[k];
-        let (asked, rounded) = (Query { min, max }, Rounded::of(folder.input()?)?);
-        let Query { min, max } = rounded.as_ref().map_or(asked, |rounded| rounded.widened(asked));
-        let rounded = rounded.map(|Rounded { by, boxes }| Exact { asked, item: boxes[item], by });
-        let asked = Asked { dump, min, max, item, rounded };
-        tree.asked(&asked, &|field| !account.differs(MeshField::Tree(field)))
+        let found = dump.walk(min, max)?;
+        let asked = Asked { dump, min, max, item: self.trace.order[k] };
+        let (explanation, reads) = tree.query(&asked, &|field| !account.differs(MeshField::Tree(field)));
+        if reads != found.reads {
+            return Err(Failure::Refused("the trace reads other records than the library; it is not explained".into()));
+        }
+        Ok(explanation)
     }
 }
 

@@ -3,8 +3,8 @@
 use super::{point_words, MeshExplainer, Step};
 use crate::number::counted;
 use crate::rules::Rule::*;
-use plain::octants::{shadow_of, turned};
-use plain::points::Point;
+use crate::trace::mesh::octants::{shadow_of, turned};
+use crate::trace::mesh::points::Point;
 
 /// Of more that are shadowed only so many are told.
 const SHOWN: usize = 4;

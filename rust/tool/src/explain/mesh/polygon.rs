@@ -5,9 +5,9 @@ use crate::field::mesh::InPolygon;
 use crate::field::KINDS;
 use crate::number::both;
 use crate::rules::Rule::*;
+use crate::trace::mesh::links::{edge, Side};
+use crate::trace::mesh::polygon::{corners, kind, radius};
 use bounds::Polygon;
-use plain::links::{edge, Side};
-use plain::polygon::{corners, kind, radius};
 
 /// Of more sides on an edge the later ones are left out.
 const SIDES_SHOWN: usize = 6;
@@ -41,7 +41,7 @@ impl MeshExplainer<'_> {
                 steps.push(Step::new(&[G3, G4], format!("a {name}'s kind is {}", kind(polygon))));
             }
             InPolygon::Area => steps.extend(area(polygon)),
-            InPolygon::Vertex(i) => steps.extend(self.corner(polygon, i)),
+            InPolygon::Vertex(i) => steps.extend(corner(polygon, i)),
             InPolygon::Radius => {
                 let word = radius(polygon).unwrap_or(0.0).to_bits();
                 steps.push(Step::new(&[G2, G3], format!("the radius that was given, its word copied: {}", both(word))));
@@ -50,22 +50,6 @@ impl MeshExplainer<'_> {
             InPolygon::Zeros => {
                 steps.push(Step::new(&[G3], format!("a {name} does not use these bits: all 0")));
             }
-        }
-        steps
-    }
-
-    fn corner(&self, polygon: &Polygon, i: usize) -> Vec<Step> {
-        let number = match *polygon {
-            Polygon::Triangle { v, .. } => v.get(i).copied().unwrap_or(0),
-            Polygon::Sphere { index, .. } => index,
-            Polygon::Capsule { i1, i2, .. } | Polygon::Cylinder { i1, i2, .. } => [i1, i2][i.min(1)],
-            Polygon::Box { i: all, .. } => all[i.min(3)] as u16,
-        };
-        let source = self.origin.source_vertex(number as usize & 0x7FFF).unwrap_or_default();
-        let mut steps = vec![Step::new(&[G3], format!("vertex {i} as it was given: {number}")).note(source)];
-        if matches!(polygon, Polygon::Triangle { .. }) && number > 0x7FFF {
-            let text = format!("{number} is vertex {} with its flag, bit 15, which stays", number & 0x7FFF);
-            steps.push(Step::new(&[G6], text));
         }
         steps
     }
@@ -82,9 +66,8 @@ impl MeshExplainer<'_> {
         }
         let at = sides.iter().position(|side| *side == Side { polygon: k, slot }).unwrap_or(0);
         let side = format!("side {slot} goes from vertex {a} to vertex {b}: the edge {}-{}", edge.0, edge.1);
-        let ends: Vec<String> = [a, b].into_iter().filter_map(|end| self.origin.source_vertex(end)).collect();
         let mut steps = vec![
-            Step::new(&[G6, E1], side).note(ends.join("; ")),
+            Step::new(&[G6, E1], side),
             Step::new(&[E1], format!("sides on that edge, as they come: {}", shown.join(", "))),
             Step::new(&[E2], linked(sides, at)),
         ];
@@ -121,5 +104,20 @@ fn area(polygon: &Polygon) -> Vec<Step> {
         low => format!("the kind takes its low three bits, {low}: {} is left", both(word & !7)),
     };
     steps.push(Step::new(&[G3], left));
+    steps
+}
+
+fn corner(polygon: &Polygon, i: usize) -> Vec<Step> {
+    let number = match *polygon {
+        Polygon::Triangle { v, .. } => v.get(i).copied().unwrap_or(0),
+        Polygon::Sphere { index, .. } => index,
+        Polygon::Capsule { i1, i2, .. } | Polygon::Cylinder { i1, i2, .. } => [i1, i2][i.min(1)],
+        Polygon::Box { i: all, .. } => all[i.min(3)] as u16,
+    };
+    let mut steps = vec![Step::new(&[G3], format!("vertex {i} as it was given: {number}"))];
+    if matches!(polygon, Polygon::Triangle { .. }) && number > 0x7FFF {
+        let text = format!("{number} is vertex {} with its flag, bit 15, which stays", number & 0x7FFF);
+        steps.push(Step::new(&[G6], text));
+    }
     steps
 }

@@ -5,8 +5,8 @@ use crate::field::AXES;
 use crate::mesh::Of;
 use crate::number::{counted, float, some};
 use crate::rules::Rule::*;
-use plain::points::point;
-use plain::shrink::{facing, normal_of, Choice, Failed, Shrinking, Trial, Way, FLOOR, LEAST};
+use crate::trace::mesh::points::point;
+use crate::trace::mesh::shrink::{facing, normal_of, Choice, Failed, Shrinking, Trial, Way, FLOOR, LEAST};
 
 /// Of more trials or normals those in the middle are left out.
 const SHOWN: usize = 6;
@@ -16,7 +16,7 @@ impl MeshExplainer<'_> {
     pub fn shrink_steps(&self, of: &Shrinking, vertex: usize, axis: Option<usize>) -> Vec<Step> {
         let mut steps = self.margin_steps(of);
         let given = format!("vertex {vertex} as it was given: {}", point_words(of.vertices[vertex]));
-        steps.push(Step::new(&[K6], given).note(self.origin.written(vertex)));
+        steps.push(Step::new(&[K6], given).note(self.origin.vertex(vertex)));
         match of.passed {
             Some(margin) => {
                 match of.way(vertex, margin) {
@@ -123,7 +123,7 @@ impl MeshExplainer<'_> {
     /// Where a vertex stands, whatever the kind.
     fn stands(&self, vertex: usize) -> [f32; 3] {
         let of = self.trace.of;
-        plain::points::placed(point(of.vertices[vertex]), point(of.center_geom), &of.transform)
+        crate::trace::mesh::points::placed(point(of.vertices[vertex]), point(of.center_geom), &of.transform)
     }
 }
 

@@ -5,17 +5,10 @@ use crate::explain::value_name;
 use crate::field::{AXES, KINDS};
 use crate::number::{float, some};
 use crate::rules::Rule::*;
-use bounds::premises::{Axis, Corner};
-use plain::points::{add, point};
-use plain::polygon::{extreme, kind, radius, stands, vertices};
+use crate::trace::mesh::points::{add, point};
+use crate::trace::mesh::polygon::{extreme, kind, radius, stands, vertices};
 
 impl MeshExplainer<'_> {
-    /// A value of the box of a polygon of the prepared list.
-    pub fn polygon_box(&self, k: usize, corner: Corner, axis: Axis) -> Vec<Step> {
-        let steps = self.box_steps(self.trace.order[k], 3 * corner as usize + axis as usize);
-        [self.which(k)].into_iter().chain(steps).collect()
-    }
-
     /// One of the six values of a given polygon's box.
     pub fn box_steps(&self, given: usize, value: usize) -> Vec<Step> {
         let polygon = &self.trace.of.polygons[given];
@@ -56,7 +49,7 @@ impl MeshExplainer<'_> {
             terms.join(" + "),
             float(m(3))
         );
-        Step::new(&[K1], text).note(self.origin.written(vertex))
+        Step::new(&[K1], text).note(self.origin.vertex(vertex))
     }
 }
 

@@ -32,7 +32,7 @@ fn loaded(triangles: usize) -> PreparedTree {
 }
 
 /// Each wheel stands somewhere in the box around all and drives on by 0.1; where it leaves it, it begins somewhere else. It
-/// asks for a column: 0.7 long, 0.3 wide, as high as all. So does rust/bounds/examples/server.rs.
+/// asks for a column: 0.7 long, 0.3 wide, as high as all. So does floor/bounds/examples/server.rs.
 fn wheels(tree: &PreparedTree, seed: u64) -> Vec<Aabb> {
     let (min, max) = (tree.built.bb_min, tree.built.bb_max);
     let mut random = Random::new(seed);

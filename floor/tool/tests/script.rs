@@ -55,24 +55,25 @@ impl Repository {
         let root = std::env::temp_dir().join(format!("bounds-script-{name}-{}", std::process::id()));
         let _ = fs::remove_dir_all(&root);
         let crates = ["base", "math", "prepared", "bounds", "bounds_prepare"].map(|name| format!("crates/{name}"));
-        let others = ["rust/bounds/src", "rust/tool/src", "bin", "elsewhere"].map(String::from);
+        let others = ["floor/bounds/src", "floor/tool/src", "bin", "elsewhere"].map(String::from);
         for folder in crates.iter().chain(&others) {
             fs::create_dir_all(root.join(folder)).expect("a folder");
         }
         let repository = Repository(root);
         repository.write("crates.txt", "# NAME: what it depends on\nbase:\nmath: base\nprepared: base math\nother: math\nbounds staticlib: base math\nbounds_prepare staticlib: base prepared\n");
         repository
-            .write("rust/seconds.txt", "base 50\nmath 60\nprepared 240\nbounds 120\nbounds_prepare 240\nother 999\n");
+            .write("floor/seconds.txt", "base 50\nmath 60\nprepared 240\nbounds 120\nbounds_prepare 240\nother 999\n");
         for file in [
             "crates/base/lib.rt",
-            "rust/Cargo.toml",
-            "rust/Cargo.lock",
-            "rust/bounds/src/lib.rs",
-            "rust/tool/src/lib.rs",
+            "floor/Cargo.toml",
+            "floor/Cargo.lock",
+            "floor/bounds/src/lib.rs",
+            "floor/tool/src/lib.rs",
         ] {
             repository.write(file, "x\n");
         }
-        for file in ["rust/bounds/Cargo.toml", "rust/tool/Cargo.toml", "rust/bounds/build.rs", "rust/tool/build.rs"] {
+        for file in ["floor/bounds/Cargo.toml", "floor/tool/Cargo.toml", "floor/bounds/build.rs", "floor/tool/build.rs"]
+        {
             repository.write(file, "x\n");
         }
         fs::copy(Path::new(ROOT).join("bounds"), repository.path("bounds")).expect("the script");
@@ -129,7 +130,7 @@ fn said(output: &Output) -> String {
 }
 
 const PROVE: &str = "rt lib in /crates/bounds\n";
-const BUILD: &str = "cargo build --quiet --release --manifest-path /rust/Cargo.toml -p tool BOUNDS_LIB=\n";
+const BUILD: &str = "cargo build --quiet --release --manifest-path /floor/Cargo.toml -p tool BOUNDS_LIB=\n";
 
 #[test]
 fn the_first_run_proves_and_builds_and_the_second_runs_at_once() {
@@ -176,7 +177,7 @@ fn what_changed_is_made_again_and_the_last_run_s_times_count() {
     repository.write("crates/base/out/kept", "");
     repository.run(&[], &[]);
     assert_eq!(repository.calls(), "");
-    repository.write("rust/tool/src/lib.rs", "another\n");
+    repository.write("floor/tool/src/lib.rs", "another\n");
     repository.run(&[], &[]);
     assert_eq!(repository.calls(), BUILD, "the library is as it was");
     repository.run(&[], &[]);
@@ -256,7 +257,7 @@ fn what_is_not_proved_is_not_built() {
 #[test]
 fn the_repository_has_a_time_for_every_crate_of_the_library() {
     let read = |name: &str| fs::read_to_string(Path::new(ROOT).join(name)).expect("a file of the repository");
-    let (crates, seconds) = (read("crates.txt"), read("rust/seconds.txt"));
+    let (crates, seconds) = (read("crates.txt"), read("floor/seconds.txt"));
     let mut wanted = vec!["bounds", "bounds_prepare"];
     for line in crates.lines().rev() {
         let (said, needs) = line.split_once(':').expect("NAME: what it depends on");
