@@ -118,15 +118,15 @@ pub length_link_bytes : (links : List ℕ) (p : ℕ) → length (link_bytes link
 unfolding link_bytes
 length_link_bytes links p = (joined (joined (number_bytes 2 _) (number_bytes 2 _)) (number_bytes 2 _)).size
 
-first_group_of : (l : List ℕ) (k : ℕ) → get_or l k 0 ≡ get_or (drop k l) 0 0
-first_group_of l k = ap (λ (j : ℕ). get_or l j 0) (sym (add-zero k)) ∙ sym (get_or-drop k l 0 0)
+head_of_drop : (l : List ℕ) (k : ℕ) → get_or l k 0 ≡ get_or (drop k l) 0 0
+head_of_drop l k = ap (λ (j : ℕ). get_or l j 0) (sym (add-zero k)) ∙ sym (get_or-drop k l 0 0)
 
 -- The record of polygon p is of what stands from its first byte on.
 pub record_alone : (links bytes other : List ℕ) (p : ℕ) → drop (16 * p) bytes ≡ drop (16 * p) other
     → linked_record links bytes p ≡ linked_record links other p
 unfolding linked_record
 record_alone links bytes other p e =
-    let kind : get_or bytes (16 * p) 0 ≡ get_or other (16 * p) 0 = first_group_of bytes (16 * p) ∙ ap (λ (l : List ℕ). get_or l 0 0) e ∙ sym (first_group_of other (16 * p)) in
+    let kind : get_or bytes (16 * p) 0 ≡ get_or other (16 * p) 0 = head_of_drop bytes (16 * p) ∙ ap (λ (l : List ℕ). get_or l 0 0) e ∙ sym (head_of_drop other (16 * p)) in
     rw (e, kind)
 
 either_sixteen : (t : Bool) (a b : List ℕ) → length a ≡ 16 → length b ≡ 16 → length (cond t a b) ≡ 16

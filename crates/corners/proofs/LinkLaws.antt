@@ -99,7 +99,7 @@ corners_hold n bytes h =
         let none_there = get_or-eq_default (corners_of n bytes) 0 {n = s} (omega arith) in
         omega arith
 
--- ---- links-forget
+-- ---- links_forget
 
 -- The first ten bytes of a record are no links.
 front_kept : (links bytes : List ℕ) (p j : ℕ) → 16 * p + 16 ≤ length bytes → j < 10 → get_or (linked_record links bytes p) j 0 ≡ get_or bytes (16 * p + j) 0

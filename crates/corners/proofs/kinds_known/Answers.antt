@@ -16,7 +16,7 @@ returns-then-kind_at-gt4 c =
     let l = c.loop-i in
     let s = c.args in
     let e = c.kind_at.ensures in
-    let above : 4 < kind_at s.polygons.now (16 * l.i) = omega (arith, c.if-kind_at-gt4.true) in
+    let above : 4 < kind_at s.polygons.now (16 * l.i) = omega arith in
     sym (unknown_among s.n l.i s.polygons.now c.loop-i-test.true above)
 
 pub loop-i-preserved : goal.loop-i-preserved
@@ -24,7 +24,7 @@ loop-i-preserved c =
     let l = c.loop-i in
     let s = c.args in
     let e = c.kind_at.ensures in
-    let known : kind_at s.polygons.now (16 * l.i) ≤ 4 = omega (arith, c.if-kind_at-gt4.false) in
+    let known : kind_at s.polygons.now (16 * l.i) ≤ 4 = omega arith in
     (search rules, known_more l.i s.polygons.now l.invariant.1 known)
 
 pub returns : goal.returns
