@@ -3,7 +3,7 @@ ghost use Rattle.std.specs.Prelude.{◌≡◌};
 ghost use Rattle.header.specs.Header.{header_number};
 ghost use Rattle.answers.specs.Numbers.{relation_number, ordering_number};
 
-use header::Header;
+use header::HeaderRefusal;
 use std::cmp::Ordering;
 
 pub fn relation_number(r: Option<Ordering>) -> u32
@@ -27,12 +27,12 @@ pub fn ordering_number(o: Ordering) -> i32
     }
 }
 
-pub fn header_number(h: Header) -> u32
+pub fn header_number(h: Result<(), HeaderRefusal>) -> u32
     ensures { result ≡ header_number h }
 {
     match h {
-        Header::Written => 0,
-        Header::TooManyTrees => 1,
-        Header::BufferTooShort => 2,
+        Ok(()) => 0,
+        Err(HeaderRefusal::TooManyTrees) => 1,
+        Err(HeaderRefusal::BufferTooShort) => 2,
     }
 }
