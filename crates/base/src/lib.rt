@@ -2,4 +2,5 @@
 #![tactic(auto)]
 
 pub mod little_endian;
+pub mod merging;
 pub mod numbers;
