@@ -61,3 +61,11 @@ pub enum Write {
     Written,
     BufferTooShort,
 }
+
+// Why an operation on an array of records and an output beside it is turned down.
+#[derive(Clone, Copy)]
+pub enum PolygonsRefusal {
+    TooManyPolygons,
+    BufferTooShort,
+    UnknownKind,
+}
