@@ -6,10 +6,9 @@ ghost use Rattle.materials.specs.Steps.Listing.{Room, Listed};
 
 use crate::listing::{dedupe, put_list};
 
-// How many materials the list has, or why there is none.
-#[derive(Clone, Copy)]
-pub enum Materials {
-    Built(usize),
+// Why there is no list.
+#[derive(Clone, Copy, Debug, PartialEq, Eq)]
+pub enum MaterialsRefusal {
     TooMany,
     BufferTooShort,
     TooManyMaterials,
@@ -70,7 +69,7 @@ fn write_materials(
     count
 }
 
-// The materials that n polygons use, each once, as bytes, and each polygon's index among them. `numbers` has the number of each
+// The materials that n polygons use, each once, as bytes, and each polygon's index among them; how many they are. `numbers` has the number of each
 // polygon's material, `mats` m materials of two words each.
 pub fn build_materials(
     n: usize,
@@ -79,7 +78,7 @@ pub fn build_materials(
     mats: &[u32],
     list: &mut [u8],
     indices: &mut [u8],
-) -> Materials
+) -> Result<usize, MaterialsRefusal>
     ensures { Answered n m
         (record {
           numbers = length numbers.now;
@@ -91,7 +90,7 @@ pub fn build_materials(
         list.old list.new indices.old indices.new result }
 {
     if too_many(n, m) {
-        return Materials::TooMany;
+        return Err(MaterialsRefusal::TooMany);
     }
     let lengths = Lengths {
         numbers: numbers.len(),
@@ -100,8 +99,8 @@ pub fn build_materials(
         indices: indices.len(),
     };
     if too_short(n, m, lengths) {
-        return Materials::BufferTooShort;
+        return Err(MaterialsRefusal::BufferTooShort);
     }
     let count = write_materials(n, numbers, m, mats, list, indices);
-    Materials::Built(count)
+    Ok(count)
 }

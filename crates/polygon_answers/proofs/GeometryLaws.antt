@@ -9,7 +9,8 @@ use Rattle.edges.specs.declared.entry.Edges.{Edges}
 use Rattle.edges.specs.declared.entry.Lengths.{Lengths}
 use Rattle.edges.specs.Edges.{Answered, kept, linked, number_of}
 use Rattle.materials.specs.declared.building.Lengths as L
-use Rattle.materials.specs.declared.building.Materials.{Materials}
+use Rattle.materials.specs.declared.building.MaterialsRefusal.{MaterialsRefusal}
+use Rattle.std.specs.Prelude.{Result}
 use Rattle.materials.specs.Answers as M
 use Rattle.materials.specs.Materials.{list_of, indices_of, materials_bytes}
 use Rattle.polygon.specs.Answers.{Wrote, write_exit, write_number}
@@ -86,11 +87,11 @@ edges_answered n l before after e r a given =
       bytes = a.bytes ∙ ap (λ (x : Edges). kept x (linked n before) before) a.answer;
     }
 
-pub materials_answered : (n m : ℕ) (l : L.Lengths) (ms list₀ list indices₀ indices : List ℕ) (b : Materials) (r : MaterialsAnswer)
+pub materials_answered : (n m : ℕ) (l : L.Lengths) (ms list₀ list indices₀ indices : List ℕ) (b : Result ℕ MaterialsRefusal) (r : MaterialsAnswer)
     → M.Answered n m l ms list₀ list indices₀ indices b → r ≡ materials_answer b → MaterialsAnswered n m l ms list₀ list indices₀ indices r
 materials_answered n m l ms list₀ list indices₀ indices b r a given =
     record {
       answer = given ∙ ap materials_answer a.answer;
-      listed = a.listed ∙ ap (λ (x : Materials). M.kept x (materials_bytes (list_of ms)) list₀) a.answer;
-      indexed = a.indexed ∙ ap (λ (x : Materials). M.kept x (indices_of ms) indices₀) a.answer;
+      listed = a.listed ∙ ap (λ (x : Result ℕ MaterialsRefusal). M.kept x (materials_bytes (list_of ms)) list₀) a.answer;
+      indexed = a.indexed ∙ ap (λ (x : Result ℕ MaterialsRefusal). M.kept x (indices_of ms) indices₀) a.answer;
     }

@@ -1,13 +1,12 @@
 -- What the C interface answers of polygons, their links and their materials. Definitions only.
-use Rattle.std.specs.Prelude.{ℕ, ◌*◌, cond, List, ◌≡◌, eqb, ltb, ℤ}
+use Rattle.std.specs.Prelude.{ℕ, ◌*◌, cond, List, ◌≡◌, Result, Ok, Err, eqb, ltb, ℤ}
 use Rattle.std.specs.Float.{binary32}
 use Rattle.std.specs.Float.Ieee.{of_bits}
 use Rattle.edges.specs.declared.entry.Lengths.{Lengths}
 use Rattle.edges.specs.Edges.{answer_of, kept, linked, number_of}
 use Rattle.float32.specs.Casts.{low16bits, signed16}
 use Rattle.materials.specs.declared.building.Lengths as L
-use Rattle.materials.specs.declared.building.Materials.{Materials}
-use Rattle.materials.specs.declared.building.Materials.TheVariants as Mat
+use Rattle.materials.specs.declared.building.MaterialsRefusal.{MaterialsRefusal}
 use Rattle.materials.specs.Answers as M
 use Rattle.materials.specs.Materials.{list_of, indices_of, materials_bytes}
 use Rattle.polygon.specs.Answers.{read_number, write_number, write_of, write_exit}
@@ -120,11 +119,9 @@ unfoldable pub materials_with : ℕ → ℕ → MaterialsAnswer
 materials_with n count = record { refusal = n; count = count }
 
 -- Rule M3 (01, materials): the number and the count of each answer.
-abbrev pub materials_answer : Materials → MaterialsAnswer
-materials_answer (Mat.Built count) = materials_with 0 count
-materials_answer Mat.TooMany = materials_with (M.number_of Mat.TooMany) 0
-materials_answer Mat.BufferTooShort = materials_with (M.number_of Mat.BufferTooShort) 0
-materials_answer Mat.TooManyMaterials = materials_with (M.number_of Mat.TooManyMaterials) 0
+abbrev pub materials_answer : Result ℕ MaterialsRefusal → MaterialsAnswer
+materials_answer (Ok count) = materials_with 0 count
+materials_answer (Err why) = materials_with (M.refusal_number why) 0
 
 -- Rule M3 (01, materials): the answer r, and every byte of the list and of the indices. ms are the polygons' materials.
 pub record MaterialsAnswered (n m : ℕ) (l : L.Lengths) (ms list₀ list indices₀ indices : List ℕ) (r : MaterialsAnswer) : Type 0 where

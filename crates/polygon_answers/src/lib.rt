@@ -3,6 +3,7 @@
 
 ghost use Rattle.std.specs.Prelude.{◌≡◌};
 ghost use Rattle.edges.specs.Edges.{number_of as edgesNumber};
+ghost use Rattle.materials.specs.Answers.{refusal_number as materialsRefusal};
 ghost use Rattle.polygon.specs.Answers.{refusal_number as readRefusal, read_of, write_number};
 ghost use Rattle.polygon_items.specs.Items.{number_of as itemsNumber};
 ghost use Rattle.polygon_answers.specs.Geometry.{triangle_struct, round_struct, box_struct, struct_of, triangle_in, box_in, polygon_in};
@@ -10,7 +11,7 @@ ghost use Rattle.polygon_answers.specs.Geometry.{unread, read_answer, WroteStruc
 ghost use Rattle.polygon_answers.specs.Geometry.{edges_work_len, materials_with, materials_answer};
 
 use edges::entry::Edges;
-use materials::building::Materials;
+use materials::building::MaterialsRefusal;
 use math::words3::Words3;
 use polygon::halves::{half_of, short_of};
 use polygon::writing::word_or;
@@ -345,13 +346,21 @@ fn materials_with(number: u32, count: usize) -> MaterialsAnswer
     }
 }
 
-pub fn materials_answer(m: Materials) -> MaterialsAnswer
+fn materials_refusal_number(why: MaterialsRefusal) -> u32
+    ensures { result ≡ materialsRefusal why }
+{
+    match why {
+        MaterialsRefusal::TooMany => 1,
+        MaterialsRefusal::BufferTooShort => 2,
+        MaterialsRefusal::TooManyMaterials => 8,
+    }
+}
+
+pub fn materials_answer(m: Result<usize, MaterialsRefusal>) -> MaterialsAnswer
     ensures { result ≡ materials_answer m }
 {
     match m {
-        Materials::Built(count) => materials_with(0, count),
-        Materials::TooMany => materials_with(1, 0),
-        Materials::BufferTooShort => materials_with(2, 0),
-        Materials::TooManyMaterials => materials_with(8, 0),
+        Ok(count) => materials_with(0, count),
+        Err(why) => materials_with(materials_refusal_number(why), 0),
     }
 }
