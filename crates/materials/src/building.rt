@@ -6,12 +6,12 @@ ghost use Rattle.materials.specs.Steps.Listing.{Room, Listed};
 
 use crate::listing::{dedupe, put_list};
 
-// Why there is no list.
-#[derive(Clone, Copy, Debug, PartialEq, Eq)]
+// Why there is no list, by the number that C is told.
+#[derive(Clone, Copy)]
 pub enum MaterialsRefusal {
-    TooMany,
-    BufferTooShort,
-    TooManyMaterials,
+    TooMany = 1,
+    BufferTooShort = 2,
+    TooManyMaterials = 8,
 }
 
 // The lengths of the lent buffers.
@@ -27,10 +27,7 @@ pub struct Lengths {
 fn too_many(n: usize, m: usize) -> bool
     ensures { result ≡ many n m }
 {
-    if n > 32767 {
-        return true;
-    }
-    m > 256
+    n > 32767 || m > 256
 }
 
 // Whether a buffer is too short for n polygons and m materials.
@@ -38,16 +35,7 @@ fn too_short(n: usize, m: usize, l: Lengths) -> bool
     requires { m ≤ 256 }
     ensures { result ≡ short n m l }
 {
-    if l.numbers < n {
-        return true;
-    }
-    if l.mats < 2 * m {
-        return true;
-    }
-    if l.list < 2048 {
-        return true;
-    }
-    l.indices < n
+    l.numbers < n || l.mats < 2 * m || l.list < 2048 || l.indices < n
 }
 
 // Writes the list and the indices; how many materials the list has.
