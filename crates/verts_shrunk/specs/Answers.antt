@@ -1,9 +1,7 @@
 -- What `calculate_verts_shrunk` answers, and what the points then hold. Definitions only.
-use Rattle.std.specs.Prelude.{ℕ, ◌+◌, ◌*◌, Bool, cond, not, ◌||◌, List, ◌≡◌, eqb, ltb}
+use Rattle.std.specs.Prelude.{ℕ, ◌+◌, ◌*◌, Bool, cond, not, ◌||◌, List, ◌≡◌, eqb, ltb, Float, Option, Some, None}
 use Rattle.base.specs.Lists.{over}
 use Rattle.corners.specs.Corners.{kinds_known}
-use Rattle.shrink.specs.declared.margin.Margin.{Margin}
-use Rattle.shrink.specs.declared.margin.Margin.TheVariants.{Passed, NonePasses}
 use Rattle.shrink.specs.Shrinking.{shrink_margin}
 use Rattle.shrinking.specs.Whole.{mesh_in, bound_of, infinite_start, shrunk_of}
 use Rattle.shrinking.specs.declared.whole.Geometry.{Geometry}
@@ -31,9 +29,9 @@ short n v l =
 
 -- ---- the answer
 
-abbrev pub shrunk_by : Margin → Shrunk
-shrunk_by (Passed m) = ByMargin m
-shrunk_by NonePasses = ByNormals
+abbrev pub shrunk_by : Option Float → Shrunk
+shrunk_by (Some m) = ByMargin m
+shrunk_by None = ByNormals
 
 -- Rule S10: the checks in the order of Prepare (01): 1, 2, 6, and 7 where there are vertices.
 unfoldable pub answer_of : Geometry → ℕ → List ℕ → ℕ → List ℕ → Lengths → Shrunk

@@ -5,7 +5,6 @@ ghost use Rattle.verts_shrunk.specs.Answers.{short_of, short, shrunk_by, Answere
 ghost use Rattle.verts_shrunk.specs.Steps.Work.{Lent};
 
 use corners::kinds_known;
-use shrink::margin::Margin;
 use shrinking::whole::{Geometry, infinite_start};
 
 // Why nothing is shrunk.
@@ -90,12 +89,12 @@ fn too_short(n: usize, v: usize, l: Lengths) -> bool
     l.news < 9 * n
 }
 
-fn shrunk_by(m: Margin) -> Shrunk
+fn shrunk_by(m: Option<f32>) -> Shrunk
     ensures { result ≡ shrunk_by m }
 {
     match m {
-        Margin::Passed(margin) => Shrunk::ByMargin(margin),
-        Margin::NonePasses => Shrunk::ByNormals,
+        Some(margin) => Shrunk::ByMargin(margin),
+        None => Shrunk::ByNormals,
     }
 }
 
@@ -115,7 +114,7 @@ fn shrink_polygons(
     normals: &mut [f32],
     olds: &mut [f32],
     news: &mut [f32],
-) -> Margin
+) -> Option<f32>
     requires { Lent n polygons.now v vertices.now points.old corners.old tri.old firsts.old spare.old links.old normals.old
         olds.old news.old }
     ensures { ShrunkTo geometry (mesh_in n polygons.now v vertices.now) points.new result }

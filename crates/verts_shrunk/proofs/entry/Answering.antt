@@ -8,11 +8,10 @@ use lib.Ieee.{Float}
 use lib.ListN.{length, take, drop}
 use lib.Seq.{length-take-le}
 use borrow.Author.Tests.{lt-ltb, le-ltb, ltb-false, eq-eqb, ne_eqb}
+use Rattle.std.specs.Prelude.{Option, Some, None}
 use Rattle.base.specs.Lists.{over}
 use Rattle.base.proofs.Truth.{neither}
 use Rattle.corners.specs.Corners.{kinds_known}
-use Rattle.shrink.specs.declared.margin.Margin.{Margin}
-use Rattle.shrink.specs.declared.margin.Margin.TheVariants.{Passed, NonePasses}
 use Rattle.shrink.specs.Shrinking.{shrink_margin}
 use Rattle.shrinking.specs.declared.whole.Geometry.{Geometry}
 use Rattle.verts_shrunk.specs.declared.entry.Lengths.{Lengths}
@@ -162,11 +161,11 @@ module _ (g : Geometry) (n : ℕ) (polygons : List ℕ) (v : ℕ) (vertices : Li
             unfolding answer_of
             as_shrunk = rw (le-ltb 32767 n few, le-ltb 32768 v few_vertices, long, known, ne_eqb v 0 some, finite)
 
-            written : (m : Margin) (a b : List ℕ) → a ≡ kept (shrunk_by m) a b
-            written (Passed m) a b = refl
-            written NonePasses a b = refl
+            written : (m : Option Float) (a b : List ℕ) → a ≡ kept (shrunk_by m) a b
+            written (Some m) a b = refl
+            written None a b = refl
 
-            pub served : (front : List ℕ) (m : Margin) (r : Shrunk) → length front ≡ 3 * v → ShrunkTo g (mesh_in n polygons v vertices) front m
+            pub served : (front : List ℕ) (m : Option Float) (r : Shrunk) → length front ≡ 3 * v → ShrunkTo g (mesh_in n polygons v vertices) front m
                 → r ≡ shrunk_by m → done (front ++ drop (3 * v) before) r
             served front m r size s e =
                 let whole : List ℕ = over (shrunk_of g (mesh_in n polygons v vertices)) before in
