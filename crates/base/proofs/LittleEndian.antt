@@ -90,10 +90,3 @@ unfolding le_at
 le_past zero bytes k h = refl
 le_past (suc size) bytes k h =
     ap₂ (λ (b n : ℕ). b + 256 * n) (get_or-eq_default bytes 0 {n = k} h) (le_past size bytes (k + 1) (omega arith))
-
--- Four bytes are two and two.
-pub le_four : (bytes : List ℕ) (k : ℕ) → le_at 2 bytes k + 65536 * le_at 2 bytes (k + 2) ≡ le_at 4 bytes k
-unfolding le_at
-le_four bytes k =
-    let e : k + 1 + 1 ≡ k + 2 = omega arith in
-    rw e (omega arith)

@@ -9,18 +9,10 @@ pub fn put_le(out: &mut [u8], at: usize, size: usize, n: u64)
     ensures { out.new ≡ sets out.old at (little_endian size n) }
 {
     let mut rest = n;
-    let mut i = 0;
-    while i < size {
+    for i in 0..size {
         out[at + i] = (rest % 256) as u8;
-        rest = rest / 256;
-        i += 1;
+        rest /= 256;
     }
-}
-
-fn wide(byte: u8) -> u32
-    ensures { (result ≡ byte) × (result < 256) }
-{
-    byte as u32
 }
 
 // The number of the two bytes from `at` on.
@@ -28,9 +20,7 @@ pub fn two_at(bytes: &[u8], at: usize) -> u32
     requires { at + 2 ≤ length bytes.now }
     ensures { (result ≡ le_at 2 bytes.now at) × (result < 65536) }
 {
-    let low = wide(bytes[at]);
-    let high = wide(bytes[at + 1]);
-    low + 256 * high
+    u16::from_le_bytes([bytes[at], bytes[at + 1]]) as u32
 }
 
 // The number of the four bytes from `at` on.
@@ -38,7 +28,5 @@ pub fn word_at(bytes: &[u8], at: usize) -> u32
     requires { at + 4 ≤ length bytes.now }
     ensures { result ≡ le_at 4 bytes.now at }
 {
-    let low = two_at(bytes, at);
-    let high = two_at(bytes, at + 2);
-    low + 65536 * high
+    u32::from_le_bytes([bytes[at], bytes[at + 1], bytes[at + 2], bytes[at + 3]])
 }

@@ -13,16 +13,15 @@ loop-i-init c =
     let a = c.args in
     let start : a.at + 0 ≡ a.at = omega arith in
     let whole : a.size - 0 ≡ a.size = omega arith in
-    record { within = omega arith; long = cc; same = cc }
+    record { long = cc; same = cc }
 
 pub loop-i-preserved : goal.loop-i-preserved
 loop-i-preserved c =
     let l = c.loop-i in
     let a = c.args in
     record {
-      within = omega arith;
       long = simp length-set l.invariant.long;
-      same = store_lowest l.out a.at a.size l.i l.rest c.loop-i-test.true ∙ l.invariant.same;
+      same = store_lowest l.out a.at a.size l.i l.rest (omega arith) ∙ l.invariant.same;
     }
 
 pub returns : goal.returns
