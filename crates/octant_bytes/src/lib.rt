@@ -4,24 +4,18 @@
 ghost use Rattle.std.specs.Prelude.{◌≡◌, ◌++◌, ◌+◌, ◌*◌, ◌≤◌, ◌<◌, length, replicate};
 ghost use Rattle.std.proofs.lemmas.List.Edits.{sets};
 ghost use Rattle.base.specs.LittleEndian.{little_endian};
-ghost use Rattle.octant_bytes.specs.Answers.{many, answer_of, refusal_number, number_of, Answered};
+ghost use Rattle.octant_bytes.specs.Answers.{many, answer_of, number_of, Answered};
 ghost use Rattle.octant_bytes.specs.Bytes.{all_of, lengths_of, counts_bytes, pointers_bytes, lists_bytes};
 ghost use Rattle.octant_bytes.specs.Steps.Counts.{Few, listed, eight, four_bytes, ListPut};
 
 use base::little_endian::put_le;
 
-// Why no octants are written.
+// Why no octants are written, by the number that C is told.
 #[derive(Clone, Copy)]
 pub enum OctantBytesRefusal {
-    TooManyIndices,
-    BufferTooShort,
-    AddressTooHigh,
-}
-
-#[derive(Clone, Copy)]
-pub enum OctantBytes {
-    Written,
-    Refused(OctantBytesRefusal),
+    TooManyIndices = 1,
+    BufferTooShort = 2,
+    AddressTooHigh = 12,
 }
 
 // The lengths of the eight lists.
@@ -41,28 +35,14 @@ pub struct Counts {
 fn too_many(c: Counts) -> bool
     ensures { result ≡ many (listed c) }
 {
-    if c.c0 > 32768 {
-        return true;
-    }
-    if c.c1 > 32768 {
-        return true;
-    }
-    if c.c2 > 32768 {
-        return true;
-    }
-    if c.c3 > 32768 {
-        return true;
-    }
-    if c.c4 > 32768 {
-        return true;
-    }
-    if c.c5 > 32768 {
-        return true;
-    }
-    if c.c6 > 32768 {
-        return true;
-    }
-    c.c7 > 32768
+    c.c0 > 32768
+        || c.c1 > 32768
+        || c.c2 > 32768
+        || c.c3 > 32768
+        || c.c4 > 32768
+        || c.c5 > 32768
+        || c.c6 > 32768
+        || c.c7 > 32768
 }
 
 // How many indices there are in all.
@@ -74,20 +54,20 @@ fn all_of(c: Counts) -> usize
 }
 
 // The checks. The address is compared with what is left of the numbers, so that no sum overflows.
-fn judged(address: u64, c: Counts, room: usize) -> OctantBytes
+fn judged(address: u64, c: Counts, room: usize) -> Result<(), OctantBytesRefusal>
     ensures { result ≡ answer_of address (listed c) room }
 {
     if too_many(c) {
-        return OctantBytes::Refused(OctantBytesRefusal::TooManyIndices);
+        return Err(OctantBytesRefusal::TooManyIndices);
     }
     let all = all_of(c);
     if room < 128 + 4 * all {
-        return OctantBytes::Refused(OctantBytesRefusal::BufferTooShort);
+        return Err(OctantBytesRefusal::BufferTooShort);
     }
     if address > 18446744073709551615 - (96 + 4 * all) as u64 {
-        return OctantBytes::Refused(OctantBytesRefusal::AddressTooHigh);
+        return Err(OctantBytesRefusal::AddressTooHigh);
     }
-    OctantBytes::Written
+    Ok(())
 }
 
 // Four numbers of `size` bytes each, from `at` on.
@@ -155,13 +135,10 @@ fn put_list(out: &mut [u8], at: usize, list: &[u32]) -> usize
     requires { at + 4 * length list.now ≤ length out.old }
     ensures { ListPut list.now out.old out.new at result }
 {
-    let n = list.len();
-    let mut i = 0;
-    while i < n {
-        put_word(out, at + 4 * i, list[i]);
-        i += 1;
+    for (i, index) in list.iter().enumerate() {
+        put_word(out, at + 4 * i, *index);
     }
-    at + 4 * n
+    at + 4 * list.len()
 }
 
 // The eight lists, from byte 96 on, and 32 zeros.
@@ -203,7 +180,7 @@ pub fn write_octants(
     l6: &[u32],
     l7: &[u32],
     out: &mut [u8],
-) -> OctantBytes
+) -> Result<(), OctantBytesRefusal>
     ensures { Answered address (eight l0.now l1.now l2.now l3.now l4.now
         l5.now l6.now l7.now) out.old out.new result }
 {
@@ -217,32 +194,18 @@ pub fn write_octants(
         c6: l6.len(),
         c7: l7.len(),
     };
-    match judged(address, counts, out.len()) {
-        OctantBytes::Refused(why) => OctantBytes::Refused(why),
-        OctantBytes::Written => {
-            put_head(out, address + 96, counts);
-            put_lists(out, l0, l1, l2, l3, l4, l5, l6, l7);
-            OctantBytes::Written
-        }
-    }
+    judged(address, counts, out.len())?;
+    put_head(out, address + 96, counts);
+    put_lists(out, l0, l1, l2, l3, l4, l5, l6, l7);
+    Ok(())
 }
 
-fn refusal_number(why: OctantBytesRefusal) -> u32
-    ensures { result ≡ refusal_number why }
-{
-    match why {
-        OctantBytesRefusal::TooManyIndices => 1,
-        OctantBytesRefusal::BufferTooShort => 2,
-        OctantBytesRefusal::AddressTooHigh => 12,
-    }
-}
-
-// An answer's number, for a caller that no enum can be given to.
-pub fn number(answer: OctantBytes) -> u32
+// An answer's number, for a caller that no Result can be given to.
+pub fn number(answer: Result<(), OctantBytesRefusal>) -> u32
     ensures { result ≡ number_of answer }
 {
     match answer {
-        OctantBytes::Written => 0,
-        OctantBytes::Refused(why) => refusal_number(why),
+        Ok(()) => 0,
+        Err(why) => why as u32,
     }
 }

@@ -1,10 +1,9 @@
 -- What calculating octants answers in C. Definitions only.
-use Rattle.std.specs.Prelude.{ℕ, List, ◌≡◌}
+use Rattle.std.specs.Prelude.{ℕ, List, ◌≡◌, Result, Ok, Err}
 use Rattle.octants.specs.Octants.{answer_of, number_of, kept, listed}
 use Rattle.octants.specs.declared.answering.OctantsAnswer.{OctantsAnswer}
 use Rattle.octants.specs.declared.entry.Lengths.{Lengths}
-use Rattle.octants.specs.declared.entry.Octants.{Octants}
-use Rattle.octants.specs.declared.entry.Octants.TheVariants.{Listed, Refused}
+use Rattle.octants.specs.declared.entry.OctantsRefusal.{OctantsRefusal}
 use Rattle.octants.specs.declared.lists.OctantCounts.{OctantCounts}
 
 unfoldable pub with_counts : OctantCounts → OctantsAnswer
@@ -26,9 +25,9 @@ unfoldable pub without : ℕ → OctantsAnswer
 without n = record { refusal = n; c0 = 0; c1 = 0; c2 = 0; c3 = 0; c4 = 0; c5 = 0; c6 = 0; c7 = 0 }
 
 -- Rule O3 (01, octants): the number and the counts of each answer.
-abbrev pub answer_in : Octants → OctantsAnswer
-answer_in (Listed c) = with_counts c
-answer_in (Refused r) = without (number_of (Refused r))
+abbrev pub answer_in : Result OctantCounts OctantsRefusal → OctantsAnswer
+answer_in (Ok c) = with_counts c
+answer_in (Err r) = without (number_of (Err r))
 
 -- Rule O3: the answer r, and every word of the lists.
 pub record AnsweredIn (n : ℕ) (l : Lengths) (ws before after : List ℕ) (r : OctantsAnswer) : Type 0 where

@@ -1,12 +1,10 @@
 -- What `calculate_octants` answers, and what the lists then hold. Definitions only.
-use Rattle.std.specs.Prelude.{ℕ, zero, suc, ◌+◌, ◌*◌, Bool, cond, ◌||◌, List, [], ◌++◌, ◌≡◌, ltb, length, take, drop}
+use Rattle.std.specs.Prelude.{ℕ, zero, suc, ◌+◌, ◌*◌, Bool, cond, ◌||◌, List, [], ◌++◌, ◌≡◌, ltb, length, take, drop, Result, Ok, Err}
 use Rattle.base.specs.Lists.{over}
 use Rattle.shadows.specs.Octants.{octant_of}
 use Rattle.octants.specs.declared.lists.OctantCounts.{OctantCounts}
 use Rattle.octants.specs.declared.entry.OctantsRefusal.{OctantsRefusal}
 use Rattle.octants.specs.declared.entry.OctantsRefusal.TheVariants.{TooManyVertices, BufferTooShort}
-use Rattle.octants.specs.declared.entry.Octants.{Octants}
-use Rattle.octants.specs.declared.entry.Octants.TheVariants.{Listed, Refused}
 use Rattle.octants.specs.declared.entry.Lengths.{Lengths}
 
 -- ---- the lists
@@ -57,28 +55,28 @@ short n l =
     || ltb l.order n || ltb l.temp n || ltb l.marks n
 
 -- Rule O3 (01, octants): the checks in the order written.
-unfoldable pub answer_of : ℕ → Lengths → List ℕ → Octants
+unfoldable pub answer_of : ℕ → Lengths → List ℕ → Result OctantCounts OctantsRefusal
 answer_of n l ws =
-    cond (ltb 32768 n) (Refused TooManyVertices)
-    (cond (short n l) (Refused BufferTooShort)
-    (Listed (counts_of (λ o. octant_of o ws n))))
+    cond (ltb 32768 n) (Err TooManyVertices)
+    (cond (short n l) (Err BufferTooShort)
+    (Ok (counts_of (λ o. octant_of o ws n))))
 
 -- 01's number for each answer, 0 where it is not refused
 abbrev pub refusal_number : OctantsRefusal → ℕ
 refusal_number TooManyVertices = 1
 refusal_number BufferTooShort = 2
 
-abbrev pub number_of : Octants → ℕ
-number_of (Listed counts) = 0
-number_of (Refused r) = refusal_number r
+abbrev pub number_of : Result OctantCounts OctantsRefusal → ℕ
+number_of (Ok counts) = 0
+number_of (Err r) = refusal_number r
 
 -- what the lists hold at the end: on a refusal what they held
-abbrev pub kept : Octants → List ℕ → List ℕ → List ℕ
-kept (Listed counts) after before = after
-kept (Refused r) after before = before
+abbrev pub kept : Result OctantCounts OctantsRefusal → List ℕ → List ℕ → List ℕ
+kept (Ok counts) after before = after
+kept (Err r) after before = before
 
 -- The answer, and every word of the lists.
-pub record Answered (n : ℕ) (l : Lengths) (ws before after : List ℕ) (r : Octants) : Type 0 where
+pub record Answered (n : ℕ) (l : Lengths) (ws before after : List ℕ) (r : Result OctantCounts OctantsRefusal) : Type 0 where
   pub answer : r ≡ answer_of n l ws
   pub lists_are : after ≡ kept r (listed n ws before) before
 

@@ -1,9 +1,9 @@
-// What calculating octants answers in C: numbers for the cases of the enum.
+// What calculating octants answers in C: a number in place of a Result.
 ghost use Rattle.std.specs.Prelude.{◌≡◌};
-ghost use Rattle.octants.specs.Octants.{refusal_number, work_words};
+ghost use Rattle.octants.specs.Octants.{work_words};
 ghost use Rattle.octants.specs.Answers.{with_counts, without, answer_in};
 
-use crate::entry::{Octants, OctantsRefusal};
+use crate::entry::OctantsRefusal;
 use crate::lists::OctantCounts;
 
 // 01's number, 0 where it is not refused, and how many each list has, 0 where it is.
@@ -53,21 +53,12 @@ fn without(number: u32) -> OctantsAnswer
     }
 }
 
-fn refusal_number(why: OctantsRefusal) -> u32
-    ensures { result ≡ refusal_number why }
-{
-    match why {
-        OctantsRefusal::TooManyVertices => 1,
-        OctantsRefusal::BufferTooShort => 2,
-    }
-}
-
-pub fn answer(o: Octants) -> OctantsAnswer
+pub fn answer(o: Result<OctantCounts, OctantsRefusal>) -> OctantsAnswer
     ensures { result ≡ answer_in o }
 {
     match o {
-        Octants::Listed(counts) => with_counts(counts),
-        Octants::Refused(why) => without(refusal_number(why)),
+        Ok(counts) => with_counts(counts),
+        Err(why) => without(why as u32),
     }
 }
 

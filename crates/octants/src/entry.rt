@@ -4,18 +4,11 @@ ghost use Rattle.octants.specs.Octants.{short, Answered};
 
 use crate::lists::OctantCounts;
 
-// Why there are no lists.
+// Why there are no lists, by the number that C is told.
 #[derive(Clone, Copy)]
 pub enum OctantsRefusal {
-    TooManyVertices,
-    BufferTooShort,
-}
-
-// How many each list has, or why there are none.
-#[derive(Clone, Copy)]
-pub enum Octants {
-    Listed(OctantCounts),
-    Refused(OctantsRefusal),
+    TooManyVertices = 1,
+    BufferTooShort = 2,
 }
 
 // The lengths of the lent buffers.
@@ -35,28 +28,16 @@ fn too_short(n: usize, l: Lengths) -> bool
     requires { n ≤ 32768 }
     ensures { result ≡ short n l }
 {
-    if l.vertices < 3 * n {
-        return true;
-    }
-    if l.lists < 8 * n {
-        return true;
-    }
-    if l.keys < 3 * n {
-        return true;
-    }
-    if l.rows < 4 * n {
-        return true;
-    }
-    if l.order < n {
-        return true;
-    }
-    if l.temp < n {
-        return true;
-    }
-    l.marks < n
+    l.vertices < 3 * n
+        || l.lists < 8 * n
+        || l.keys < 3 * n
+        || l.rows < 4 * n
+        || l.order < n
+        || l.temp < n
+        || l.marks < n
 }
 
-// The octants of n vertices, three words each: list k from word k * n of `lists` on. The other slices are to work in.
+// The octants of n vertices, three words each: list k from word k * n of `lists` on; how many each has. The other slices are to work in.
 pub fn calculate_octants(
     n: usize,
     vertices: &[u32],
@@ -66,7 +47,7 @@ pub fn calculate_octants(
     order: &mut [u32],
     temp: &mut [u32],
     marks: &mut [u32],
-) -> Octants
+) -> Result<OctantCounts, OctantsRefusal>
     ensures { Answered n
         (record {
           vertices = length vertices.now;
@@ -80,7 +61,7 @@ pub fn calculate_octants(
         vertices.now lists.old lists.new result }
 {
     if n > 32768 {
-        return Octants::Refused(OctantsRefusal::TooManyVertices);
+        return Err(OctantsRefusal::TooManyVertices);
     }
     let lengths = Lengths {
         vertices: vertices.len(),
@@ -92,8 +73,8 @@ pub fn calculate_octants(
         marks: marks.len(),
     };
     if too_short(n, lengths) {
-        return Octants::Refused(OctantsRefusal::BufferTooShort);
+        return Err(OctantsRefusal::BufferTooShort);
     }
     let counts = crate::lists::list_octants(n, vertices, lists, keys, rows, order, temp, marks);
-    Octants::Listed(counts)
+    Ok(counts)
 }

@@ -27,7 +27,7 @@ use Rattle.polygon.specs.Canonical.{canonical, Word, PolygonFits, HalvesFit, kep
 use Rattle.polygon.specs.declared.halves.Halves.{Halves}
 use Rattle.polygon.specs.declared.Polygon.{Polygon}
 use Rattle.polygon.specs.declared.Polygon.TheVariants.{Triangle, Sphere, Capsule, Box, Cylinder}
-use Rattle.polygon.specs.declared.Read.TheVariants.{Found, Refused}
+use Rattle.std.proofs.Common.{Ok, Err}
 use Rattle.polygon.specs.declared.ReadRefusal.TheVariants.{ShortRecord, UnknownKind}
 use Rattle.polygon.proofs.KindLaws.{kind_read, triangle_by_kind, box_by_kind, sphere_by_kind, capsule_by_kind, cylinder_by_kind}
 use Rattle.polygon.proofs.Sizes.{polygon_bytes_lem}
@@ -333,10 +333,10 @@ kind_written (Box i1 i2 i3 i4) rest = omega arith
 kind_written (Cylinder i1 i2 radius nan) rest = omega arith
 
 -- What `read` answers to what `write` has written.
-pub read_after_write : (p : Polygon) (rest : List ℕ) → PolygonFits p → read_of (polygon_bytes p ++ rest) ≡ Found (canonical p)
+pub read_after_write : (p : Polygon) (rest : List ℕ) → PolygonFits p → read_of (polygon_bytes p ++ rest) ≡ Ok (canonical p)
 unfolding read_of
 read_after_write p rest f =
     let long : 16 ≤ length (polygon_bytes p ++ rest) = omega (arith, length-append (polygon_bytes p) rest, (polygon_bytes_lem p).size) in
-    ap₂ (λ (short unknown : Bool). cond short (Refused ShortRecord) (cond unknown (Refused UnknownKind) (Found (polygon_at (polygon_bytes p ++ rest) 0))))
+    ap₂ (λ (short unknown : Bool). cond short (Err ShortRecord) (cond unknown (Err UnknownKind) (Ok (polygon_at (polygon_bytes p ++ rest) 0))))
     (le-ltb _ _ long) (le-ltb _ _ (kind_written p rest))
-    ∙ ap Found (polygon_back [] rest 0 p refl f)
+    ∙ ap Ok (polygon_back [] rest 0 p refl f)

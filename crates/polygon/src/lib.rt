@@ -43,21 +43,23 @@ pub enum Polygon {
     },
 }
 
-// Why a record is not read.
+// Why a record is not read, by the number that C is told.
 #[derive(Clone, Copy)]
 pub enum ReadRefusal {
-    ShortRecord,
-    UnknownKind,
+    ShortRecord = 5,
+    UnknownKind = 6,
 }
 
+// Why a record is not written, by the number that C is told.
 #[derive(Clone, Copy)]
-pub enum Read {
-    Found(Polygon),
-    Refused(ReadRefusal),
+pub enum WriteRefusal {
+    BufferTooShort = 2,
 }
 
+// Why an operation on an array of records and an output beside it is turned down, by the number that C is told.
 #[derive(Clone, Copy)]
-pub enum Write {
-    Written,
-    BufferTooShort,
+pub enum PolygonsRefusal {
+    TooManyPolygons = 1,
+    BufferTooShort = 2,
+    UnknownKind = 6,
 }

@@ -4,7 +4,7 @@ ghost use Rattle.polygon.specs.Polygons.{joined, kind_at, triangle_of, box_of, p
 ghost use Rattle.polygon.specs.Answers.{read_of};
 
 use crate::halves::{Halves, halves_at, short_of};
-use crate::{Polygon, Read, ReadRefusal};
+use crate::{Polygon, ReadRefusal};
 
 fn joined(low: u16, high: u16) -> u32
     ensures { result ≡ joined low high }
@@ -98,14 +98,14 @@ pub fn polygon_at(bytes: &[u8], at: usize) -> Polygon
 }
 
 // The polygon of the first 16 bytes, or why there is none.
-pub fn read(bytes: &[u8]) -> Read
+pub fn read(bytes: &[u8]) -> Result<Polygon, ReadRefusal>
     ensures { result ≡ read_of bytes.now }
 {
     if bytes.len() < 16 {
-        return Read::Refused(ReadRefusal::ShortRecord);
+        return Err(ReadRefusal::ShortRecord);
     }
     if kind_at(bytes, 0) > 4 {
-        return Read::Refused(ReadRefusal::UnknownKind);
+        return Err(ReadRefusal::UnknownKind);
     }
-    Read::Found(polygon_at(bytes, 0))
+    Ok(polygon_at(bytes, 0))
 }

@@ -5,7 +5,7 @@ ghost use Rattle.polygon.specs.Polygons.{nan_or, word_or, round_halves, triangle
 ghost use Rattle.polygon.specs.Answers.{Wrote};
 
 use crate::halves::{Halves, half_of, put_halves};
-use crate::{Polygon, Write};
+use crate::{Polygon, WriteRefusal};
 
 // A NaN's word as it is; any other word would make a number of a NaN.
 fn nan_or(word: u32) -> u32
@@ -125,12 +125,12 @@ pub fn put_polygon(out: &mut [u8], at: usize, p: Polygon)
 }
 
 // The record in the first 16 bytes, or a refusal that changes none.
-pub fn write(out: &mut [u8], p: Polygon) -> Write
+pub fn write(out: &mut [u8], p: Polygon) -> Result<(), WriteRefusal>
     ensures { Wrote p out.old out.new result }
 {
     if out.len() < 16 {
-        return Write::BufferTooShort;
+        return Err(WriteRefusal::BufferTooShort);
     }
     put_polygon(out, 0, p);
-    Write::Written
+    Ok(())
 }

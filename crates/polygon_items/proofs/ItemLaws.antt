@@ -9,6 +9,7 @@ use lib.Dec.{ltb}
 use lib.ListN.{length, set}
 use lib.Seq.{sets}
 use borrow.Author.Tests.{lt-ltb, le-ltb, ltb-false}
+use Rattle.std.proofs.Common.{Ok, Err}
 use Rattle.base.specs.Lists.{over}
 use Rattle.base.proofs.StoreLaws.{over_next}
 use Rattle.base.proofs.Truth.{neither}
@@ -24,7 +25,7 @@ use Rattle.math.specs.declared.words3.Words3.{Words3}
 use Rattle.float32.specs.Extremes.{vmin_word, vmax_word}
 use Rattle.polygon_boxes.specs.Boxes.{vertex_words, three_box, bbox_of}
 use Rattle.polygon_boxes.specs.declared.PolygonBox.{PolygonBox}
-use Rattle.polygon_items.specs.declared.Items.TheVariants.{Boxed, TooManyPolygons, BufferTooShort, UnknownKind}
+use Rattle.polygon.specs.declared.PolygonsRefusal.TheVariants.{TooManyPolygons, BufferTooShort, UnknownKind}
 use Rattle.polygon_items.specs.Items.{item_words, item_at, items_of, short, answer_of, Answered}
 
 pub seven_stores : (l : List ℕ) (at a b c d e f g : ℕ)
@@ -84,31 +85,31 @@ module _ (n : ℕ) (bytes ws before : List ℕ) where
       let k = neither (ltb (length bytes) (16 * n)) (ltb (length before) (7 * n)) e in
       (ltb-false (length bytes) (16 * n) k.0, ltb-false (length before) (7 * n) k.1)
 
-  many : 32767 < n → TooManyPolygons ≡ answer_of n bytes before
+  many : 32767 < n → Err TooManyPolygons ≡ answer_of n bytes before
   unfolding answer_of
   many h = rw (lt-ltb 32767 n h)
 
-  pub too_many : 32767 < n → Answered n bytes ws before before TooManyPolygons
+  pub too_many : 32767 < n → Answered n bytes ws before before (Err TooManyPolygons)
   too_many h = record { answer = many h; words = refl }
 
-  small : n ≤ 32767 → missing ≡ true → BufferTooShort ≡ answer_of n bytes before
+  small : n ≤ 32767 → missing ≡ true → Err BufferTooShort ≡ answer_of n bytes before
   unfolding answer_of
   small h e = rw (le-ltb 32767 n h, e)
 
-  pub too_small : n ≤ 32767 → missing ≡ true → Answered n bytes ws before before BufferTooShort
+  pub too_small : n ≤ 32767 → missing ≡ true → Answered n bytes ws before before (Err BufferTooShort)
   too_small h e = record { answer = small h e; words = refl }
 
-  other : n ≤ 32767 → missing ≡ false → kinds_known n bytes ≡ false → UnknownKind ≡ answer_of n bytes before
+  other : n ≤ 32767 → missing ≡ false → kinds_known n bytes ≡ false → Err UnknownKind ≡ answer_of n bytes before
   unfolding answer_of
   other h e k = rw (le-ltb 32767 n h, e, k)
 
-  pub unknown : n ≤ 32767 → missing ≡ false → kinds_known n bytes ≡ false → Answered n bytes ws before before UnknownKind
+  pub unknown : n ≤ 32767 → missing ≡ false → kinds_known n bytes ≡ false → Answered n bytes ws before before (Err UnknownKind)
   unknown h e k = record { answer = other h e k; words = refl }
 
-  done : n ≤ 32767 → missing ≡ false → kinds_known n bytes ≡ true → Boxed ≡ answer_of n bytes before
+  done : n ≤ 32767 → missing ≡ false → kinds_known n bytes ≡ true → Ok tt ≡ answer_of n bytes before
   unfolding answer_of
   done h e k = rw (le-ltb 32767 n h, e, k)
 
   pub served : (after : List ℕ) → n ≤ 32767 → missing ≡ false → kinds_known n bytes ≡ true → after ≡ over (items_of n bytes ws) before
-      → Answered n bytes ws before after Boxed
+      → Answered n bytes ws before after (Ok tt)
   served after h e k q = record { answer = done h e k; words = q }

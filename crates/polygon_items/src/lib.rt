@@ -11,20 +11,12 @@ ghost use Rattle.polygon_items.specs.Items.{item_words, items_of, short, Answere
 
 use corners::kinds_known;
 use math::words3::Words3;
+use polygon::PolygonsRefusal;
 use polygon::halves::half_at;
 use polygon::reading::polygon_at;
 use polygon_boxes::numbers::{all_three, high3, low3};
 use polygon_boxes::triangles::within;
 use polygon_boxes::{PolygonBox, bbox, near_words};
-
-// The entries are written, or why not.
-#[derive(Clone, Copy)]
-pub enum Items {
-    Boxed,
-    TooManyPolygons,
-    BufferTooShort,
-    UnknownKind,
-}
 
 // A present entry with this box, from `at` on.
 fn put_item(items: &mut [u32], at: usize, b: PolygonBox)
@@ -81,10 +73,8 @@ pub fn put_items(n: usize, polygons: &[u8], vertices: &[u32], items: &mut [u32])
     requires { (16 * n ≤ length polygons.now) × (7 * n ≤ length items.old) }
     ensures { items.new ≡ over (items_of n polygons.now vertices.now) items.old }
 {
-    let mut i = 0;
-    while i < n {
+    for i in 0..n {
         put_one(polygons, 16 * i, vertices, items, 7 * i);
-        i += 1;
     }
 }
 
@@ -93,25 +83,27 @@ fn too_short(n: usize, polygons: usize, items: usize) -> bool
     requires { n ≤ 32767 }
     ensures { result ≡ short n polygons items }
 {
-    if polygons < 16 * n {
-        return true;
-    }
-    items < 7 * n
+    polygons < 16 * n || items < 7 * n
 }
 
 // The entries of n records over their vertices, three words each.
-pub fn polygon_items(n: usize, polygons: &[u8], vertices: &[u32], items: &mut [u32]) -> Items
+pub fn polygon_items(
+    n: usize,
+    polygons: &[u8],
+    vertices: &[u32],
+    items: &mut [u32],
+) -> Result<(), PolygonsRefusal>
     ensures { Answered n polygons.now vertices.now items.old items.new result }
 {
     if n > 32767 {
-        return Items::TooManyPolygons;
+        return Err(PolygonsRefusal::TooManyPolygons);
     }
     if too_short(n, polygons.len(), items.len()) {
-        return Items::BufferTooShort;
+        return Err(PolygonsRefusal::BufferTooShort);
     }
     if !kinds_known(polygons, n) {
-        return Items::UnknownKind;
+        return Err(PolygonsRefusal::UnknownKind);
     }
     put_items(n, polygons, vertices, items);
-    Items::Boxed
+    Ok(())
 }

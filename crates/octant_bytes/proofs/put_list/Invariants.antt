@@ -1,11 +1,6 @@
 -- `put_list`, by the invariant `Putting`.
-use Prim.Native.Nat.{◌-◌, ◌≤◌}
-use lib.ListN.{length}
 use Rattle.octant_bytes.proofs.Laying.{Putting}
 use Rattle.octant_bytes.proofs.put_list.Given as goal
 
 abbrev pub invariant-loop-i : goal.invariant-loop-i
-invariant-loop-i l = (Putting l.list l.initial.out l.out l.at l.i) × (l.i ≤ length l.list)
-
-abbrev pub decreases-loop-i : goal.decreases-loop-i
-decreases-loop-i l = length l.list - l.i
+invariant-loop-i l = Putting l.list l.initial.out l.out l.at l.i

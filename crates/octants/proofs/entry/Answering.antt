@@ -9,7 +9,7 @@ use Rattle.base.proofs.Truth.{neither}
 use Rattle.shadows.specs.Octants.{octant_of}
 use Rattle.octants.specs.declared.lists.OctantCounts.{OctantCounts}
 use Rattle.octants.specs.declared.entry.OctantsRefusal.TheVariants.{TooManyVertices, BufferTooShort}
-use Rattle.octants.specs.declared.entry.Octants.TheVariants.{Listed, Refused}
+use Rattle.std.proofs.Common.{Ok, Err}
 use Rattle.octants.specs.declared.entry.Lengths.{Lengths}
 use Rattle.octants.specs.Octants.{short, counts_of, answer_of, Answered, Wrote}
 
@@ -33,23 +33,23 @@ module _ (n : ℕ) (l : Lengths) where
       )
 
   module _ (ws before : List ℕ) where
-    many : 32768 < n → Refused TooManyVertices ≡ answer_of n l ws
+    many : 32768 < n → Err TooManyVertices ≡ answer_of n l ws
     unfolding answer_of
     many h = rw (lt-ltb 32768 n h)
 
-    pub too_many : 32768 < n → Answered n l ws before before (Refused TooManyVertices)
+    pub too_many : 32768 < n → Answered n l ws before before (Err TooManyVertices)
     too_many h = record { answer = many h; lists_are = refl }
 
-    small : n ≤ 32768 → short n l ≡ true → Refused BufferTooShort ≡ answer_of n l ws
+    small : n ≤ 32768 → short n l ≡ true → Err BufferTooShort ≡ answer_of n l ws
     unfolding answer_of
     small h e = rw (le-ltb 32768 n h, e)
 
-    pub too_small : n ≤ 32768 → short n l ≡ true → Answered n l ws before before (Refused BufferTooShort)
+    pub too_small : n ≤ 32768 → short n l ≡ true → Answered n l ws before before (Err BufferTooShort)
     too_small h e = record { answer = small h e; lists_are = refl }
 
-    done : n ≤ 32768 → short n l ≡ false → Listed (counts_of (λ o. octant_of o ws n)) ≡ answer_of n l ws
+    done : n ≤ 32768 → short n l ≡ false → Ok (counts_of (λ o. octant_of o ws n)) ≡ answer_of n l ws
     unfolding answer_of
     done h e = rw (le-ltb 32768 n h, e)
 
-    pub served : (after : List ℕ) (r : OctantCounts) → n ≤ 32768 → short n l ≡ false → Wrote n ws before after r → Answered n l ws before after (Listed r)
-    served after r h e w = record { answer = ap Listed w.counts ∙ done h e; lists_are = w.lists_are }
+    pub served : (after : List ℕ) (r : OctantCounts) → n ≤ 32768 → short n l ≡ false → Wrote n ws before after r → Answered n l ws before after (Ok r)
+    served after r h e w = record { answer = ap Ok w.counts ∙ done h e; lists_are = w.lists_are }

@@ -4,7 +4,7 @@ use Prim.Native.Nat.{◌≤◌, ◌<◌}
 use borrow.Author.Tests.{lt-ltb, le-ltb}
 use Rattle.polygon.specs.Polygons.{kind_at}
 use Rattle.polygon.specs.Answers.{read_of}
-use Rattle.polygon.specs.declared.Read.TheVariants.{Found}
+use Rattle.std.proofs.Common.{Ok}
 use native.Mathlib.Omega.{arith}
 use Rattle.polygon.proofs.reading.read.Goals as goal
 
@@ -24,4 +24,4 @@ unfolding read_of
 returns c =
     let e = c.kind_at.ensures in
     let known : kind_at c.args.bytes.now 0 ≤ 4 = omega (arith, c.if-kind_at-gt4.false) in
-    ap Found c.polygon_at.ensures ∙ simp (le-ltb _ _ c.if-bytes-lt16.false, le-ltb _ _ known)
+    ap Ok c.polygon_at.ensures ∙ simp (le-ltb _ _ c.if-bytes-lt16.false, le-ltb _ _ known)
