@@ -146,7 +146,7 @@ pub extern "C" fn bounds_polygon_items(
 ) -> u32
     ensures { ItemsAnswered polygon_count polygons.now vertices.now items.old items.new result }
 {
-    polygon_answers::items_number(polygon_items(polygon_count, polygons, vertices, items))
+    polygon_answers::polygons_number(polygon_items(polygon_count, polygons, vertices, items))
 }
 
 // ---- links
@@ -181,7 +181,7 @@ pub extern "C" fn bounds_update_edge_indices(
         })
         polygons.old polygons.new result }
 {
-    polygon_answers::edges_number(update_edge_indices(
+    polygon_answers::polygons_number(update_edge_indices(
         polygons,
         polygon_count,
         corners,

@@ -5,15 +5,7 @@ ghost use Rattle.edges.specs.Steps.Work.{Work};
 
 use crate::links::links_of;
 use corners::{kinds_known, put_links, unpack_corners};
-
-// The links are stored, or why not.
-#[derive(Clone, Copy)]
-pub enum Edges {
-    Linked,
-    TooManyPolygons,
-    BufferTooShort,
-    UnknownKind,
-}
+use polygon::PolygonsRefusal;
 
 // The lengths of the lent buffers.
 #[derive(Clone, Copy)]
@@ -32,22 +24,12 @@ fn too_short(n: usize, l: Lengths) -> bool
     ensures { result ≡ short n l }
 {
     let words = 3 * n;
-    if l.polygons < 16 * n {
-        return true;
-    }
-    if l.corners < words {
-        return true;
-    }
-    if l.keys < words {
-        return true;
-    }
-    if l.sides < words {
-        return true;
-    }
-    if l.spare < words {
-        return true;
-    }
-    l.links < words
+    l.polygons < 16 * n
+        || l.corners < words
+        || l.keys < words
+        || l.sides < words
+        || l.spare < words
+        || l.links < words
 }
 
 // Stores the links of n polygons, with the other slices to work in.
@@ -78,7 +60,7 @@ pub fn update_edge_indices(
     sides: &mut [u32],
     spare: &mut [u32],
     links: &mut [u32],
-) -> Edges
+) -> Result<(), PolygonsRefusal>
     ensures { Answered n
         (record {
           polygons = length polygons.old;
@@ -91,7 +73,7 @@ pub fn update_edge_indices(
         polygons.old polygons.new result }
 {
     if n > 32767 {
-        return Edges::TooManyPolygons;
+        return Err(PolygonsRefusal::TooManyPolygons);
     }
     let lengths = Lengths {
         polygons: polygons.len(),
@@ -102,11 +84,11 @@ pub fn update_edge_indices(
         links: links.len(),
     };
     if too_short(n, lengths) {
-        return Edges::BufferTooShort;
+        return Err(PolygonsRefusal::BufferTooShort);
     }
     if !kinds_known(polygons, n) {
-        return Edges::UnknownKind;
+        return Err(PolygonsRefusal::UnknownKind);
     }
     link_polygons(polygons, n, corners, keys, sides, spare, links);
-    Edges::Linked
+    Ok(())
 }

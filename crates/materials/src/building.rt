@@ -6,13 +6,12 @@ ghost use Rattle.materials.specs.Steps.Listing.{Room, Listed};
 
 use crate::listing::{dedupe, put_list};
 
-// How many materials the list has, or why there is none.
+// Why there is no list, by the number that C is told.
 #[derive(Clone, Copy)]
-pub enum Materials {
-    Built(usize),
-    TooMany,
-    BufferTooShort,
-    TooManyMaterials,
+pub enum MaterialsRefusal {
+    TooMany = 1,
+    BufferTooShort = 2,
+    TooManyMaterials = 8,
 }
 
 // The lengths of the lent buffers.
@@ -28,10 +27,7 @@ pub struct Lengths {
 fn too_many(n: usize, m: usize) -> bool
     ensures { result ≡ many n m }
 {
-    if n > 32767 {
-        return true;
-    }
-    m > 256
+    n > 32767 || m > 256
 }
 
 // Whether a buffer is too short for n polygons and m materials.
@@ -39,16 +35,7 @@ fn too_short(n: usize, m: usize, l: Lengths) -> bool
     requires { m ≤ 256 }
     ensures { result ≡ short n m l }
 {
-    if l.numbers < n {
-        return true;
-    }
-    if l.mats < 2 * m {
-        return true;
-    }
-    if l.list < 2048 {
-        return true;
-    }
-    l.indices < n
+    l.numbers < n || l.mats < 2 * m || l.list < 2048 || l.indices < n
 }
 
 // Writes the list and the indices; how many materials the list has.
@@ -70,7 +57,7 @@ fn write_materials(
     count
 }
 
-// The materials that n polygons use, each once, as bytes, and each polygon's index among them. `numbers` has the number of each
+// The materials that n polygons use, each once, as bytes, and each polygon's index among them; how many they are. `numbers` has the number of each
 // polygon's material, `mats` m materials of two words each.
 pub fn build_materials(
     n: usize,
@@ -79,7 +66,7 @@ pub fn build_materials(
     mats: &[u32],
     list: &mut [u8],
     indices: &mut [u8],
-) -> Materials
+) -> Result<usize, MaterialsRefusal>
     ensures { Answered n m
         (record {
           numbers = length numbers.now;
@@ -91,7 +78,7 @@ pub fn build_materials(
         list.old list.new indices.old indices.new result }
 {
     if too_many(n, m) {
-        return Materials::TooMany;
+        return Err(MaterialsRefusal::TooMany);
     }
     let lengths = Lengths {
         numbers: numbers.len(),
@@ -100,8 +87,8 @@ pub fn build_materials(
         indices: indices.len(),
     };
     if too_short(n, m, lengths) {
-        return Materials::BufferTooShort;
+        return Err(MaterialsRefusal::BufferTooShort);
     }
     let count = write_materials(n, numbers, m, mats, list, indices);
-    Materials::Built(count)
+    Ok(count)
 }

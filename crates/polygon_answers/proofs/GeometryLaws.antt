@@ -5,19 +5,19 @@ use mathlib.Core.Path.{◌≡◌, refl, ap, ◌∙◌}
 use lib.Dec.{ltb}
 use mathlib.Core.Bool.{true, false}
 use borrow.Author.Tests.{ne_eqb, lt-ltb, le-ltb}
-use Rattle.edges.specs.declared.entry.Edges.{Edges}
 use Rattle.edges.specs.declared.entry.Lengths.{Lengths}
-use Rattle.edges.specs.Edges.{Answered, kept, linked, number_of}
+use Rattle.edges.specs.Edges.{Answered, kept, linked}
 use Rattle.materials.specs.declared.building.Lengths as L
-use Rattle.materials.specs.declared.building.Materials.{Materials}
+use Rattle.materials.specs.declared.building.MaterialsRefusal.{MaterialsRefusal}
+use Rattle.std.specs.Prelude.{Result, ⊤}
 use Rattle.materials.specs.Answers as M
 use Rattle.materials.specs.Materials.{list_of, indices_of, materials_bytes}
-use Rattle.polygon.specs.Answers.{Wrote, write_exit, write_number}
+use Rattle.polygon.specs.Answers.{Wrote, write_exit, write_number, polygons_number}
 use Rattle.polygon_boxes.specs.Boxes.{bbox_of}
 use Rattle.polygon_items.specs.Items as I
-use Rattle.polygon_items.specs.declared.Items.{Items}
 use Rattle.polygon.specs.declared.Polygon.{Polygon}
-use Rattle.polygon.specs.declared.Write.{Write}
+use Rattle.polygon.specs.declared.WriteRefusal.{WriteRefusal}
+use Rattle.polygon.specs.declared.PolygonsRefusal.{PolygonsRefusal}
 use Rattle.polygon_boxes.specs.declared.PolygonBox.{PolygonBox}
 use Rattle.polygon_answers.specs.Geometry.{triangle_in, sphere_in, capsule_in, box_in, cylinder_in, polygon_in, WroteStruct, unboxed, boxed, box_answer}
 use Rattle.polygon_answers.specs.Geometry.{ItemsAnswered, EdgesAnswered, materials_answer, MaterialsAnswered}
@@ -53,7 +53,7 @@ module _ (c : PolygonC) where
       let e : ltb 4 c.kind ≡ true = lt-ltb 4 c.kind over in
       record { number = rw e refl; bytes = rw e refl }
 
-  pub written : (p : Polygon) (before after : List ℕ) (w : Write) (r : ℕ) → c.kind ≤ 4 → p ≡ polygon_in c → Wrote p before after w
+  pub written : (p : Polygon) (before after : List ℕ) (w : Result ⊤ WriteRefusal) (r : ℕ) → c.kind ≤ 4 → p ≡ polygon_in c → Wrote p before after w
       → r ≡ write_number w → WroteStruct c before after r
   written p before after w r known same wrote given =
       let e : ltb 4 c.kind ≡ false = le-ltb 4 c.kind known in
@@ -70,27 +70,27 @@ module _ (c : PolygonC) where
   boxed_answer p vertices b r known same found given =
       rw (le-ltb 4 c.kind known) (given ∙ ap boxed (found ∙ ap (λ (x : Polygon). bbox_of x vertices) same))
 
-pub items_answered : (n : ℕ) (bytes ws before after : List ℕ) (i : Items) (r : ℕ) → I.Answered n bytes ws before after i → r ≡ I.number_of i
+pub items_answered : (n : ℕ) (bytes ws before after : List ℕ) (i : Result ⊤ PolygonsRefusal) (r : ℕ) → I.Answered n bytes ws before after i → r ≡ polygons_number i
     → ItemsAnswered n bytes ws before after r
 items_answered n bytes ws before after i r a given =
     record {
-      number = given ∙ ap I.number_of a.answer;
-      words = a.words ∙ ap (λ (x : Items). I.kept x (I.items_of n bytes ws) before) a.answer;
+      number = given ∙ ap polygons_number a.answer;
+      words = a.words ∙ ap (λ (x : Result ⊤ PolygonsRefusal). I.kept x (I.items_of n bytes ws) before) a.answer;
     }
 
-pub edges_answered : (n : ℕ) (l : Lengths) (before after : List ℕ) (e : Edges) (r : ℕ) → Answered n l before after e → r ≡ number_of e
+pub edges_answered : (n : ℕ) (l : Lengths) (before after : List ℕ) (e : Result ⊤ PolygonsRefusal) (r : ℕ) → Answered n l before after e → r ≡ polygons_number e
     → EdgesAnswered n l before after r
 edges_answered n l before after e r a given =
     record {
-      number = given ∙ ap number_of a.answer;
-      bytes = a.bytes ∙ ap (λ (x : Edges). kept x (linked n before) before) a.answer;
+      number = given ∙ ap polygons_number a.answer;
+      bytes = a.bytes ∙ ap (λ (x : Result ⊤ PolygonsRefusal). kept x (linked n before) before) a.answer;
     }
 
-pub materials_answered : (n m : ℕ) (l : L.Lengths) (ms list₀ list indices₀ indices : List ℕ) (b : Materials) (r : MaterialsAnswer)
+pub materials_answered : (n m : ℕ) (l : L.Lengths) (ms list₀ list indices₀ indices : List ℕ) (b : Result ℕ MaterialsRefusal) (r : MaterialsAnswer)
     → M.Answered n m l ms list₀ list indices₀ indices b → r ≡ materials_answer b → MaterialsAnswered n m l ms list₀ list indices₀ indices r
 materials_answered n m l ms list₀ list indices₀ indices b r a given =
     record {
       answer = given ∙ ap materials_answer a.answer;
-      listed = a.listed ∙ ap (λ (x : Materials). M.kept x (materials_bytes (list_of ms)) list₀) a.answer;
-      indexed = a.indexed ∙ ap (λ (x : Materials). M.kept x (indices_of ms) indices₀) a.answer;
+      listed = a.listed ∙ ap (λ (x : Result ℕ MaterialsRefusal). M.kept x (materials_bytes (list_of ms)) list₀) a.answer;
+      indexed = a.indexed ∙ ap (λ (x : Result ℕ MaterialsRefusal). M.kept x (indices_of ms) indices₀) a.answer;
     }

@@ -1,23 +1,21 @@
 -- What the C interface answers of polygons, their links and their materials. Definitions only.
-use Rattle.std.specs.Prelude.{ℕ, ◌*◌, cond, List, ◌≡◌, eqb, ltb, ℤ}
+use Rattle.std.specs.Prelude.{ℕ, ◌*◌, cond, List, ◌≡◌, Result, Ok, Err, eqb, ltb, ℤ}
 use Rattle.std.specs.Float.{binary32}
 use Rattle.std.specs.Float.Ieee.{of_bits}
 use Rattle.edges.specs.declared.entry.Lengths.{Lengths}
-use Rattle.edges.specs.Edges.{answer_of, kept, linked, number_of}
+use Rattle.edges.specs.Edges.{answer_of, kept, linked}
 use Rattle.float32.specs.Casts.{low16bits, signed16}
 use Rattle.materials.specs.declared.building.Lengths as L
-use Rattle.materials.specs.declared.building.Materials.{Materials}
-use Rattle.materials.specs.declared.building.Materials.TheVariants as Mat
+use Rattle.materials.specs.declared.building.MaterialsRefusal.{MaterialsRefusal}
 use Rattle.materials.specs.Answers as M
 use Rattle.materials.specs.Materials.{list_of, indices_of, materials_bytes}
-use Rattle.polygon.specs.Answers.{read_number, write_number, write_of, write_exit}
+use Rattle.polygon.specs.Answers.{read_number, write_number, write_of, write_exit, polygons_number}
 use Rattle.polygon_boxes.specs.Boxes.{bbox_of}
 use Rattle.polygon_items.specs.Items as I
 use Rattle.polygon.specs.Polygons.{word_or}
 use Rattle.polygon.specs.declared.Polygon.{Polygon}
 use Rattle.polygon.specs.declared.Polygon.TheVariants.{Triangle, Sphere, Capsule, Box, Cylinder}
-use Rattle.polygon.specs.declared.Read.{Read}
-use Rattle.polygon.specs.declared.Read.TheVariants.{Found, Refused}
+use Rattle.polygon.specs.declared.ReadRefusal.{ReadRefusal}
 use Rattle.polygon_boxes.specs.declared.PolygonBox.{PolygonBox}
 use Rattle.math.specs.declared.words3.Words3.{Words3}
 use Rattle.polygon_answers.specs.declared.BoxAnswer.{BoxAnswer}
@@ -79,9 +77,9 @@ unfoldable pub unread : ℕ → ReadAnswer
 unread n = record { refusal = n; polygon = round_struct 0 0 0 0 }
 
 -- Rule G5 (01, Polygon read): the number and the polygon of each answer.
-abbrev pub read_answer : Read → ReadAnswer
-read_answer (Found p) = record { refusal = 0; polygon = struct_of p }
-read_answer (Refused r) = unread (read_number (Refused r))
+abbrev pub read_answer : Result Polygon ReadRefusal → ReadAnswer
+read_answer (Ok p) = record { refusal = 0; polygon = struct_of p }
+read_answer (Err r) = unread (read_number (Err r))
 
 -- Rule G5 (01, Polygon write: 2 under 16 bytes), and before it 6: a kind that no polygon has.
 pub record WroteStruct (c : PolygonC) (before after : List ℕ) (r : ℕ) : Type 0 where
@@ -104,7 +102,7 @@ box_answer c vertices = cond (ltb 4 c.kind) (unboxed 6) (boxed (bbox_of (polygon
 
 -- Rule G11: the number of the answer, and every word of the entries.
 pub record ItemsAnswered (n : ℕ) (bytes vertices before after : List ℕ) (r : ℕ) : Type 0 where
-  pub number : r ≡ I.number_of (I.answer_of n bytes before)
+  pub number : r ≡ polygons_number (I.answer_of n bytes before)
   pub words : after ≡ I.kept (I.answer_of n bytes before) (I.items_of n bytes vertices) before
 
 -- 01, edges: the words of the five parts that n polygons are linked in.
@@ -113,18 +111,16 @@ edges_work_len n = 15 * n
 
 -- Rule E3 (01, edges): the number of the answer, and every byte of the records.
 pub record EdgesAnswered (n : ℕ) (l : Lengths) (before after : List ℕ) (r : ℕ) : Type 0 where
-  pub number : r ≡ number_of (answer_of n l before)
+  pub number : r ≡ polygons_number (answer_of n l before)
   pub bytes : after ≡ kept (answer_of n l before) (linked n before) before
 
 unfoldable pub materials_with : ℕ → ℕ → MaterialsAnswer
 materials_with n count = record { refusal = n; count = count }
 
 -- Rule M3 (01, materials): the number and the count of each answer.
-abbrev pub materials_answer : Materials → MaterialsAnswer
-materials_answer (Mat.Built count) = materials_with 0 count
-materials_answer Mat.TooMany = materials_with (M.number_of Mat.TooMany) 0
-materials_answer Mat.BufferTooShort = materials_with (M.number_of Mat.BufferTooShort) 0
-materials_answer Mat.TooManyMaterials = materials_with (M.number_of Mat.TooManyMaterials) 0
+abbrev pub materials_answer : Result ℕ MaterialsRefusal → MaterialsAnswer
+materials_answer (Ok count) = materials_with 0 count
+materials_answer (Err why) = materials_with (M.refusal_number why) 0
 
 -- Rule M3 (01, materials): the answer r, and every byte of the list and of the indices. ms are the polygons' materials.
 pub record MaterialsAnswered (n m : ℕ) (l : L.Lengths) (ms list₀ list indices₀ indices : List ℕ) (r : MaterialsAnswer) : Type 0 where

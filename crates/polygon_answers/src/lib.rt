@@ -2,21 +2,17 @@
 #![tactic(auto)]
 
 ghost use Rattle.std.specs.Prelude.{◌≡◌};
-ghost use Rattle.edges.specs.Edges.{number_of as edgesNumber};
-ghost use Rattle.polygon.specs.Answers.{refusal_number as readRefusal, read_of, write_number};
-ghost use Rattle.polygon_items.specs.Items.{number_of as itemsNumber};
+ghost use Rattle.polygon.specs.Answers.{read_of, write_number, polygons_number};
 ghost use Rattle.polygon_answers.specs.Geometry.{triangle_struct, round_struct, box_struct, struct_of, triangle_in, box_in, polygon_in};
 ghost use Rattle.polygon_answers.specs.Geometry.{unread, read_answer, WroteStruct, unboxed, boxed, box_answer};
 ghost use Rattle.polygon_answers.specs.Geometry.{edges_work_len, materials_with, materials_answer};
 
-use edges::entry::Edges;
-use materials::building::Materials;
+use materials::building::MaterialsRefusal;
 use math::words3::Words3;
 use polygon::halves::{half_of, short_of};
 use polygon::writing::word_or;
-use polygon::{Polygon, Read, ReadRefusal, Write};
+use polygon::{Polygon, PolygonsRefusal, ReadRefusal, WriteRefusal};
 use polygon_boxes::PolygonBox;
-use polygon_items::Items;
 
 // A polygon by its kind, 0 to 4. `word` is the area or the radius, of any bits; a box's is 0. The halves, of which the unused are 0:
 // a triangle's three vertices and three links, a sphere's index, a capsule's and a cylinder's two, a box's four.
@@ -203,21 +199,12 @@ fn found(p: Polygon) -> ReadAnswer
     }
 }
 
-fn read_refusal_number(why: ReadRefusal) -> u32
-    ensures { result ≡ readRefusal why }
-{
-    match why {
-        ReadRefusal::ShortRecord => 5,
-        ReadRefusal::UnknownKind => 6,
-    }
-}
-
-fn read_answer(r: Read) -> ReadAnswer
+fn read_answer(r: Result<Polygon, ReadRefusal>) -> ReadAnswer
     ensures { result ≡ read_answer r }
 {
     match r {
-        Read::Found(p) => found(p),
-        Read::Refused(why) => unread(read_refusal_number(why)),
+        Ok(p) => found(p),
+        Err(why) => unread(why as u32),
     }
 }
 
@@ -230,12 +217,12 @@ pub fn read_struct(bytes: &[u8]) -> ReadAnswer
 
 // ---- writing
 
-fn write_number(w: Write) -> u32
+fn write_number(w: Result<(), WriteRefusal>) -> u32
     ensures { result ≡ write_number w }
 {
     match w {
-        Write::Written => 0,
-        Write::BufferTooShort => 2,
+        Ok(()) => 0,
+        Err(why) => why as u32,
     }
 }
 
@@ -293,29 +280,14 @@ pub fn struct_box(polygon: PolygonC, vertices: &[u32]) -> BoxAnswer
     boxed(polygon_boxes::bbox(polygon_in(polygon), vertices))
 }
 
-// ---- the boxes of a list
+// ---- the boxes of a list, and the links
 
-pub fn items_number(i: Items) -> u32
-    ensures { result ≡ itemsNumber i }
+pub fn polygons_number(r: Result<(), PolygonsRefusal>) -> u32
+    ensures { result ≡ polygons_number r }
 {
-    match i {
-        Items::Boxed => 0,
-        Items::TooManyPolygons => 1,
-        Items::BufferTooShort => 2,
-        Items::UnknownKind => 6,
-    }
-}
-
-// ---- links
-
-pub fn edges_number(e: Edges) -> u32
-    ensures { result ≡ edgesNumber e }
-{
-    match e {
-        Edges::Linked => 0,
-        Edges::TooManyPolygons => 1,
-        Edges::BufferTooShort => 2,
-        Edges::UnknownKind => 6,
+    match r {
+        Ok(()) => 0,
+        Err(why) => why as u32,
     }
 }
 
@@ -345,13 +317,11 @@ fn materials_with(number: u32, count: usize) -> MaterialsAnswer
     }
 }
 
-pub fn materials_answer(m: Materials) -> MaterialsAnswer
+pub fn materials_answer(m: Result<usize, MaterialsRefusal>) -> MaterialsAnswer
     ensures { result ≡ materials_answer m }
 {
     match m {
-        Materials::Built(count) => materials_with(0, count),
-        Materials::TooMany => materials_with(1, 0),
-        Materials::BufferTooShort => materials_with(2, 0),
-        Materials::TooManyMaterials => materials_with(8, 0),
+        Ok(count) => materials_with(0, count),
+        Err(why) => materials_with(why as u32, 0),
     }
 }

@@ -5,10 +5,11 @@ use mathlib.Core.Bool.{true, false}
 use mathlib.Core.List.{List}
 use lib.Dec.{ltb}
 use borrow.Author.Tests.{lt-ltb, le-ltb, ltb-false}
+use Rattle.std.specs.Prelude.{Ok, Err}
 use Rattle.base.proofs.Truth.{neither}
 use Rattle.corners.specs.Corners.{kinds_known}
-use Rattle.edges.specs.declared.entry.Edges.TheVariants.{Linked, TooManyPolygons, BufferTooShort, UnknownKind}
 use Rattle.edges.specs.declared.entry.Lengths.{Lengths}
+use Rattle.polygon.specs.declared.PolygonsRefusal.TheVariants.{TooManyPolygons, BufferTooShort, UnknownKind}
 use Rattle.edges.specs.Edges.{short, answer_of, linked, Answered}
 
 module _ (n : ℕ) (l : Lengths) where
@@ -30,31 +31,31 @@ module _ (n : ℕ) (l : Lengths) where
       )
 
   module _ (before : List ℕ) where
-    many : 32767 < n → TooManyPolygons ≡ answer_of n l before
+    many : 32767 < n → Err TooManyPolygons ≡ answer_of n l before
     unfolding answer_of
     many h = rw (lt-ltb 32767 n h)
 
-    pub too_many : 32767 < n → Answered n l before before TooManyPolygons
+    pub too_many : 32767 < n → Answered n l before before (Err TooManyPolygons)
     too_many h = record { answer = many h; bytes = refl }
 
-    small : n ≤ 32767 → short n l ≡ true → BufferTooShort ≡ answer_of n l before
+    small : n ≤ 32767 → short n l ≡ true → Err BufferTooShort ≡ answer_of n l before
     unfolding answer_of
     small h e = rw (le-ltb 32767 n h, e)
 
-    pub too_small : n ≤ 32767 → short n l ≡ true → Answered n l before before BufferTooShort
+    pub too_small : n ≤ 32767 → short n l ≡ true → Answered n l before before (Err BufferTooShort)
     too_small h e = record { answer = small h e; bytes = refl }
 
-    other : n ≤ 32767 → short n l ≡ false → kinds_known n before ≡ false → UnknownKind ≡ answer_of n l before
+    other : n ≤ 32767 → short n l ≡ false → kinds_known n before ≡ false → Err UnknownKind ≡ answer_of n l before
     unfolding answer_of
     other h e k = rw (le-ltb 32767 n h, e, k)
 
-    pub unknown : n ≤ 32767 → short n l ≡ false → kinds_known n before ≡ false → Answered n l before before UnknownKind
+    pub unknown : n ≤ 32767 → short n l ≡ false → kinds_known n before ≡ false → Answered n l before before (Err UnknownKind)
     unknown h e k = record { answer = other h e k; bytes = refl }
 
-    done : n ≤ 32767 → short n l ≡ false → kinds_known n before ≡ true → Linked ≡ answer_of n l before
+    done : n ≤ 32767 → short n l ≡ false → kinds_known n before ≡ true → Ok tt ≡ answer_of n l before
     unfolding answer_of
     done h e k = rw (le-ltb 32767 n h, e, k)
 
     pub served : (after : List ℕ) → n ≤ 32767 → short n l ≡ false → kinds_known n before ≡ true → after ≡ linked n before
-        → Answered n l before after Linked
+        → Answered n l before after (Ok tt)
     served after h e k q = record { answer = done h e k; bytes = q }

@@ -3,4 +3,4 @@ use Rattle.polygon_answers.proofs.GeometryLaws.{items_answered}
 use Rattle.bounds.proofs.geometry.bounds_polygon_items.Goals as goal
 
 pub returns : goal.returns
-returns c = items_answered _ _ _ _ _ _ _ c.polygon_items.ensures c.items_number.ensures
+returns c = items_answered _ _ _ _ _ _ _ c.polygon_items.ensures c.polygons_number.ensures

@@ -5,4 +5,4 @@ use Rattle.bounds.proofs.geometry.bounds_update_edge_indices.Goals as goal
 -- past the six slices that come back, two facts each, the call
 pub returns : goal.returns
 returns c =
-    edges_answered _ _ _ _ _ _ c.update_edge_indices.ensures c.edges_number.ensures
+    edges_answered _ _ _ _ _ _ c.update_edge_indices.ensures c.polygons_number.ensures
