@@ -5,6 +5,7 @@ use mathlib.Core.List.{List}
 use mathlib.Core.Path.{◌≡◌, ap, subst, ◌∙◌}
 use lib.Ieee.{Float}
 use lib.ListN.{length, take}
+use Rattle.std.specs.Prelude.{Option}
 use Rattle.finishing.specs.Steps.Finishing.{Stored}
 use Rattle.math.specs.declared.vec3.Vec3.{Vec3}
 use Rattle.octants.specs.declared.lists.OctantCounts.{OctantCounts}
@@ -12,7 +13,6 @@ use Rattle.octants.specs.Octants.{Wrote}
 use Rattle.prepared.specs.Answers.{Hull, hull}
 use Rattle.prepared.specs.Shrunk.{octants_left}
 use Rattle.rings.specs.Meshes.{Mesh, mesh_of}
-use Rattle.shrink.specs.declared.margin.Margin.{Margin}
 use Rattle.shrinking.specs.declared.whole.Geometry.{Geometry}
 use Rattle.shrinking.specs.Whole.{shrunk_of, ShrunkTo}
 use Rattle.shrinking.specs.Steps.Work as Work
@@ -36,7 +36,7 @@ shrinkable r =
       size = r.size;
     }
 
-pub by_geometry : (g g' : Geometry) (mesh : Mesh) (points : List ℕ) (r : Margin) → ShrunkTo g mesh points r → g ≡ g' → points ≡ shrunk_of g' mesh
+pub by_geometry : (g g' : Geometry) (mesh : Mesh) (points : List ℕ) (r : Option Float) → ShrunkTo g mesh points r → g ≡ g' → points ≡ shrunk_of g' mesh
 by_geometry g g' mesh points r s e = s.points_are ∙ ap (λ (x : Geometry). shrunk_of x mesh) e
 
 -- ---- listing and storing

@@ -7,14 +7,13 @@ use mathlib.Core.Path.{◌≡◌, refl, sym, ap, subst, ◌∙◌}
 use lib.Dec.{T}
 use lib.IntN.{ℤ, pos}
 use lib.Ieee.{Float, nan, inf, fin, binary32, up, down, of_bits, lt, le, mul, round, fits}
+use Rattle.std.specs.Prelude.{Option, Some, None}
 use Rattle.float32.proofs.Exactness.{digits}
 use Rattle.float_laws.proofs.Monotone.{mul_mono}
 use Rattle.float32.proofs.Order.{cross→le}
 use Rattle.float32.proofs.OrderLaws.{lt_le_trans}
 use Rattle.math.specs.Vec3s.{◌⊗◌, tolerance}
 use Rattle.math.specs.Transform.{half}
-use Rattle.shrink.specs.declared.margin.Margin.{Margin}
-use Rattle.shrink.specs.declared.margin.Margin.TheVariants.{Passed, NonePasses}
 use Rattle.shrink.specs.Margins.{halved, passing}
 
 -- 2^128
@@ -69,11 +68,11 @@ stops test zero zero m h = refl
 stops test zero (suc k) m h =
     let turns : 0 + suc k ≡ suc k = omega arith in
     ap (λ (n : ℕ). passing test n m) turns
-    ∙ ap (λ (b : Bool). cond b (cond (test m) (Passed m) (passing test k (m ⊗ half))) NonePasses) h
+    ∙ ap (λ (b : Bool). cond b (cond (test m) (Some m) (passing test k (m ⊗ half))) None) h
 stops test (suc n) k m h =
     let more : suc n + k ≡ suc (n + k) = omega arith in
     ap (λ (turns : ℕ). passing test turns m) more
-    ∙ ap (λ (rest : Margin). cond (lt tolerance m) (cond (test m) (Passed m) rest) NonePasses) (stops test n k (m ⊗ half) h)
+    ∙ ap (λ (rest : Option Float). cond (lt tolerance m) (cond (test m) (Some m) rest) None) (stops test n k (m ⊗ half) h)
 
 -- Rule S7 is the search with 148 turns: more of them answer the same.
 pub all_tried : (test : Float → Bool) (k : ℕ) (m : Float) → T (fits binary32 m) → (m ≡ inf false → ⊥) → passing test (148 + k) m ≡ passing test 148 m

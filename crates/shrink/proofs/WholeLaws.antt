@@ -6,9 +6,8 @@ use mathlib.Core.Bool.{Bool}
 use mathlib.Core.List.{List}
 use lib.ListN.{length}
 use lib.Ieee.{Float}
+use Rattle.std.specs.Prelude.{Option, Some, None}
 use Rattle.math.specs.declared.aabb.Aabb.{Aabb}
-use Rattle.shrink.specs.declared.margin.Margin.{Margin}
-use Rattle.shrink.specs.declared.margin.Margin.TheVariants.{Passed, NonePasses}
 use Rattle.shrink.specs.declared.whole.Bound.{Bound}
 use Rattle.rays.specs.Steps.Checking.{Begun}
 use Rattle.rings.specs.Meshes.{Mesh}
@@ -53,13 +52,13 @@ tryable s firsts' normals' olds' e f g first normal bad begun =
       size = s.size;
     }
 
-module _ (bound : Bound) {mesh : Mesh} {start : Float} {points : List ℕ} {r : Margin} (found : Found mesh start points r)
+module _ (bound : Bound) {mesh : Mesh} {start : Float} {points : List ℕ} {r : Option Float} (found : Found mesh start points r)
     (start_is : start ≡ start_of bound.margin bound.extent.min bound.extent.max) where
   whole : r ≡ shrink_margin bound mesh
   unfolding shrink_margin
   whole = found.answer ∙ ap (margin_of mesh) start_is
 
-  pub none_shrunk : (points' : List ℕ) → r ≡ NonePasses → Shrunk bound mesh points' NonePasses
+  pub none_shrunk : (points' : List ℕ) → r ≡ None → Shrunk bound mesh points' None
   none_shrunk points' e =
       record {
         answer = sym e ∙ whole;
@@ -69,14 +68,14 @@ module _ (bound : Bound) {mesh : Mesh} {start : Float} {points : List ℕ} {r : 
             absurd (omega arith);
       }
 
-  clamped : (m : Float) → r ≡ Passed m → (box : Aabb) → box ≡ inset_of bound.extent bound.center m → clamped_words box points mesh.v
+  clamped : (m : Float) → r ≡ Some m → (box : Aabb) → box ≡ inset_of bound.extent bound.center m → clamped_words box points mesh.v
       ≡ shrunk_words bound mesh m
   unfolding shrunk_words
   clamped m e box b = ap₂ (λ (k : Aabb) (ws : List ℕ). clamped_words k ws mesh.v) b (found.points_are m e)
 
-  pub one_shrunk : (m : Float) → r ≡ Passed m → (box : Aabb) → box ≡ inset_of bound.extent bound.center m → (points' : List ℕ) → points'
+  pub one_shrunk : (m : Float) → r ≡ Some m → (box : Aabb) → box ≡ inset_of bound.extent bound.center m → (points' : List ℕ) → points'
       ≡ clamped_words box points mesh.v
-      → Shrunk bound mesh points' (Passed m)
+      → Shrunk bound mesh points' (Some m)
   one_shrunk m e box b points' w =
       record {
         answer = sym e ∙ whole;

@@ -3,9 +3,7 @@ ghost use Rattle.rings.specs.Meshes.{mesh_of};
 ghost use Rattle.shrink.specs.Steps.Work.{Found};
 ghost use Rattle.trial.specs.Steps.Trying.{Tryable};
 
-use crate::margin::Margin;
-
-// The first margin that passes. A finite margin is at most 148 times above 1e-6, so no float has to fall for the loop to end.
+// The first margin that passes, or None. A finite margin is at most 148 times above 1e-6, so no float has to fall for the loop to end.
 // The vertex that failed is tried first at the next margin. `bad` says that a triangle has a corner past the vertices.
 pub fn first_margin(
     bad: bool,
@@ -24,7 +22,7 @@ pub fn first_margin(
     ns: &mut [f32],
     news: &mut [f32],
     points: &mut [u32],
-) -> Margin
+) -> Option<f32>
     requires { Tryable (mesh_of corners.now links.now n vertices.now v) bad tri.now t firsts.now normals.now olds.now
         ring.old ns.old news.old points.old }
     ensures { Found (mesh_of corners.now links.now n vertices.now v) start points.new result }
@@ -35,18 +33,18 @@ pub fn first_margin(
     while left > 0 {
         let above = margin > 0.000001;
         if !above {
-            return Margin::NonePasses;
+            return None;
         }
         let tried = trial::trial::try_margin(
             bad, hint, tri, t, corners, links, n, vertices, v, firsts, normals, margin, olds, ring,
             ns, news, points,
         );
         if tried.passed {
-            return Margin::Passed(margin);
+            return Some(margin);
         }
         hint = tried.failed;
         margin = margin * 0.5;
         left -= 1;
     }
-    Margin::NonePasses
+    None
 }

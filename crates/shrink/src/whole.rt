@@ -3,7 +3,6 @@ ghost use Rattle.rings.specs.Meshes.{mesh_of};
 ghost use Rattle.shrink.specs.Shrinking.{Shrunk};
 ghost use Rattle.shrink.specs.Steps.Work.{Shrinkable};
 
-use crate::margin::Margin;
 use math::aabb::Aabb;
 use math::vec3::Vec3;
 
@@ -32,7 +31,7 @@ pub fn shrink(
     olds: &mut [f32],
     news: &mut [f32],
     points: &mut [u32],
-) -> Margin
+) -> Option<f32>
     requires { Shrinkable (mesh_of corners.now links.now n vertices.now v) tri.now t firsts.old normals.old
         ring.old ns.old olds.old news.old points.old }
     ensures { Shrunk bound (mesh_of corners.now links.now n vertices.now v) points.new result }
@@ -41,17 +40,14 @@ pub fn shrink(
     rings::firsts::put_firsts(corners, n, v, firsts);
     let bad = rays::check::begin(tri, t, vertices, v, olds);
     let start = crate::margin::start_margin(bound.margin, bound.extent.min, bound.extent.max);
-    let found = crate::search::first_margin(
+    let margin = crate::search::first_margin(
         bad, tri, t, corners, links, n, vertices, v, firsts, normals, start, olds, ring, ns, news,
         points,
-    );
-    let Margin::Passed(margin) = found else {
-        return Margin::NonePasses;
-    };
+    )?;
     crate::clamp::clamp_points(
         points,
         v,
         crate::clamp::inset(bound.extent, bound.center, margin),
     );
-    Margin::Passed(margin)
+    Some(margin)
 }

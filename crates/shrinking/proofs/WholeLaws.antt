@@ -5,12 +5,11 @@ use mathlib.Core.Path.{◌≡◌, sym, ap, ◌∙◌}
 use mathlib.Core.List.{List}
 use lib.ListN.{length}
 use lib.Ieee.{Float}
+use Rattle.std.specs.Prelude.{Option, Some, None}
 use Rattle.by_normals.specs.Normals.{by_normals}
 use Rattle.by_normals.specs.Steps.Sums.{Placeable}
 use Rattle.rays.specs.Steps.Rows.{Laid}
 use Rattle.rings.specs.Meshes.{Mesh}
-use Rattle.shrink.specs.declared.margin.Margin.{Margin}
-use Rattle.shrink.specs.declared.margin.Margin.TheVariants.{Passed, NonePasses}
 use Rattle.shrink.specs.Shrinking.{Shrunk}
 use Rattle.shrink.specs.Steps.Work.{Shrinkable}
 use Rattle.shrinking.specs.declared.whole.Geometry.{Geometry}
@@ -44,15 +43,15 @@ module _ {mesh : Mesh} {tri firsts : List ℕ} {normals olds news : List Float} 
   placeable g points' e =
       record { corners_in = m.linked.corners_in; few = m.linked.few; vertices_in = m.vertices_in; size = e ∙ m.size }
 
-module _ (g : Geometry) (mesh : Mesh) {points : List ℕ} {r : Margin} (found : Shrunk (bound_of g) mesh points r) where
+module _ (g : Geometry) (mesh : Mesh) {points : List ℕ} {r : Option Float} (found : Shrunk (bound_of g) mesh points r) where
   -- the whole, by the answer
-  whole : (m : Margin) → r ≡ m → shrunk_with g mesh m ≡ shrunk_of g mesh
+  whole : (m : Option Float) → r ≡ m → shrunk_with g mesh m ≡ shrunk_of g mesh
   unfolding shrunk_of
   whole m e = ap (shrunk_with g mesh) (sym e ∙ found.answer)
 
-  pub passed : (m : Float) → r ≡ Passed m → ShrunkTo g mesh points (Passed m)
-  passed m e = record { answer = sym e ∙ found.answer; points_are = found.points_are m e ∙ whole (Passed m) e }
+  pub passed : (m : Float) → r ≡ Some m → ShrunkTo g mesh points (Some m)
+  passed m e = record { answer = sym e ∙ found.answer; points_are = found.points_are m e ∙ whole (Some m) e }
 
-  pub none_passed : (points' : List ℕ) → r ≡ NonePasses → points' ≡ by_normals (placed_in g mesh) mesh.n g.margin
-      → ShrunkTo g mesh points' NonePasses
-  none_passed points' e p = record { answer = sym e ∙ found.answer; points_are = p ∙ whole NonePasses e }
+  pub none_passed : (points' : List ℕ) → r ≡ None → points' ≡ by_normals (placed_in g mesh) mesh.n g.margin
+      → ShrunkTo g mesh points' None
+  none_passed points' e p = record { answer = sym e ∙ found.answer; points_are = p ∙ whole None e }

@@ -1,13 +1,11 @@
 -- Rules S1 to S9 together (bounds.rs, calculate_verts_shrunk), and the start that rule S10 refuses. Definitions only.
-use Rattle.std.specs.Prelude.{ℕ, Bool, List, ◌≡◌, Float}
+use Rattle.std.specs.Prelude.{ℕ, Bool, List, ◌≡◌, Float, Option, Some, None}
 use Rattle.std.specs.Float.{binary32}
 use Rattle.std.specs.Float.Ieee.{of_bits, eq}
 use Rattle.by_normals.specs.Normals.{Placed, placed_of, by_normals}
 use Rattle.corners.specs.Corners.{corners_of}
 use Rattle.sides.specs.Links.{links_of}
 use Rattle.rings.specs.Meshes.{Mesh, mesh_of}
-use Rattle.shrink.specs.declared.margin.Margin.{Margin}
-use Rattle.shrink.specs.declared.margin.Margin.TheVariants.{Passed, NonePasses}
 use Rattle.shrink.specs.declared.whole.Bound.{Bound}
 use Rattle.shrink.specs.Margins.{start_of}
 use Rattle.shrink.specs.Shrinking.{shrink_margin, shrunk_words}
@@ -26,9 +24,9 @@ abbrev pub placed_in : Geometry → Mesh → Placed
 placed_in g mesh = placed_of mesh.corners mesh.vertices mesh.v g.center g.transform
 
 -- Rules S8 and S9: moved by the margin that passes and clamped, or where none does by normals and the margin that is given.
-abbrev pub shrunk_with : Geometry → Mesh → Margin → List ℕ
-shrunk_with g mesh (Passed m) = shrunk_words (bound_of g) mesh m
-shrunk_with g mesh NonePasses = by_normals (placed_in g mesh) mesh.n g.margin
+abbrev pub shrunk_with : Geometry → Mesh → Option Float → List ℕ
+shrunk_with g mesh (Some m) = shrunk_words (bound_of g) mesh m
+shrunk_with g mesh None = by_normals (placed_in g mesh) mesh.n g.margin
 
 -- Rules S1 to S9: the words of the shrunk vertices.
 unfoldable pub shrunk_of : Geometry → Mesh → List ℕ
@@ -36,7 +34,7 @@ unfolding shrink_margin shrunk_words by_normals
 shrunk_of g mesh = shrunk_with g mesh (shrink_margin (bound_of g) mesh)
 
 -- The margin that passed, or that none did; and the shrunk vertices.
-pub record ShrunkTo (g : Geometry) (mesh : Mesh) (points : List ℕ) (r : Margin) : Type 0 where
+pub record ShrunkTo (g : Geometry) (mesh : Mesh) (points : List ℕ) (r : Option Float) : Type 0 where
   pub answer : r ≡ shrink_margin (bound_of g) mesh
   pub points_are : points ≡ shrunk_of g mesh
 

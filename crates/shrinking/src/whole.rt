@@ -8,7 +8,6 @@ ghost use Rattle.shrinking.specs.Steps.Work.{Meshed};
 use math::aabb::Aabb;
 use math::mat4::Mat4;
 use math::vec3::Vec3;
-use shrink::margin::Margin;
 use shrink::whole::Bound;
 
 // What shrinking reads of a geometry: its box, the centre that its vertices are about, its margin, and its transform.
@@ -55,7 +54,7 @@ fn by_margin(
     olds: &mut [f32],
     news: &mut [f32],
     points: &mut [u32],
-) -> Margin
+) -> Option<f32>
     requires { Meshed (mesh_of corners.now links.now n vertices.now v) tri.old firsts.old normals.old olds.old news.old
         points.old }
     ensures { ByMargin bound (mesh_of corners.now links.now n vertices.now v) points.new result }
@@ -69,7 +68,7 @@ fn by_margin(
     )
 }
 
-// The margin that passed; where none does the vertices are shrunk by their normals, and by the margin that is given.
+// The margin that passed. Where none does the vertices are shrunk by their normals, and by the margin that is given.
 pub fn shrunk_points(
     geometry: Geometry,
     corners: &[u32],
@@ -83,7 +82,7 @@ pub fn shrunk_points(
     olds: &mut [f32],
     news: &mut [f32],
     points: &mut [u32],
-) -> Margin
+) -> Option<f32>
     requires { Meshed (mesh_of corners.now links.now n vertices.now v) tri.old firsts.old normals.old olds.old news.old
         points.old }
     ensures { ShrunkTo geometry (mesh_of corners.now links.now n vertices.now v) points.new result }
@@ -102,7 +101,7 @@ pub fn shrunk_points(
         news,
         points,
     );
-    let Margin::Passed(margin) = found else {
+    let Some(margin) = found else {
         by_normals::moving::by_normals(
             corners,
             n,
@@ -113,7 +112,7 @@ pub fn shrunk_points(
             geometry.margin,
             points,
         );
-        return Margin::NonePasses;
+        return None;
     };
-    Margin::Passed(margin)
+    Some(margin)
 }

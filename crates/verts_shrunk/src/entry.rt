@@ -5,7 +5,6 @@ ghost use Rattle.verts_shrunk.specs.Answers.{short_of, short, shrunk_by, Answere
 ghost use Rattle.verts_shrunk.specs.Steps.Work.{Lent};
 
 use corners::kinds_known;
-use shrink::margin::Margin;
 use shrinking::whole::{Geometry, infinite_start};
 
 // Why nothing is shrunk.
@@ -18,13 +17,12 @@ pub enum ShrinkRefusal {
     InfiniteMargin,
 }
 
-// By what the vertices are shrunk, or why not.
+// By what the vertices are shrunk.
 #[derive(Clone, Copy)]
 pub enum Shrunk {
     ByMargin(f32),
     ByNormals,
     NoVertices,
-    Refused(ShrinkRefusal),
 }
 
 // The lengths of the lent buffers.
@@ -90,12 +88,12 @@ fn too_short(n: usize, v: usize, l: Lengths) -> bool
     l.news < 9 * n
 }
 
-fn shrunk_by(m: Margin) -> Shrunk
+fn shrunk_by(m: Option<f32>) -> Shrunk
     ensures { result ≡ shrunk_by m }
 {
     match m {
-        Margin::Passed(margin) => Shrunk::ByMargin(margin),
-        Margin::NonePasses => Shrunk::ByNormals,
+        Some(margin) => Shrunk::ByMargin(margin),
+        None => Shrunk::ByNormals,
     }
 }
 
@@ -115,7 +113,7 @@ fn shrink_polygons(
     normals: &mut [f32],
     olds: &mut [f32],
     news: &mut [f32],
-) -> Margin
+) -> Option<f32>
     requires { Lent n polygons.now v vertices.now points.old corners.old tri.old firsts.old spare.old links.old normals.old
         olds.old news.old }
     ensures { ShrunkTo geometry (mesh_in n polygons.now v vertices.now) points.new result }
@@ -155,7 +153,7 @@ pub fn calculate_verts_shrunk(
     normals: &mut [f32],
     olds: &mut [f32],
     news: &mut [f32],
-) -> Shrunk
+) -> Result<Shrunk, ShrinkRefusal>
     ensures { Answered geometry n polygons.now v vertices.now
         (record {
           polygons = length polygons.now;
@@ -173,10 +171,10 @@ pub fn calculate_verts_shrunk(
         points.old points.new result }
 {
     if n > 32767 {
-        return Shrunk::Refused(ShrinkRefusal::TooManyPolygons);
+        return Err(ShrinkRefusal::TooManyPolygons);
     }
     if v > 32768 {
-        return Shrunk::Refused(ShrinkRefusal::TooManyVertices);
+        return Err(ShrinkRefusal::TooManyVertices);
     }
     let lengths = Lengths {
         polygons: polygons.len(),
@@ -192,18 +190,18 @@ pub fn calculate_verts_shrunk(
         news: news.len(),
     };
     if too_short(n, v, lengths) {
-        return Shrunk::Refused(ShrinkRefusal::BufferTooShort);
+        return Err(ShrinkRefusal::BufferTooShort);
     }
     if !kinds_known(polygons, n) {
-        return Shrunk::Refused(ShrinkRefusal::UnknownKind);
+        return Err(ShrinkRefusal::UnknownKind);
     }
     if v == 0 {
-        return Shrunk::NoVertices;
+        return Ok(Shrunk::NoVertices);
     }
     if infinite_start(geometry) {
-        return Shrunk::Refused(ShrinkRefusal::InfiniteMargin);
+        return Err(ShrinkRefusal::InfiniteMargin);
     }
-    shrunk_by(shrink_polygons(
+    Ok(shrunk_by(shrink_polygons(
         geometry,
         n,
         polygons,
@@ -218,5 +216,5 @@ pub fn calculate_verts_shrunk(
         normals,
         olds,
         news,
-    ))
+    )))
 }

@@ -1,16 +1,14 @@
 -- What the whole asks of the slices that it is lent, and what the search leaves. Definitions only.
-use Rattle.std.specs.Prelude.{ℕ, ◌*◌, ◌≤◌, List, ◌≡◌, length, Float}
+use Rattle.std.specs.Prelude.{ℕ, ◌*◌, ◌≤◌, List, ◌≡◌, length, Float, Option, Some}
 use Rattle.rays.specs.Steps.Checking.{Checkable}
 use Rattle.rays.specs.Steps.Rows.{Laid}
 use Rattle.rings.specs.Meshes.{Mesh, by_margin}
 use Rattle.rings.specs.Steps.Stored.{Linked}
-use Rattle.shrink.specs.declared.margin.Margin.{Margin}
-use Rattle.shrink.specs.declared.margin.Margin.TheVariants.{Passed}
 use Rattle.shrink.specs.Searching.{margin_of}
 
-pub record Found (mesh : Mesh) (start : Float) (points : List ℕ) (r : Margin) : Type 0 where
+pub record Found (mesh : Mesh) (start : Float) (points : List ℕ) (r : Option Float) : Type 0 where
   pub answer : r ≡ margin_of mesh start
-  pub points_are : (margin : Float) → r ≡ Passed margin → points ≡ by_margin mesh margin
+  pub points_are : (margin : Float) → r ≡ Some margin → points ≡ by_margin mesh margin
 
 -- What shrinking asks: links among the polygons, their t triangles in rows, and room for what is written.
 pub record Shrinkable (mesh : Mesh) (tri : List ℕ) (t : ℕ) (firsts : List ℕ) (normals : List Float) (ring : List ℕ)

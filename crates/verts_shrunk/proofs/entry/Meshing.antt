@@ -6,6 +6,7 @@ use mathlib.Core.List.{List}
 use lib.Ieee.{Float}
 use lib.ListN.{length, take, drop}
 use lib.Seq.{take_at, take_all, length-take-le}
+use Rattle.std.specs.Prelude.{Option}
 use Rattle.base.specs.Lists.{over}
 use Rattle.corners.specs.Corners.{Corners, corners_of}
 use Rattle.corners.proofs.CornerLaws.{length_corners}
@@ -13,7 +14,6 @@ use Rattle.corners.proofs.LinkLaws.{corners_hold}
 use Rattle.sides.specs.Links.{links_of, Room}
 use Rattle.rings.specs.Meshes.{mesh_of}
 use Rattle.rings.proofs.LinkedLaws.{links_serve}
-use Rattle.shrink.specs.declared.margin.Margin.{Margin}
 use Rattle.shrinking.specs.declared.whole.Geometry.{Geometry}
 use Rattle.shrinking.specs.Whole.{mesh_in, ShrunkTo}
 use Rattle.shrinking.specs.Steps.Work.{Meshed}
@@ -62,7 +62,7 @@ module _ (n : ℕ) (polygons corners₀ corners : List ℕ) (e : corners ≡ ove
             size = lent.size;
           }
 
-    pub of_records : (g : Geometry) (v : ℕ) (vertices points : List ℕ) (r : Margin)
+    pub of_records : (g : Geometry) (v : ℕ) (vertices points : List ℕ) (r : Option Float)
         → ShrunkTo g (mesh_of (take (3 * n) corners) (take (3 * n) links) n vertices v) points r → ShrunkTo g (mesh_in n polygons v vertices) points r
     of_records g v vertices points r s =
         let link = those ∙ ap links_of unpacked in

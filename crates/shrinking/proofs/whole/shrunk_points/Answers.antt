@@ -22,4 +22,4 @@ returns c =
     let whole : Mesh = mesh_of c.args.corners.now c.args.links.now c.args.n c.args.vertices.now c.args.v in
     let r = c.by_margin-found in
     let shrunk = subst (λ (b : Bound). Shrunk b whole r.new.points r.result) c.bound_of.ensures r.ensures in
-    passed c.args.geometry whole shrunk c.in-Passed.margin c.in-Passed.is
+    passed c.args.geometry whole shrunk c.in-Some.margin c.in-Some.is
