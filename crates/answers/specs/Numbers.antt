@@ -1,19 +1,17 @@
 -- The numbers that stand for an enum's cases in the C interface. Definitions only.
-use Rattle.std.specs.Prelude.{ℕ, ℤ, pos, negsuc}
-use Rattle.float32.specs.declared.compare.Relation as R
-use Rattle.float32.specs.declared.compare.Relation.TheVariants as Rel
-use Rattle.float32.specs.declared.sorting.Ordering as O
-use Rattle.float32.specs.declared.sorting.Ordering.TheVariants as Ord
+use Rattle.std.specs.Prelude.{ℕ, ℤ, pos, negsuc, Option, None, Some}
+use Rattle.std.specs.declared.cmp.Ordering.{Ordering}
+use Rattle.std.specs.declared.cmp.Ordering.TheVariants.{Less, Equal, Greater}
 
 -- IEEE 754's four relations
-abbrev pub relation_number : R.Relation → ℕ
-relation_number Rel.Less = 0
-relation_number Rel.Equal = 1
-relation_number Rel.Greater = 2
-relation_number Rel.Unordered = 3
+abbrev pub relation_number : Option Ordering → ℕ
+relation_number (Some Less) = 0
+relation_number (Some Equal) = 1
+relation_number (Some Greater) = 2
+relation_number None = 3
 
 -- Rust's own numbers of its Ordering
-abbrev pub ordering_number : O.Ordering → ℤ
-ordering_number Ord.Less = negsuc 0
-ordering_number Ord.Equal = pos 0
-ordering_number Ord.Greater = pos 1
+abbrev pub ordering_number : Ordering → ℤ
+ordering_number Less = negsuc 0
+ordering_number Equal = pos 0
+ordering_number Greater = pos 1

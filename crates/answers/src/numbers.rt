@@ -3,18 +3,17 @@ ghost use Rattle.std.specs.Prelude.{◌≡◌};
 ghost use Rattle.header.specs.Header.{header_number};
 ghost use Rattle.answers.specs.Numbers.{relation_number, ordering_number};
 
-use float32::compare::Relation;
-use float32::sorting::Ordering;
-use header::Header;
+use header::HeaderRefusal;
+use std::cmp::Ordering;
 
-pub fn relation_number(r: Relation) -> u32
+pub fn relation_number(r: Option<Ordering>) -> u32
     ensures { result ≡ relation_number r }
 {
     match r {
-        Relation::Less => 0,
-        Relation::Equal => 1,
-        Relation::Greater => 2,
-        Relation::Unordered => 3,
+        Some(Ordering::Less) => 0,
+        Some(Ordering::Equal) => 1,
+        Some(Ordering::Greater) => 2,
+        None => 3,
     }
 }
 
@@ -28,12 +27,12 @@ pub fn ordering_number(o: Ordering) -> i32
     }
 }
 
-pub fn header_number(h: Header) -> u32
+pub fn header_number(h: Result<(), HeaderRefusal>) -> u32
     ensures { result ≡ header_number h }
 {
     match h {
-        Header::Written => 0,
-        Header::TooManyTrees => 1,
-        Header::BufferTooShort => 2,
+        Ok(()) => 0,
+        Err(HeaderRefusal::TooManyTrees) => 1,
+        Err(HeaderRefusal::BufferTooShort) => 2,
     }
 }

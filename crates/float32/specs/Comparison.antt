@@ -1,10 +1,11 @@
 -- Comparison (IEEE 754-2019, 5.11), on the numbers that floats stand for. Definitions only.
-use Prim.Native.Nat.{ℕ, ◌+◌, ◌*◌, ◌<◌, compare, Ordering}
-use Rattle.std.specs.Prelude.{◌≡◌, true, false, ◌⊎◌, Float}
+use Prim.Native.Nat.{ℕ, ◌+◌, ◌*◌, ◌<◌, compare}
+use Prim.Native.Nat as Nat
+use Rattle.std.specs.Prelude.{◌≡◌, true, false, ◌⊎◌, Float, Option, None, Some}
 use Rattle.std.specs.Float.{nan, inf, fin}
 use Rattle.std.specs.Float.Ieee.{up, down}
-use Rattle.float32.specs.declared.compare.Relation.{Relation}
-use Rattle.float32.specs.declared.compare.Relation.TheVariants.{Less, Equal, Greater, Unordered}
+use Rattle.std.specs.declared.cmp.Ordering.{Ordering}
+use Rattle.std.specs.declared.cmp.Ordering.TheVariants.{Less, Equal, Greater}
 
 -- What a float stands for: no number, an infinity, or the number (p - q) / d, of which p or q is 0.
 pub data Meaning : Type 0 where
@@ -51,36 +52,36 @@ Same (ratio p q d) (ratio p' q' d') = p * d' + q' * d ≡ p' * d + q * d'
 abbrev pub Apart : Meaning → Meaning → Type 0
 Apart a b = (a ≡ none) ⊎ (b ≡ none)
 
--- Rule F1 (5.11): what each of the four relations says.
-abbrev pub Related : Relation → Meaning → Meaning → Type 0
-Related Less a b = Below a b
-Related Equal a b = Same a b
-Related Greater a b = Below b a
-Related Unordered a b = Apart a b
+-- Rule F1 (5.11): what each of the four relations says, of which None is "unordered".
+abbrev pub Related : Option Ordering → Meaning → Meaning → Type 0
+Related (Some Less) a b = Below a b
+Related (Some Equal) a b = Same a b
+Related (Some Greater) a b = Below b a
+Related None a b = Apart a b
 
 -- The relation between two numbers, by how they compare.
-abbrev pub of_ordering : Ordering → Relation
-of_ordering Ordering.lt = Less
-of_ordering Ordering.eq = Equal
-of_ordering Ordering.gt = Greater
+abbrev pub of_ordering : Nat.Ordering → Option Ordering
+of_ordering Prim.Native.Nat.Ordering.lt = Some Less
+of_ordering Prim.Native.Nat.Ordering.eq = Some Equal
+of_ordering Prim.Native.Nat.Ordering.gt = Some Greater
 
 -- Which of the four relations holds.
-unfoldable pub relate : Meaning → Meaning → Relation
-relate none b = Unordered
-relate lowest none = Unordered
-relate lowest lowest = Equal
-relate lowest highest = Less
-relate lowest (ratio p q d) = Less
-relate highest none = Unordered
-relate highest lowest = Greater
-relate highest highest = Equal
-relate highest (ratio p q d) = Greater
-relate (ratio p q d) none = Unordered
-relate (ratio p q d) lowest = Greater
-relate (ratio p q d) highest = Less
+unfoldable pub relate : Meaning → Meaning → Option Ordering
+relate none b = None
+relate lowest none = None
+relate lowest lowest = Some Equal
+relate lowest highest = Some Less
+relate lowest (ratio p q d) = Some Less
+relate highest none = None
+relate highest lowest = Some Greater
+relate highest highest = Some Equal
+relate highest (ratio p q d) = Some Greater
+relate (ratio p q d) none = None
+relate (ratio p q d) lowest = Some Greater
+relate (ratio p q d) highest = Some Less
 relate (ratio p q d) (ratio p' q' d') = of_ordering (compare (p * d' + q' * d) (p' * d + q * d'))
 
 -- Rule F1: the relation between two floats is that between what they stand for.
-unfoldable pub relation_of : Float → Float → Relation
+unfoldable pub relation_of : Float → Float → Option Ordering
 unfolding relate
 relation_of x y = relate (meaning x) (meaning y)

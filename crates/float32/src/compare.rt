@@ -2,25 +2,11 @@
 ghost use Rattle.std.specs.Prelude.{◌≡◌};
 ghost use Rattle.float32.specs.Comparison.{relation_of};
 
-// The four relations, of which exactly one holds between two floats.
-#[derive(Clone, Copy)]
-pub enum Relation {
-    Less,
-    Equal,
-    Greater,
-    Unordered,
-}
+use std::cmp::Ordering;
 
-pub fn relate(a: f32, b: f32) -> Relation
+// Exactly one of four relations holds between two floats; where they are unordered it is `None`.
+pub fn relate(a: f32, b: f32) -> Option<Ordering>
     ensures { result ≡ relation_of a b }
 {
-    if a < b {
-        Relation::Less
-    } else if a > b {
-        Relation::Greater
-    } else if a == b {
-        Relation::Equal
-    } else {
-        Relation::Unordered
-    }
+    a.partial_cmp(&b)
 }

@@ -1,11 +1,11 @@
 -- The header of a tree (01, Records and ranges; bvh.rs, Bvh::write). Definitions only.
-use Rattle.std.specs.Prelude.{ℕ, cond, List, ◌++◌, ◌≡◌, eqb, ltb, length, replicate}
+use Rattle.std.specs.Prelude.{ℕ, cond, List, ◌++◌, ◌≡◌, eqb, ltb, length, replicate, Result, Ok, Err}
 use Rattle.math.specs.declared.words3.Words3.{Words3}
 use Rattle.base.specs.Lists.{over}
 use Rattle.base.specs.LittleEndian.{little_endian}
 use Rattle.header.specs.declared.Bvh.{Bvh}
-use Rattle.header.specs.declared.Header.{Header}
-use Rattle.header.specs.declared.Header.TheVariants.{Written, TooManyTrees, BufferTooShort}
+use Rattle.header.specs.declared.HeaderRefusal.{HeaderRefusal}
+use Rattle.header.specs.declared.HeaderRefusal.TheVariants.{TooManyTrees, BufferTooShort}
 
 -- Rule R6 (01: address, count, capacity (u64, u32, u32); 16 zeros; base.rs, write_simple_list64b).
 unfoldable pub node_list_bytes : Bvh → List ℕ
@@ -33,10 +33,10 @@ unfoldable pub header_bytes : Bvh → List ℕ
 header_bytes h = node_list_bytes h ++ points_bytes h ++ tree_list_bytes h
 
 -- Rule R9 (01, What each operation turns down): the number of each answer; 0 for no refusal.
-abbrev pub header_number : Header → ℕ
-header_number Written = 0
-header_number TooManyTrees = 1
-header_number BufferTooShort = 2
+abbrev pub header_number : Result Unit HeaderRefusal → ℕ
+header_number (Ok done) = 0
+header_number (Err TooManyTrees) = 1
+header_number (Err BufferTooShort) = 2
 
 -- Rule R9 (01, Tree header: 1 over 65,535 trees; 2 under 128 bytes): the checks in this order.
 abbrev pub header_answer : Bvh → List ℕ → ℕ
@@ -47,6 +47,6 @@ unfoldable pub header_exit : Bvh → List ℕ → List ℕ
 header_exit h out = cond (eqb (header_answer h out) 0) (over (header_bytes h) out) out
 
 -- Rule R9: what `tree_header` promises of its answer r and of the bytes after it.
-pub record Headed (h : Bvh) (before after : List ℕ) (r : Header) : Type 0 where
+pub record Headed (h : Bvh) (before after : List ℕ) (r : Result Unit HeaderRefusal) : Type 0 where
   pub answer : header_number r ≡ header_answer h before
   pub bytes : after ≡ header_exit h before

@@ -25,8 +25,7 @@ pub struct Bvh {
 }
 
 #[derive(Clone, Copy)]
-pub enum Header {
-    Written,
+pub enum HeaderRefusal {
     TooManyTrees,
     BufferTooShort,
 }
@@ -74,17 +73,17 @@ fn put_tree_list(out: &mut [u8], h: Bvh)
 }
 
 // The 128 bytes of the header, or a refusal that changes no byte.
-pub fn tree_header(out: &mut [u8], h: Bvh) -> Header
+pub fn tree_header(out: &mut [u8], h: Bvh) -> Result<(), HeaderRefusal>
     ensures { Headed h out.old out.new result }
 {
     if h.trees_count > 65535 {
-        return Header::TooManyTrees;
+        return Err(HeaderRefusal::TooManyTrees);
     }
     if out.len() < 128 {
-        return Header::BufferTooShort;
+        return Err(HeaderRefusal::BufferTooShort);
     }
     put_node_list(out, h);
     put_points(out, h);
     put_tree_list(out, h);
-    Header::Written
+    Ok(())
 }

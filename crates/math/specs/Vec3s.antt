@@ -1,13 +1,13 @@
 -- Points: one rounded step of binary32 for each operator, in the source's order (math.rs, Vec3; bounds.rs and bvh.rs, the functions named). Definitions only.
 use Rattle.std.specs.Prelude.{cond, Float}
 use Rattle.std.specs.Float.{binary32}
+use Rattle.std.specs.declared.cmp.Ordering.{Ordering}
+use Rattle.std.specs.Ordering.{ordering_then}
 use Rattle.std.specs.Float.Ieee.{of_bits, add, sub, mul, div, neg, lt}
 use Rattle.float32.specs.Signs as Signs
 use Rattle.float32.specs.SquareRoot.{sqrt_of}
 use Rattle.float32.specs.Extremes.{vmin_of, vmax_of}
 use Rattle.float32.specs.SortOrder.{cmp_of}
-use Rattle.float32.specs.declared.sorting.Ordering.{Ordering}
-use Rattle.float32.specs.declared.sorting.Ordering.TheVariants.{Less, Equal, Greater}
 use Rattle.math.specs.declared.vec3.Vec3.{Vec3}
 
 -- the rounded sum, difference, product and quotient
@@ -95,12 +95,6 @@ vmin3_of a b = both vmin_of a b
 abbrev pub vmax3_of : Vec3 → Vec3 → Vec3
 vmax3_of a b = both vmax_of a b
 
--- the first answer that is not Equal
-abbrev pub then_of : Ordering → Ordering → Ordering
-then_of Less next = Less
-then_of Equal next = next
-then_of Greater next = Greater
-
 -- Rule V8 (bvh.rs, cmp_vec3): rule F2 in x, then y, then z.
 abbrev pub cmp_vec3_of : Vec3 → Vec3 → Ordering
-cmp_vec3_of a b = then_of (then_of (cmp_of a.x b.x) (cmp_of a.y b.y)) (cmp_of a.z b.z)
+cmp_vec3_of a b = ordering_then (ordering_then (cmp_of a.x b.x) (cmp_of a.y b.y)) (cmp_of a.z b.z)

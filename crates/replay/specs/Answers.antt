@@ -1,5 +1,6 @@
 -- What each operation gives, from words to words: the definition that the operation's own contract cites, between `of_bits` and `to_bits`. Definitions only.
 use Rattle.std.specs.Prelude.{ℕ, ◌+◌, ◌%◌, List, [], ◌∷◌, from_bits, slice_index, to_bits, Float}
+use Rattle.std.specs.Ordering.{nat_cmp, ordering_index}
 use Rattle.std.specs.Float.{binary32}
 use Rattle.float32.specs.Casts.{cast_i32, short_of, vertex_of}
 use Rattle.float32.specs.Comparison.{relation_of}
@@ -15,7 +16,7 @@ use Rattle.math.specs.declared.vec3.Vec3.{Vec3}
 use Rattle.math.specs.declared.mat4.Vec4.{Vec4}
 use Rattle.math.specs.declared.mat4.Mat4.{Mat4}
 use Rattle.math.specs.declared.aabb.Aabb.{Aabb}
-use Rattle.replay.specs.Numbers.{relation_number, ordering_number, order_of, signed_word}
+use Rattle.replay.specs.Numbers.{relation_number, signed_word}
 use Rattle.replay.specs.declared.operation.Operation.{Operation}
 use Rattle.replay.specs.declared.operation.Operation.TheVariants as Op
 use Rattle.replay.specs.declared.operation.WordStep.{WordStep}
@@ -52,8 +53,8 @@ word_answer W.Abs a = word (absFloat (float a))
 
 abbrev pub pair_answer : PairStep → ℕ → ℕ → ℕ
 pair_answer P.Relate a b = relation_number (relation_of (float a) (float b))
-pair_answer P.CmpF32 a b = ordering_number (cmp_of (float a) (float b))
-pair_answer P.KeyOrder a b = ordering_number (order_of (key_of a) (key_of b))
+pair_answer P.CmpF32 a b = ordering_index (cmp_of (float a) (float b))
+pair_answer P.KeyOrder a b = ordering_index (nat_cmp (key_of a) (key_of b))
 pair_answer P.VminWord a b = vmin_word a b
 pair_answer P.VmaxWord a b = vmax_word a b
 pair_answer P.MinNumber a b = word (min_number_of (float a) (float b))
@@ -100,7 +101,7 @@ point_answer Vp.Abs v = three (abs_of v)
 abbrev pub points_answer : PointsStep → Vec3 → Vec3 → Answer
 points_answer Vs.Dot a b = One (word (dot_of a b))
 points_answer Vs.Cross a b = three (cross_of a b)
-points_answer Vs.CmpVec3 a b = One (ordering_number (cmp_vec3_of a b))
+points_answer Vs.CmpVec3 a b = One (ordering_index (cmp_vec3_of a b))
 points_answer Vs.Add a b = three (add_of a b)
 points_answer Vs.Sub a b = three (sub_of a b)
 points_answer Vs.Vmul a b = three (vmul_of a b)

@@ -1,24 +1,12 @@
 -- The words that stand for an answer that is no word. Definitions only.
-use Rattle.std.specs.Prelude.{ℕ, ◌-◌, cond, ℤ, pos, negsuc, ◌==◌, nat_lt}
-use Rattle.float32.specs.declared.compare.Relation as R
-use Rattle.float32.specs.declared.compare.Relation.TheVariants as Rel
-use Rattle.float32.specs.declared.sorting.Ordering as O
-use Rattle.float32.specs.declared.sorting.Ordering.TheVariants as Ord
+use Rattle.std.specs.Prelude.{ℕ, ◌-◌, ℤ, pos, negsuc, Option, None, Some}
+use Rattle.std.specs.declared.cmp.Ordering.{Ordering}
+use Rattle.std.specs.Ordering.{ordering_index}
 
-abbrev pub relation_number : R.Relation → ℕ
-relation_number Rel.Less = 0
-relation_number Rel.Equal = 1
-relation_number Rel.Greater = 2
-relation_number Rel.Unordered = 3
-
-abbrev pub ordering_number : O.Ordering → ℕ
-ordering_number Ord.Less = 0
-ordering_number Ord.Equal = 1
-ordering_number Ord.Greater = 2
-
--- How two numbers compare.
-abbrev pub order_of : ℕ → ℕ → O.Ordering
-order_of a b = cond (nat_lt a b) Ord.Less (cond (a == b) Ord.Equal Ord.Greater)
+-- The four relations of IEEE 754, of which None is "unordered".
+abbrev pub relation_number : Option Ordering → ℕ
+relation_number (Some o) = ordering_index o
+relation_number None = 3
 
 -- 32 bits in two's complement.
 abbrev pub signed_word : ℤ → ℕ

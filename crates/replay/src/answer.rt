@@ -8,7 +8,7 @@ ghost use Rattle.replay.specs.Operations.{inputs_of};
 use crate::operation::{
     FactorStep, Operation, PairStep, PointStep, PointsStep, TransformStep, WordStep,
 };
-use crate::words::{order, ordering, relation, signed, signed_short};
+use crate::words::{ordering, relation, signed, signed_short};
 use float32::sorting::order_key;
 use float32::words::{bits, value};
 use math::aabb::Aabb;
@@ -48,7 +48,7 @@ fn of_pair(step: PairStep, a: u32, b: u32) -> u32
     match step {
         PairStep::Relate => relation(float32::compare::relate(x, y)),
         PairStep::CmpF32 => ordering(float32::sorting::cmp_f32(x, y)),
-        PairStep::KeyOrder => ordering(order(order_key(a), order_key(b))),
+        PairStep::KeyOrder => ordering(order_key(a).cmp(&order_key(b))),
         PairStep::VminWord => float32::extremes::vmin_word(a, b),
         PairStep::VmaxWord => float32::extremes::vmax_word(a, b),
         PairStep::MinNumber => bits(float32::extremes::min_number(x, y)),

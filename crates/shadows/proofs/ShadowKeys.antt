@@ -7,11 +7,12 @@ use Prim.Native.Nat.{ℕ}
 use lib.Dec.{T, eqb}
 use lib.Ieee.{Float, nan, inf, fin, binary32, of_bits, is_nan, lt, eq, le}
 use lib.Ieee.Bits.{of_bits-fits}
-use Rattle.float32.specs.declared.compare.Relation.{Relation}
-use Rattle.float32.specs.declared.compare.Relation.TheVariants as Rel
+use Rattle.std.specs.Prelude.{Option, None, Some}
+use Rattle.std.specs.declared.cmp.Ordering.{Ordering}
+use Rattle.std.specs.declared.cmp.Ordering.TheVariants.{Less, Equal, Greater}
+use Rattle.std.specs.Ordering.{is_lt, is_eq, is_le, is_some_and}
 use Rattle.float32.specs.Comparison.{relation_of}
 use Rattle.float32.specs.SortOrder.{cmp_by, cmp_of, key_of}
-use Rattle.float32.proofs.CmpLaws.{at_most, is_equal}
 use Rattle.float32.proofs.KeyLaws.{key_nan, key_le, key_eq}
 use Rattle.float32.proofs.Relations as Relations
 use Rattle.math.specs.declared.words3.Words3.{Words3}
@@ -24,7 +25,7 @@ use Rattle.shadows.proofs.AxisLaws.{reaches_by_order}
 
 -- ---- the infinities' keys
 
-equal_inf : (s : Bool) (x : Float) → is_equal (cmp_of x (inf s)) ≡ is_inf s x
+equal_inf : (s : Bool) (x : Float) → is_eq (cmp_of x (inf s)) ≡ is_inf s x
 unfolding cmp_of is_inf relation_of
 equal_inf true nan = refl
 equal_inf false nan = refl
@@ -53,20 +54,20 @@ inf_value false = refl
 
 key_inf : (s : Bool) (w : ℕ) → eqb (key_of w) (far_end s) ≡ is_inf s (of_bits binary32 w)
 key_inf s w =
-    ap (eqb (key_of w)) (sym (inf_key s)) ∙ key_eq w (inf_word s) ∙ ap (λ (y : Float). is_equal (cmp_of (of_bits binary32 w) y)) (inf_value s)
+    ap (eqb (key_of w)) (sym (inf_key s)) ∙ key_eq w (inf_word s) ∙ ap (λ (y : Float). is_eq (cmp_of (of_bits binary32 w) y)) (inf_value s)
     ∙ equal_inf s (of_bits binary32 w)
 
 -- ---- keys stand as the floats do, off NaN
 
-at_most_le : (x y : Float) → is_nan x ≡ false → at_most (cmp_of x y) ≡ le x y
+at_most_le : (x y : Float) → is_nan x ≡ false → is_le (cmp_of x y) ≡ le x y
 unfolding cmp_of
 at_most_le x y h = rw h (go (relation_of x y) (is_nan y)) ∙ sym (Relations.le_says x y)
   where
-    go : (r : Relation) (b : Bool) → at_most (cmp_by r false b) ≡ (Relations.is_less r || Relations.is_equal r)
-    go Rel.Less b = refl
-    go Rel.Equal b = refl
-    go Rel.Greater b = refl
-    go Rel.Unordered b = refl
+    go : (r : Option Ordering) (b : Bool) → is_le (cmp_by r false b) ≡ (is_some_and is_lt r || is_some_and is_eq r)
+    go (Some Less) b = refl
+    go (Some Equal) b = refl
+    go (Some Greater) b = refl
+    go None b = refl
 
 key_far : (falls : Bool) (a b : ℕ) → is_nan (of_bits binary32 a) ≡ false → is_nan (of_bits binary32 b) ≡ false
     → as_far falls (key_of a) (key_of b) ≡ ahead falls (of_bits binary32 a) (of_bits binary32 b)

@@ -1,16 +1,7 @@
--- `compare::relate` meets its contract: each test tells one relation, and where all three fail two are unordered. Assumes nothing.
-use Rattle.float32.proofs.Relations.{less_if, greater_if, equal_if, unordered_if}
+-- `compare::relate` meets its contract: std's order of floats is the relation. Assumes nothing.
+use mathlib.Core.Path.{◌∙◌}
+use Rattle.float32.proofs.Relations.{partial_says}
 use Rattle.float32.proofs.compare.relate.Goals as goal
 
-pub returns-then-a-b : goal.returns-then-a-b
-returns-then-a-b c = less_if c.args.a c.args.b c.if-a-b.true
-
-pub returns-then-a-b-2 : goal.returns-then-a-b-2
-returns-then-a-b-2 c = greater_if c.args.a c.args.b c.if-a-b-2.true
-
-pub returns-then-a-b-3 : goal.returns-then-a-b-3
-returns-then-a-b-3 c = equal_if c.args.a c.args.b c.if-a-b-3.true
-
-pub returns-else-a-b-3 : goal.returns-else-a-b-3
-returns-else-a-b-3 c =
-    unordered_if c.args.a c.args.b c.if-a-b.false c.if-a-b-2.false c.if-a-b-3.false
+pub returns : goal.returns
+returns c = c.partial_cmp.ensures ∙ partial_says c.args.a c.args.b
