@@ -1,10 +1,8 @@
 // What a walk answers.
 ghost use Rattle.std.specs.Prelude.{◌≡◌};
-ghost use Rattle.walk.specs.Walks.{refusal_number as walkRefusal};
 ghost use Rattle.answers.specs.WalkAnswers.{sizes_of, counted, walk_answer};
 
-use walk::slices::{Counts, Walk};
-use walk_steps::refusals::WalkRefusal;
+use walk::slices::{Counts, Refused};
 use walk_steps::state::Sizes;
 
 // What a walk answers: 01's number, 0 where it is not refused, the records read and the positions handed out.
@@ -26,24 +24,12 @@ fn with_counts(number: u32, c: Counts) -> WalkAnswer
     }
 }
 
-fn walk_refusal_number(why: WalkRefusal) -> u32
-    ensures { result ≡ walkRefusal why }
-{
-    match why {
-        WalkRefusal::TooMany => 1,
-        WalkRefusal::BufferTooShort => 2,
-        WalkRefusal::TreeRange => 9,
-        WalkRefusal::NodeRecord => 10,
-        WalkRefusal::TooManyHandedOut => 11,
-    }
-}
-
-pub fn walk_answer(w: Walk) -> WalkAnswer
+pub fn walk_answer(w: Result<Counts, Refused>) -> WalkAnswer
     ensures { result ≡ walk_answer w }
 {
     match w {
-        Walk::Walked(c) => with_counts(0, c),
-        Walk::Refused(why, c) => with_counts(walk_refusal_number(why), c),
+        Ok(counts) => with_counts(0, counts),
+        Err(e) => with_counts(e.refusal as u32, e.counts),
     }
 }
 

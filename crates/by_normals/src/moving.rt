@@ -22,11 +22,9 @@ fn put_pushed(vertices: &[u32], v: usize, by: f32, points: &mut [u32])
     ensures { (sum : ℕ → Vec3) → ((i : ℕ) → i < v → vertex_at points.old i ≡ sum i)
         → points.new ≡ in_turn v (λ i. words_of (pushed_of (vertex_at vertices.now i) (sum i) by)) }
 {
-    let mut i = 0;
-    while i < v {
+    for i in 0..v {
         let sum = vertex_at(points, i);
         put_point(points, i, pushed(vertex_at(vertices, i), sum, by));
-        i += 1;
     }
 }
 

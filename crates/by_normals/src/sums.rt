@@ -70,9 +70,7 @@ pub fn put_sums(
     ensures { Sums (placed_of corners.now vertices.now v center transform) (3 * n) points.new }
 {
     side_chains::chains::clear(points);
-    let mut p = 0;
-    while p < n {
+    for p in 0..n {
         add_triangle(corners, vertices, v, center, transform, p, points);
-        p += 1;
     }
 }

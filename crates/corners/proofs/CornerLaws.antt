@@ -5,15 +5,19 @@ use native.Mathlib.Numerals.{add-one}
 use native.Mathlib.Omega.{arith}
 use mathlib.Core.Bool.{Bool, true, false, cond, ◌&&◌}
 use mathlib.Core.List.{List, [], ◌∷◌, ◌++◌, append_assoc}
-use mathlib.Core.Path.{◌≡◌, refl, sym, ap, ap₂, subst, ◌∙◌}
-use borrow.Author.Tests.{eq-eqb, le-leb, lt-leb, leb-true, leb-false}
+use mathlib.Core.Path.{◌≡◌, refl, sym, ap, ap₂, ◌∙◌}
+use borrow.Author.Tests.{eq-eqb, leb-true, leb-false}
 use lib.Dec.{leb}
 use lib.ListN.{length, get_or, take, drop, set, length-append, length-drop, take-append-drop, get_or-append}
 use lib.Seq.{sets, drop_at, drop-drop, take-add, take-take, get_or-drop, get_or-append-add, length-take-le}
+use Rattle.std.proofs.Common.{map}
+use Rattle.std.specs.List.{range_with_len, list_all}
+use Rattle.std.proofs.lemmas.List.{map-id}
+use Rattle.std.proofs.lemmas.List.FromFn.{map-range_with_len_more}
+use Rattle.std.proofs.lemmas.List.Folds.{list_all-append}
 use Rattle.base.specs.Lists.{over}
 use Rattle.base.proofs.LittleEndian.{joined, number_bytes}
 use Rattle.base.proofs.StoreLaws.{stores_leave, over_next}
-use Rattle.base.proofs.Truth.{both_yes}
 use Rattle.polygon.specs.Polygons.{kind_at}
 use Rattle.corners.specs.Corners.{none, in_turn, kinds_known, is_triangle, corners_at, corners_of, link_bytes, linked_record, linked_records}
 
@@ -64,24 +68,25 @@ module _ (m : ℕ) (f : ℕ → List ℕ) where
 
 -- ---- kinds
 
-pub known_more : (n : ℕ) (bytes : List ℕ) → kinds_known n bytes ≡ true → kind_at bytes (16 * n) ≤ 4 → kinds_known (n + 1) bytes ≡ true
-known_more n bytes h k = ap (λ (m : ℕ). kinds_known m bytes) (add-one n) ∙ both_yes h (le-leb _ _ k)
+range_more : (n : ℕ) → range_with_len 0 (suc n) ≡ range_with_len 0 n ++ (n ∷ [])
+range_more n =
+    sym (map-id (range_with_len 0 (suc n)))
+    ∙ ap (λ (k : ℕ). map (λ (x : ℕ). x) (range_with_len 0 k)) (sym (add-one n))
+    ∙ map-range_with_len_more (λ (x : ℕ). x) 0 n n (omega arith)
+    ∙ ap (λ (l : List ℕ). l ++ (n ∷ [])) (map-id (range_with_len 0 n))
 
-and_false : (a : Bool) → a && false ≡ false
-and_false true = refl
-and_false false = refl
+and_true : (a : Bool) → a && true ≡ a
+and_true true = refl
+and_true false = refl
 
-pub unknown_among : (n i : ℕ) (bytes : List ℕ) → i < n → 4 < kind_at bytes (16 * i) → kinds_known n bytes ≡ false
-unknown_among zero i bytes h k = absurd (omega arith)
-unknown_among (suc n) i bytes h k = by (leb (suc i) n) refl (λ below. unknown_among n i bytes below k)
-  where
-    by : (b : Bool) → leb (suc i) n ≡ b → (i < n → kinds_known n bytes ≡ false) → kinds_known (suc n) bytes ≡ false
-    by true e earlier = ap (λ (b : Bool). b && leb (kind_at bytes (16 * n)) 4) (earlier (leb-true (suc i) n e))
-    by false e earlier =
-        let past = leb-false (suc i) n e in
-        let last : i ≡ n = omega arith in
-        let above : 4 < kind_at bytes (16 * n) = subst (λ (m : ℕ). 4 < kind_at bytes (16 * m)) last k in
-        ap (λ (b : Bool). kinds_known n bytes && b) (lt-leb _ _ above) ∙ and_false (kinds_known n bytes)
+-- asked of the numbers of the records in a range
+pub kinds_in_range : (n : ℕ) (bytes : List ℕ) → list_all (λ i. leb (kind_at bytes (16 * i)) 4) (range_with_len 0 n) ≡ kinds_known n bytes
+kinds_in_range zero bytes = refl
+kinds_in_range (suc n) bytes =
+    let known = λ (i : ℕ). leb (kind_at bytes (16 * i)) 4 in
+    ap (list_all known) (range_more n)
+    ∙ list_all-append known (range_with_len 0 n) (n ∷ [])
+    ∙ ap₂ (λ (a b : Bool). a && b) (kinds_in_range n bytes) (and_true (known n))
 
 -- ---- corners
 

@@ -15,14 +15,7 @@ pub fn kinds_known(polygons: &[u8], n: usize) -> bool
     requires { 16 * n ≤ length polygons.now }
     ensures { result ≡ kinds_known n polygons.now }
 {
-    let mut i = 0;
-    while i < n {
-        if kind_at(polygons, 16 * i) > 4 {
-            return false;
-        }
-        i += 1;
-    }
-    true
+    (0..n).all(|i| kind_at(polygons, 16 * i) <= 4)
 }
 
 // A vertex number without its flag, bit 15.
@@ -69,10 +62,8 @@ pub fn unpack_corners(polygons: &[u8], n: usize, corners: &mut [u32])
     requires { (16 * n ≤ length polygons.now) × (3 * n ≤ length corners.old) }
     ensures { corners.new ≡ over (corners_of n polygons.now) corners.old }
 {
-    let mut i = 0;
-    while i < n {
+    for i in 0..n {
         unpack_one(polygons, i, corners);
-        i += 1;
     }
 }
 
@@ -109,9 +100,7 @@ pub fn put_links(polygons: &mut [u8], n: usize, links: &[u32])
     requires { (16 * n ≤ length polygons.old) × (3 * n ≤ length links.now) }
     ensures { polygons.new ≡ links_put n links.now polygons.old }
 {
-    let mut i = 0;
-    while i < n {
+    for i in 0..n {
         put_one(polygons, i, links);
-        i += 1;
     }
 }

@@ -67,11 +67,9 @@ pub fn mark_all(
     ensures seen_after { seen.new ≡ marks threshold order.now out.now seen.old handed }
 {
     let mut twice: u64 = 0;
-    let mut i = 0;
-    while i < handed {
+    for i in 0..handed {
         let item = item_handed(threshold, order, position_of(out[i]));
         twice = plus_if(twice, mark(seen, item));
-        i += 1;
     }
     twice
 }
@@ -125,10 +123,8 @@ pub fn judge_all(list: &[u32; 4900], query: Aabb, seen: &[u8; 700]) -> Met
         missed: 0,
         stray: 0,
     };
-    let mut i: u32 = 0;
-    while i < 700 {
+    for i in 0..700 {
         m = judged(m, list, query, seen, Place(i));
-        i += 1;
     }
     m
 }

@@ -54,10 +54,8 @@ pub fn fill(entries: &mut [u32], shape: Shape) -> u32
     ensures entries_after { entries.new ≡ over (drawn_entries shape shape.n) entries.old }
 {
     let mut s = shape.seed;
-    let mut i = 0;
-    while i < shape.n {
+    for i in 0..shape.n {
         s = put_entry(entries, i, shape, s);
-        i += 1;
     }
     s
 }

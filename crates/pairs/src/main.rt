@@ -16,7 +16,7 @@ use bvh::slices::BuiltTree;
 use math::aabb::Aabb;
 use std::num::wrapping_add_u64;
 use tree::pair::Found;
-use walk::slices::{Counts, Walk};
+use walk::slices::Counts;
 
 const STDOUT: i32 = 1;
 
@@ -81,7 +81,7 @@ fn ask(list: &[u32; 4900], n: usize, threshold: u32, query: Aabb) -> Tally {
     let Found::Walked(tree, walk) = found else {
         return Tally::refused();
     };
-    let Walk::Walked(counts) = walk else {
+    let Ok(counts) = walk else {
         return Tally::refused();
     };
     verdict(list, query, threshold, tree, counts, &order, &out)
@@ -93,12 +93,10 @@ fn ask_all(list: &[u32; 4900], shape: Shape, threshold: u32, s: u32) -> Tally
 {
     let mut state = s;
     let mut sum = Tally::none();
-    let mut k: u32 = 0;
-    while k < 16 {
+    for k in 0..16 {
         let query = crate::queries::query(k, list, shape, state);
         sum = sum.and(ask(list, shape.n, threshold, query));
         state = three_on(three_on(state));
-        k += 1;
     }
     sum
 }
@@ -134,11 +132,9 @@ fn run_list(to: i32, number: u32, threshold: u32) -> u64 {
 
 fn run(to: i32) {
     let mut failures: u64 = 0;
-    let mut number: u32 = 0;
-    while number < 11 {
+    for number in 0..11 {
         failures = wrapping_add_u64(failures, run_list(to, number, 1));
         failures = wrapping_add_u64(failures, run_list(to, number, 4));
-        number += 1;
     }
     put(to, b"failures ", failures);
     io::write_all(to, b"\n");

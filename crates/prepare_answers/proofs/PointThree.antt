@@ -1,7 +1,7 @@
 -- Point 3 of the request at the C interface for a prepared mesh, from the contracts of `bounds_prepare_bvh` and `bounds_walk` alone. An answer that is not
 -- refused, of a mesh with polygons, has a tree; an outcome of a walk is some walk's; and of these prepared_delivers speaks.
 use Rattle.bvh.specs.Build.{Build}
-use Rattle.std.specs.Prelude.{◌≡◌, ℕ, ◌<◌, Bool, true, false, cond, T, eqb, List, length, get_or, take, Ok, Err}
+use Rattle.std.specs.Prelude.{◌≡◌, ℕ, ◌<◌, Bool, true, false, cond, T, eqb, List, length, get_or, take, Ok, Err, Result}
 use native.Mathlib.Omega.{arith}
 use mathlib.Core.List.{Memᴰ}
 use mathlib.Core.Path.{refl, sym, ap, subst, ◌∙◌}
@@ -37,14 +37,12 @@ use Rattle.tree.specs.WellFormed.{node_no, NodeNumbers}
 use Rattle.walk.specs.Walks.{Outcome, walk_of, unread, ended, too_many, too_short, status_number, walk_from}
 use Rattle.walk.specs.Walks as W
 use Rattle.walk.specs.declared.slices.Counts.{Counts}
-use Rattle.walk.specs.declared.slices.Walk.{Walk}
+use Rattle.walk.specs.declared.slices.Refused.{Refused as RefusedWalk}
 use Rattle.walk_steps.specs.Boxes.{query_of}
 use Rattle.walk_steps.specs.Step.{Turn, lent_of, started}
 use Rattle.walk_steps.specs.declared.refusals.WalkRefusal.{WalkRefusal}
 use Rattle.walk_steps.specs.declared.refusals.WalkRefusal.TheVariants as R
 use Rattle.walk_steps.specs.declared.state.Sizes.{Sizes}
-use Rattle.walk_steps.specs.declared.state.Status.{Status}
-use Rattle.walk_steps.specs.declared.state.Status.TheVariants.{Going, Stopped}
 use Rattle.answers.specs.Trees.{tree_values}
 use Rattle.answers.specs.WalkAnswers.{sizes_of, counted}
 use Rattle.answers.specs.declared.trees.BuildAnswer.{BuildAnswer}
@@ -56,16 +54,16 @@ use Rattle.prepare_answers.specs.declared.PrepareAnswer.{PrepareAnswer}
 -- ---- an outcome of a walk is some walk's
 
 record SomeWalk (o : Outcome) : Type 0 where
-  walk : Walk
+  walk : Result Counts RefusedWalk
   number_is : W.number_of walk ≡ o.number
   counts_are : W.counts_of walk ≡ o.counts
 
 of_unread : (r : WalkRefusal) → SomeWalk (unread r)
-of_unread r = record { walk = Walk.Refused r (record { reads = 0; handed = 0 }); number_is = refl; counts_are = refl }
+of_unread r = record { walk = Err (record { refusal = r; counts = record { reads = 0; handed = 0 } }); number_is = refl; counts_are = refl }
 
-of_status : (s : Status) (c : Counts) (given : List ℕ) → SomeWalk (record { number = status_number s; counts = c; given = given })
-of_status Going c given = record { walk = Walk.Walked c; number_is = refl; counts_are = refl }
-of_status (Stopped r) c given = record { walk = Walk.Refused r c; number_is = refl; counts_are = refl }
+of_status : (s : Result (Unit {0}) WalkRefusal) (c : Counts) (given : List ℕ) → SomeWalk (record { number = status_number s; counts = c; given = given })
+of_status (Ok u) c given = record { walk = Ok c; number_is = refl; counts_are = refl }
+of_status (Err r) c given = record { walk = Err (record { refusal = r; counts = c }); number_is = refl; counts_are = refl }
 
 of_turn : (t : Turn) → SomeWalk (ended t)
 of_turn t = of_status t.state.status _ t.given

@@ -52,6 +52,11 @@ none_at (suc n) p e k h =
 pub none_next : (n : ℕ) (p : ℕ → Bool) → none_to n p ≡ true → p n ≡ false → none_to (n + 1) p ≡ true
 none_next n p e h = none_more n p ∙ rw (e, h)
 
+-- where no number passes, none below n does
+pub all_none : (n : ℕ) (p : ℕ → Bool) → ((k : ℕ) → k < n → p k ≡ false) → none_to n p ≡ true
+all_none zero p h = refl
+all_none (suc n) p h = rw (all_none n p (λ k l. h k (omega arith)), h n (omega arith))
+
 pub some_at : (n : ℕ) (p : ℕ → Bool) (k : ℕ) → k < n → p k ≡ true → none_to n p ≡ false
 some_at n p k h e = go (none_to n p) refl
   where

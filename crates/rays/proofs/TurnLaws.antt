@@ -1,5 +1,5 @@
 -- Every vertex has its turn, whichever is tried first: so trying one of them first changes nothing.
-use Prim.Native.Nat.{ℕ, zero, suc, ◌+◌, ◌-◌, ◌≤◌, ◌<◌}
+use Prim.Native.Nat.{ℕ, ◌+◌, ◌-◌, ◌≤◌, ◌<◌}
 use native.Mathlib.Omega.{arith}
 use mathlib.Core.Path.{◌≡◌, refl, sym, ap, ◌∙◌}
 use mathlib.Core.Bool.{Bool, true, false, cond}
@@ -7,12 +7,7 @@ use lib.Dec.{eqb, leb}
 use borrow.Author.Tests.{eqb-true, eqb-false, leb-true, leb-false, eq-eqb, ne_eqb, le-leb, lt-leb}
 use Rattle.rays.specs.Steps.Counting.{none_to}
 use Rattle.rays.specs.Steps.Checking.{turn_of}
-use Rattle.rays.proofs.CountLaws.{none_at}
-
--- where no number passes, none below n does
-all_none : (n : ℕ) (p : ℕ → Bool) → ((k : ℕ) → k < n → p k ≡ false) → none_to n p ≡ true
-all_none zero p h = refl
-all_none (suc n) p h = rw (all_none n p (λ k l. h k (omega arith)), h n (omega arith))
+use Rattle.rays.proofs.CountLaws.{none_at, all_none}
 
 module _ (hint v : ℕ) where
   -- by the three tests

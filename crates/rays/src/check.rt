@@ -1,5 +1,5 @@
 // No vertex that moved crosses, on its way back, a triangle that is not its own.
-ghost use Rattle.std.specs.Prelude.{◌≡◌, ℕ, ◌+◌, ◌*◌, ◌≤◌, ◌<◌, false, List, length};
+ghost use Rattle.std.specs.Prelude.{◌≡◌, ℕ, ◌+◌, ◌*◌, ◌≤◌, ◌<◌, false, is_ok, List, length};
 ghost use Rattle.rays.specs.Steps.Counting.{none_to};
 ghost use Rattle.rays.specs.Checks.{way_back, passes};
 ghost use Rattle.rays.specs.Steps.Checking.{has_moved, missing_in, fails_in, stopped_in, turn_of, Begun, Checkable, Ready, Stoppable};
@@ -10,13 +10,6 @@ use crate::rays::Ray;
 use crate::rows::hits_in;
 use math::vec3::Vec3;
 use points::vertex_at;
-
-// Whether the vertices pass, and where they do not a vertex that fails.
-#[derive(Clone, Copy)]
-pub struct Checked {
-    pub passed: bool,
-    pub failed: usize,
-}
 
 fn way_back(vertex: Vec3, shrunk: Vec3) -> Ray
     ensures { result ≡ way_back vertex shrunk }
@@ -44,14 +37,7 @@ pub fn missing_corner(tri: &[u32], t: usize, v: usize) -> bool
     requires { (3 * t ≤ length tri.now) × (t < 32768) }
     ensures { result ≡ missing_in tri.now t v }
 {
-    let mut k = 0;
-    while k < 3 * t {
-        if v <= tri[k] as usize {
-            return true;
-        }
-        k += 1;
-    }
-    false
+    tri[..3 * t].iter().any(|&corner| v <= corner as usize)
 }
 
 // Whether a corner is missing; where none is, the rows of the triangles as they are. Both serve every margin.
@@ -122,6 +108,7 @@ fn turn(k: usize, hint: usize, v: usize) -> usize
     if k <= hint { k - 1 } else { k }
 }
 
+// Ok where none of the vertices fails, or else one that does.
 fn none_fails(
     tri: &[u32],
     t: usize,
@@ -131,29 +118,22 @@ fn none_fails(
     hint: usize,
     olds: &[f32],
     news: &[f32],
-) -> Checked
+) -> Result<(), usize>
     requires { Ready tri.now t old.now new.now v olds.now news.now }
-    ensures { result.passed ≡ none_to v (fails_in tri.now t old.now new.now) }
+    ensures { is_ok result ≡ none_to v (fails_in tri.now t old.now new.now) }
 {
-    let mut k = 0;
-    while k < v {
+    for k in 0..v {
         let i = turn(k, hint, v);
         if fails(tri, t, old, new, v, olds, news, i) {
-            return Checked {
-                passed: false,
-                failed: i,
-            };
+            return Err(i);
         }
-        k += 1;
     }
-    Checked {
-        passed: true,
-        failed: hint,
-    }
+    Ok(())
 }
 
 // Rule S6, of any polygons whose triangles the rows `tri` hold, none with a missing corner. The rows `news` are work.
-// The vertex `hint` is tried first: nothing but time depends on it, or on the vertex that is named as failing.
+// Ok where the vertices pass, or else a vertex that fails. The vertex `hint` is tried first: nothing but time depends on it, or on
+// which vertex the Err names.
 pub fn check_shrunk(
     tri: &[u32],
     t: usize,
@@ -163,9 +143,9 @@ pub fn check_shrunk(
     hint: usize,
     olds: &[f32],
     news: &mut [f32],
-) -> Checked
+) -> Result<(), usize>
     requires { (Checkable tri.now t old.now new.now v olds.now news.old) × (Begun tri.now t old.now v olds.now false) }
-    ensures { (cs : List ℕ) (n : ℕ) → Laid cs n tri.now t → result.passed ≡ passes cs n old.now new.now v }
+    ensures { (cs : List ℕ) (n : ℕ) → Laid cs n tri.now t → is_ok result ≡ passes cs n old.now new.now v }
 {
     crate::faces::put_rows(tri, t, new, news);
     none_fails(tri, t, old, new, v, hint, olds, news)

@@ -41,12 +41,10 @@ pub fn put_rows(tri: &[u32], t: usize, points: &[u32], rows: &mut [f32])
     requires { Fillable tri.now t points.now rows.old }
     ensures { Filled tri.now t points.now rows.new t }
 {
-    let mut k = 0;
-    while k < t {
+    for k in 0..t {
         let a = vertex_at(points, tri[k] as usize);
         let b = vertex_at(points, tri[t + k] as usize);
         let c = vertex_at(points, tri[2 * t + k] as usize);
         put_facet(rows, t, k, facet(a, b, c));
-        k += 1;
     }
 }

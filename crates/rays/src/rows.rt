@@ -56,12 +56,10 @@ pub fn hits_in(tri: &[u32], rows: &[f32], t: usize, i: u32, ray: Ray) -> u32
     ensures { result ≡ hits_in tri.now rows.now t i ray }
 {
     let mut hits = 0;
-    let mut k = 0;
-    while k < t {
+    for k in 0..t {
         let missed = crate::rays::misses(facet_at(rows, t, k), ray);
         let own = none_of(tri[k], tri[t + k], tri[2 * t + k], i);
         hits += one_if_none(missed + own);
-        k += 1;
     }
     hits
 }

@@ -17,10 +17,8 @@ fn count_triangles(corners: &[u32], n: usize) -> usize
     ensures { (result ≡ length (triangles_of corners.now n)) × (result ≤ n) }
 {
     let mut t = 0;
-    let mut p = 0;
-    while p < n {
+    for p in 0..n {
         t += one_if_there(corners[3 * p]);
-        p += 1;
     }
     t
 }
@@ -42,15 +40,12 @@ fn put_triangles(corners: &[u32], n: usize, tri: &mut [u32], t: usize)
     ensures { Laid corners.now n tri.new t }
 {
     let mut k = 0;
-    let mut p = 0;
-    while p < n {
+    for p in 0..n {
         if corners[3 * p] == 65535 {
-            p += 1;
-        } else {
-            put_triangle(corners, p, tri, t, k);
-            k += 1;
-            p += 1;
+            continue;
         }
+        put_triangle(corners, p, tri, t, k);
+        k += 1;
     }
 }
 

@@ -6,11 +6,7 @@ fn no_sides(v: usize, firsts: &mut [u32])
     requires { v ≤ length firsts.old }
     ensures { NoSides v firsts.new }
 {
-    let mut i = 0;
-    while i < v {
-        firsts[i] = 0xffff_ffff;
-        i += 1;
-    }
+    firsts[..v].fill(0xffff_ffff);
 }
 
 // Side s, at which vertex i stands, unless there is no such vertex or it has an earlier side.
@@ -32,9 +28,7 @@ pub fn put_firsts(corners: &[u32], n: usize, v: usize, firsts: &mut [u32])
 {
     no_sides(v, firsts);
     let end = 3 * n;
-    let mut s = 0;
-    while s < end {
+    for s in 0..end {
         note_side(firsts, v, crate::normals::wide(corners[s]), s);
-        s += 1;
     }
 }

@@ -95,10 +95,8 @@ fn each_third(
     ensures { result ≡ reach_of m (each_third m a b start.point (normals_from ns.now from (count - from))) }
 {
     let mut best = start;
-    let mut i = from;
-    while i < count {
+    for i in from..count {
         best = triple(m, a, b, best, normal_at(ns, i));
-        i += 1;
     }
     best
 }
@@ -109,10 +107,8 @@ fn each_second(ns: &[f32], count: usize, from: usize, m: Push, a: Vec3, start: R
     ensures { result ≡ reach_of m (each_second m a start.point (normals_from ns.now from (count - from))) }
 {
     let mut best = start;
-    let mut i = from;
-    while i < count {
+    for i in from..count {
         best = each_third(ns, count, i + 1, m, a, normal_at(ns, i), best);
-        i += 1;
     }
     best
 }
@@ -123,10 +119,8 @@ fn each_first(ns: &[f32], count: usize, m: Push, start: Vec3) -> Vec3
     ensures { result ≡ each_first m start (normals_from ns.now 0 count) }
 {
     let mut best = reached(m, start);
-    let mut i = 0;
-    while i < count {
+    for i in 0..count {
         best = each_second(ns, count, i + 1, m, normal_at(ns, i), best);
-        i += 1;
     }
     best.point
 }
@@ -136,10 +130,8 @@ fn sum_from(ns: &[f32], count: usize, own: Vec3) -> Vec3
     ensures { result ≡ sum_from own (normals_from ns.now 1 (count - 1)) }
 {
     let mut sum = own;
-    let mut i = 1;
-    while i < count {
+    for i in 1..count {
         sum = sum.add(normal_at(ns, i));
-        i += 1;
     }
     sum
 }

@@ -67,9 +67,7 @@ pub fn put_normals(corners: &[u32], n: usize, vertices: &[u32], v: usize, ns: &m
     requires { (3 * n ≤ length corners.now) × (3 * v ≤ length vertices.now) × (3 * n ≤ length ns.old) }
     ensures { Normals corners.now vertices.now v ns.new n }
 {
-    let mut p = 0;
-    while p < n {
+    for p in 0..n {
         put_normal(ns, p, polygon_normal(corners, vertices, v, p));
-        p += 1;
     }
 }

@@ -97,15 +97,13 @@ pub fn ring(corners: &[u32], links: &[u32], n: usize, v: u32, s: usize, out: &mu
         prev: start,
         at: first_link(links, s),
     };
-    let mut count = 0;
-    while count < 63 {
+    for count in 0..63 {
         let p = w.at;
         if p == 65535 {
             return count;
         }
         out[count] = p;
         w = onward(corners, links, n, v, start, w);
-        count += 1;
     }
-    count
+    63
 }

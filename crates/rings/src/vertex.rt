@@ -15,10 +15,8 @@ fn gather(normals: &[f32], poly: usize, ring: &[u32], count: usize, ns: &mut [f3
     ensures { Gathered normals.now poly ring.now count ns.new }
 {
     put_normal(ns, 0, normal_at(normals, poly));
-    let mut k = 0;
-    while k < count {
+    for k in 0..count {
         put_normal(ns, k + 1, normal_at(normals, wide(ring[k])));
-        k += 1;
     }
 }
 
@@ -69,8 +67,7 @@ pub fn by_margin(
     ensures { points.new ≡ by_margin (mesh_of corners.now links.now n vertices.now v) margin }
 {
     let by = -margin;
-    let mut i = 0;
-    while i < v {
+    for i in 0..v {
         put_point(
             points,
             i,
@@ -78,6 +75,5 @@ pub fn by_margin(
                 corners, links, n, vertices, v, firsts, normals, by, i, ring, ns,
             ),
         );
-        i += 1;
     }
 }

@@ -26,10 +26,8 @@ pub fn clamp_points(points: &mut [u32], v: usize, b: Aabb)
     requires { length points.old ≡ 3 * v }
     ensures { points.new ≡ clamped_words b points.old v }
 {
-    let mut i = 0;
-    while i < v {
+    for i in 0..v {
         let s = points::vertex_at(points, i);
         points::put_point(points, i, clamp(b, s));
-        i += 1;
     }
 }

@@ -1,9 +1,9 @@
-// What shrinking answers in C: numbers for the cases of the enum.
+// What shrinking answers in C: numbers for its answer and its refusals.
 #![tactic(auto)]
 
 ghost use Rattle.std.specs.Prelude.{◌≡◌};
 ghost use Rattle.verts_shrunk.specs.Answers.{refusal_number, work_words};
-ghost use Rattle.shrink_answers.specs.Interface.{without, answer_in};
+ghost use Rattle.shrink_answers.specs.Interface.{without, shrunk_in, answer_in};
 
 use verts_shrunk::entry::{ShrinkRefusal, Shrunk};
 
@@ -38,10 +38,10 @@ fn refusal_number(why: ShrinkRefusal) -> u32
     }
 }
 
-pub fn answer(s: Shrunk) -> ShrinkAnswer
-    ensures { result ≡ answer_in s }
+fn shrunk(by: Shrunk) -> ShrinkAnswer
+    ensures { result ≡ shrunk_in by }
 {
-    match s {
+    match by {
         Shrunk::ByMargin(margin) => ShrinkAnswer {
             refusal: 0,
             by: 1,
@@ -49,7 +49,15 @@ pub fn answer(s: Shrunk) -> ShrinkAnswer
         },
         Shrunk::ByNormals => without(0, 2),
         Shrunk::NoVertices => without(0, 0),
-        Shrunk::Refused(why) => without(refusal_number(why), 0),
+    }
+}
+
+pub fn answer(s: Result<Shrunk, ShrinkRefusal>) -> ShrinkAnswer
+    ensures { result ≡ answer_in s }
+{
+    match s {
+        Ok(by) => shrunk(by),
+        Err(why) => without(refusal_number(why), 0),
     }
 }
 

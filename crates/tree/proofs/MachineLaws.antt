@@ -1,6 +1,6 @@
 -- The walk over the records of a tree is the visit of the tree: from the number of a node's record on, the machine hands out what the visit does,
 -- reads as much, and stands behind the node's last record. By induction over the tree, and over its parts, at every limit from 1 on.
-use Rattle.std.specs.Prelude.{◌≡◌, ℕ, ◌+◌, ◌-◌, ◌*◌, ◌<◌, ◌≤◌, min, max, Bool, true, false, cond, ◌||◌, eqb, ltb, List, [], ◌∷◌, ◌++◌, map, length, take, drop, pos}
+use Rattle.std.specs.Prelude.{◌≡◌, ℕ, ◌+◌, ◌-◌, ◌*◌, ◌<◌, ◌≤◌, min, max, Bool, true, false, cond, ◌||◌, eqb, ltb, List, [], ◌∷◌, ◌++◌, map, length, take, drop, pos, Ok}
 use native.Mathlib.Omega.{arith}
 use native.Mathlib.Nat.{add-zero, zero-add}
 use mathlib.Core.List.Memᴰ
@@ -29,7 +29,6 @@ use Rattle.walk_steps.specs.Step.{Lent, Turn, more, step_of, at_node, at_tree, h
 use Rattle.walk.specs.Walks.{joined, walk_from}
 use Rattle.walk_steps.specs.declared.boxes.Query.{Query}
 use Rattle.walk_steps.specs.declared.state.Sizes.{Sizes}
-use Rattle.walk_steps.specs.declared.state.Status.TheVariants.{Going}
 use Rattle.walk_steps.specs.declared.state.WalkState.{WalkState}
 use Rattle.walk_steps.proofs.StepLaws.{step_node, step_tree, node_handing, node_onward, tree_entered, tree_passed}
 use Rattle.walk.proofs.WalkLaws.{walk_more, walk_none}
@@ -59,7 +58,7 @@ leads_then l s s' s'' is js h k =
 
 -- a state that goes on
 abbrev pub node_state : ℕ → ℕ → ℕ → ℕ → ℕ → WalkState
-node_state tree k last reads handed = record { tree = tree; at = k; last = last; reads = reads; handed = handed; status = Going }
+node_state tree k last reads handed = record { tree = tree; at = k; last = last; reads = reads; handed = handed; status = Ok tt }
 
 -- ---- one node record
 
@@ -326,13 +325,13 @@ module _ (w : Written) (sound : (r : Row) → Memᴰ r w.nodes → Sound w r) wh
     pub idle : state.last ≤ state.at
     pub reads_are : state.reads ≡ reads
     pub handed_are : state.handed ≡ handed
-    pub going_on : state.status ≡ Going
+    pub going_on : state.status ≡ Ok tt
 
   -- what stands before a range's record
   pub record Waits (j lo : ℕ) (s : WalkState) : Type 0 where
     pub tree_is : s.tree ≡ j
     pub idle : s.last ≤ s.at
-    pub going_on : s.status ≡ Going
+    pub going_on : s.status ≡ Ok tt
     pub few : s.handed ≤ lo
 
   -- The ranges rs stand from tree j on, and the numbers of nodes fit their records.
@@ -504,7 +503,7 @@ module _ (w : Written) (sound : (r : Row) → Memᴰ r w.nodes → Sound w r) wh
     pub given_are : (walk_from l started).given ≡ seen_in 0 ps
     pub reads_are : (walk_from l started).state.reads ≡ part_reads hit ps
     pub handed_are : (walk_from l started).state.handed ≡ length (seen_in 0 ps)
-    pub going_on : (walk_from l started).state.status ≡ Going
+    pub going_on : (walk_from l started).state.status ≡ Ok tt
 
   -- What the walk goes by is of the tree t, its parts cut at the limit.
   pub record Of (limit : ℕ) (t : Node) : Type 0 where

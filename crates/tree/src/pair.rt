@@ -9,14 +9,14 @@ use base::numbers::{Place, Position};
 use bvh::slices::{BuildRefusal, BuiltTree};
 use math::aabb::Aabb;
 use rows::ranges::RANGE_LIMIT;
-use walk::slices::Walk;
+use walk::slices::{Counts, Refused};
 use walk_steps::state::Sizes;
 
 // A build that is refused leaves nothing to walk. Any other is walked: what was built, and how the walk over its records ended.
 #[derive(Clone, Copy)]
 pub enum Found {
     Unbuilt(BuildRefusal),
-    Walked(BuiltTree, Walk),
+    Walked(BuiltTree, Result<Counts, Refused>),
 }
 
 // As item count the entries at threshold 1, else the present items.

@@ -25,8 +25,7 @@ pub fn all_stay(
     ensures { Stayed (mesh_of corners.now links.now n vertices.now v) margin points.new result }
 {
     let by = -margin;
-    let mut i = 0;
-    while i < v {
+    for i in 0..v {
         points::put_point(
             points,
             i,
@@ -37,7 +36,6 @@ pub fn all_stay(
         if rays::check::has_moved(vertex_at(vertices, i), vertex_at(points, i)) {
             return false;
         }
-        i += 1;
     }
     true
 }

@@ -1,10 +1,8 @@
 // A margin is tried: the vertices are moved by it and checked.
-ghost use Rattle.std.specs.Prelude.{true, false, ◌≡◌};
+ghost use Rattle.std.specs.Prelude.{true, false, is_ok, ◌≡◌};
 ghost use Rattle.rings.specs.Meshes.{mesh_of};
 ghost use Rattle.trial.specs.Trials.{passes_at};
 ghost use Rattle.trial.specs.Steps.Trying.{OneTryable, Tryable, Tried};
-
-use rays::check::Checked;
 
 // Whether the vertex `hint` alone shows that the margin fails: it is moved, and a triangle as it was is on its way back.
 fn stopped_at(
@@ -60,19 +58,16 @@ fn try_good(
     ns: &mut [f32],
     news: &mut [f32],
     points: &mut [u32],
-) -> Checked
+) -> Result<(), usize>
     requires { Tryable (mesh_of corners.now links.now n vertices.now v) false tri.now t firsts.now normals.now olds.now
         ring.old ns.old news.old points.old }
-    ensures { Tried (mesh_of corners.now links.now n vertices.now v) margin points.new result.passed }
+    ensures { Tried (mesh_of corners.now links.now n vertices.now v) margin points.new (is_ok result) }
 {
     if stopped_at(
         hint, tri, t, corners, links, n, vertices, v, firsts, normals, margin, olds, ring, ns,
         points,
     ) {
-        return Checked {
-            passed: false,
-            failed: hint,
-        };
+        return Err(hint);
     }
     rings::vertex::by_margin(
         corners, links, n, vertices, v, firsts, normals, margin, ring, ns, points,
@@ -80,7 +75,7 @@ fn try_good(
     rays::check::check_shrunk(tri, t, vertices, points, v, hint, olds, news)
 }
 
-// Whether the margin passes, and where it does the points that it gives; else a vertex that fails, to be tried first at the next margin (`hint`).
+// Ok where the margin passes, with the points that it gives; else a vertex that fails, to be tried first at the next margin (`hint`).
 // `bad` says that a triangle has a corner past the vertices. All but the points is work.
 pub fn try_margin(
     bad: bool,
@@ -100,19 +95,16 @@ pub fn try_margin(
     ns: &mut [f32],
     news: &mut [f32],
     points: &mut [u32],
-) -> Checked
+) -> Result<(), usize>
     requires { Tryable (mesh_of corners.now links.now n vertices.now v) bad tri.now t firsts.now normals.now olds.now
         ring.old ns.old news.old points.old }
-    ensures { Tried (mesh_of corners.now links.now n vertices.now v) margin points.new result.passed }
+    ensures { Tried (mesh_of corners.now links.now n vertices.now v) margin points.new (is_ok result) }
 {
     if bad {
         let stayed = crate::stay::all_stay(
             corners, links, n, vertices, v, firsts, normals, margin, ring, ns, points,
         );
-        return Checked {
-            passed: stayed,
-            failed: hint,
-        };
+        return if stayed { Ok(()) } else { Err(hint) };
     }
     try_good(
         hint, tri, t, corners, links, n, vertices, v, firsts, normals, margin, olds, ring, ns,

@@ -1,5 +1,5 @@
 -- What `calculate_verts_shrunk` answers, and what the points then hold. Definitions only.
-use Rattle.std.specs.Prelude.{ℕ, ◌+◌, ◌*◌, Bool, cond, not, ◌||◌, List, ◌≡◌, eqb, ltb, Float, Option, Some, None}
+use Rattle.std.specs.Prelude.{ℕ, ◌+◌, ◌*◌, Bool, cond, not, ◌||◌, List, ◌≡◌, eqb, ltb, Float, Option, Some, None, Result, Ok, Err}
 use Rattle.base.specs.Lists.{over}
 use Rattle.corners.specs.Corners.{kinds_known}
 use Rattle.shrink.specs.Shrinking.{shrink_margin}
@@ -9,7 +9,7 @@ use Rattle.verts_shrunk.specs.declared.entry.Lengths.{Lengths}
 use Rattle.verts_shrunk.specs.declared.entry.ShrinkRefusal.{ShrinkRefusal}
 use Rattle.verts_shrunk.specs.declared.entry.ShrinkRefusal.TheVariants.{TooManyPolygons, TooManyVertices, BufferTooShort, UnknownKind, InfiniteMargin}
 use Rattle.verts_shrunk.specs.declared.entry.Shrunk.{Shrunk}
-use Rattle.verts_shrunk.specs.declared.entry.Shrunk.TheVariants.{ByMargin, ByNormals, NoVertices, Refused}
+use Rattle.verts_shrunk.specs.declared.entry.Shrunk.TheVariants.{ByMargin, ByNormals, NoVertices}
 
 -- ---- the sizes
 
@@ -34,26 +34,26 @@ shrunk_by (Some m) = ByMargin m
 shrunk_by None = ByNormals
 
 -- Rule S10: the checks in the order of Prepare (01): 1, 2, 6, and 7 where there are vertices.
-unfoldable pub answer_of : Geometry → ℕ → List ℕ → ℕ → List ℕ → Lengths → Shrunk
+unfoldable pub answer_of : Geometry → ℕ → List ℕ → ℕ → List ℕ → Lengths → Result Shrunk ShrinkRefusal
 unfolding short infinite_start shrink_margin
 answer_of g n polygons v vertices l =
-    cond (ltb 32767 n) (Refused TooManyPolygons)
-    (cond (ltb 32768 v) (Refused TooManyVertices)
-    (cond (short n v l) (Refused BufferTooShort)
-    (cond (not (kinds_known n polygons)) (Refused UnknownKind)
-    (cond (eqb v 0) NoVertices
-    (cond (infinite_start g) (Refused InfiniteMargin)
-    (shrunk_by (shrink_margin (bound_of g) (mesh_in n polygons v vertices))))))))
+    cond (ltb 32767 n) (Err TooManyPolygons)
+    (cond (ltb 32768 v) (Err TooManyVertices)
+    (cond (short n v l) (Err BufferTooShort)
+    (cond (not (kinds_known n polygons)) (Err UnknownKind)
+    (cond (eqb v 0) (Ok NoVertices)
+    (cond (infinite_start g) (Err InfiniteMargin)
+    (Ok (shrunk_by (shrink_margin (bound_of g) (mesh_in n polygons v vertices)))))))))
 
 -- what the points hold at the end: on a refusal, and without vertices, what they held
-abbrev pub kept : Shrunk → List ℕ → List ℕ → List ℕ
-kept (ByMargin m) after before = after
-kept ByNormals after before = after
-kept NoVertices after before = before
-kept (Refused r) after before = before
+abbrev pub kept : Result Shrunk ShrinkRefusal → List ℕ → List ℕ → List ℕ
+kept (Ok (ByMargin m)) after before = after
+kept (Ok ByNormals) after before = after
+kept (Ok NoVertices) after before = before
+kept (Err r) after before = before
 
 -- The answer, and every word of the points: those behind the vertices stay.
-pub record Answered (g : Geometry) (n : ℕ) (polygons : List ℕ) (v : ℕ) (vertices : List ℕ) (l : Lengths) (before after : List ℕ) (r : Shrunk) : Type 0 where
+pub record Answered (g : Geometry) (n : ℕ) (polygons : List ℕ) (v : ℕ) (vertices : List ℕ) (l : Lengths) (before after : List ℕ) (r : Result Shrunk ShrinkRefusal) : Type 0 where
   pub answer : r ≡ answer_of g n polygons v vertices l
   pub points_are : after ≡ kept r (over (shrunk_of g (mesh_in n polygons v vertices)) before) before
 
@@ -65,8 +65,6 @@ refusal_number BufferTooShort = 2
 refusal_number UnknownKind = 6
 refusal_number InfiniteMargin = 7
 
-abbrev pub number_of : Shrunk → ℕ
-number_of (ByMargin m) = 0
-number_of ByNormals = 0
-number_of NoVertices = 0
-number_of (Refused r) = refusal_number r
+abbrev pub number_of : Result Shrunk ShrinkRefusal → ℕ
+number_of (Ok s) = 0
+number_of (Err r) = refusal_number r

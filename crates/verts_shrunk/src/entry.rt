@@ -17,13 +17,12 @@ pub enum ShrinkRefusal {
     InfiniteMargin,
 }
 
-// By what the vertices are shrunk, or why not.
+// By what the vertices are shrunk.
 #[derive(Clone, Copy)]
 pub enum Shrunk {
     ByMargin(f32),
     ByNormals,
     NoVertices,
-    Refused(ShrinkRefusal),
 }
 
 // The lengths of the lent buffers.
@@ -154,7 +153,7 @@ pub fn calculate_verts_shrunk(
     normals: &mut [f32],
     olds: &mut [f32],
     news: &mut [f32],
-) -> Shrunk
+) -> Result<Shrunk, ShrinkRefusal>
     ensures { Answered geometry n polygons.now v vertices.now
         (record {
           polygons = length polygons.now;
@@ -172,10 +171,10 @@ pub fn calculate_verts_shrunk(
         points.old points.new result }
 {
     if n > 32767 {
-        return Shrunk::Refused(ShrinkRefusal::TooManyPolygons);
+        return Err(ShrinkRefusal::TooManyPolygons);
     }
     if v > 32768 {
-        return Shrunk::Refused(ShrinkRefusal::TooManyVertices);
+        return Err(ShrinkRefusal::TooManyVertices);
     }
     let lengths = Lengths {
         polygons: polygons.len(),
@@ -191,18 +190,18 @@ pub fn calculate_verts_shrunk(
         news: news.len(),
     };
     if too_short(n, v, lengths) {
-        return Shrunk::Refused(ShrinkRefusal::BufferTooShort);
+        return Err(ShrinkRefusal::BufferTooShort);
     }
     if !kinds_known(polygons, n) {
-        return Shrunk::Refused(ShrinkRefusal::UnknownKind);
+        return Err(ShrinkRefusal::UnknownKind);
     }
     if v == 0 {
-        return Shrunk::NoVertices;
+        return Ok(Shrunk::NoVertices);
     }
     if infinite_start(geometry) {
-        return Shrunk::Refused(ShrinkRefusal::InfiniteMargin);
+        return Err(ShrinkRefusal::InfiniteMargin);
     }
-    shrunk_by(shrink_polygons(
+    Ok(shrunk_by(shrink_polygons(
         geometry,
         n,
         polygons,
@@ -217,5 +216,5 @@ pub fn calculate_verts_shrunk(
         normals,
         olds,
         news,
-    ))
+    )))
 }

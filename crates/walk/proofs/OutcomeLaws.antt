@@ -1,6 +1,6 @@
 -- What holds of every walk's outcome, whatever the bytes: its reads are within what the trees allow, its count is that of its positions,
 -- there are no more of them than items, each is below the item count, and a walk that was not refused has read everything that it had to.
-use Rattle.std.specs.Prelude.{◌≡◌, ℕ, zero, suc, ◌+◌, ◌-◌, ◌<◌, ◌≤◌, max, Bool, true, false, cond, ◌||◌, eqb, ltb, List, length, pos}
+use Rattle.std.specs.Prelude.{◌≡◌, ℕ, zero, suc, ◌+◌, ◌-◌, ◌<◌, ◌≤◌, max, Bool, true, false, cond, ◌||◌, eqb, ltb, List, length, pos, Result, Ok, Err}
 use mathlib.Core.Path.{refl}
 use native.Mathlib.Omega.{arith}
 use lib.Signed.{lt_z}
@@ -19,8 +19,6 @@ use Rattle.walk.specs.Walks.{allowance, walk_from, unread, ended, too_many, too_
 use Rattle.walk_steps.specs.declared.refusals.WalkRefusal.{WalkRefusal}
 use Rattle.walk_steps.specs.declared.refusals.WalkRefusal.TheVariants.{TooMany, BufferTooShort, TreeRange, NodeRecord, TooManyHandedOut}
 use Rattle.walk_steps.specs.declared.state.Sizes.{Sizes}
-use Rattle.walk_steps.specs.declared.state.Status.{Status}
-use Rattle.walk_steps.specs.declared.state.Status.TheVariants.{Going, Stopped}
 use Rattle.walk_steps.specs.declared.state.WalkState.{WalkState}
 use Rattle.walk.proofs.WalkLaws.{node_of, Reading, refused_tree, entered_tree, passed_tree, refused_node, met_node, missed_node, reading}
 use Rattle.walk.proofs.WalkLaws.{walk_reads, walk_handed, walk_within, walk_ends, walk_ind}
@@ -107,14 +105,14 @@ refused_numbered TreeRange = omega arith
 refused_numbered NodeRecord = omega arith
 refused_numbered TooManyHandedOut = omega arith
 
-exhausted_at : (trees : ℕ) (s : WalkState) (r : Status) → s.status ≡ r → status_number r ≡ 0 → more trees s ≡ false → Exhausted trees s
-exhausted_at trees s Going e n h =
+exhausted_at : (trees : ℕ) (s : WalkState) (r : Result (Unit {0}) WalkRefusal) → s.status ≡ r → status_number r ≡ 0 → more trees s ≡ false → Exhausted trees s
+exhausted_at trees s (Ok u) e n h =
     let k : (ltb s.at s.last || ltb s.tree trees) ≡ false = rw e at h in
     record {
       range_read = ltb-false s.at s.last (neither (ltb s.at s.last) (ltb s.tree trees) k).0;
       trees_read = ltb-false s.tree trees (neither (ltb s.at s.last) (ltb s.tree trees) k).1;
     }
-exhausted_at trees s (Stopped r) e n h = let o : ⊥ = omega (arith, refused_numbered r) in absurd o
+exhausted_at trees s (Err r) e n h = let o : ⊥ = omega (arith, refused_numbered r) in absurd o
 
 pub exhausted : (l : Lent) (s : WalkState) → status_number (walk_from l s).state.status ≡ 0 → Exhausted l.sizes.trees (walk_from l s).state
 exhausted l s n = exhausted_at l.sizes.trees (walk_from l s).state (walk_from l s).state.status refl n (walk_ends l s)

@@ -1,5 +1,5 @@
 -- Trees that are passed over, and the walk behind them: it is the walk, and what is left falls by one for each.
-use Rattle.std.specs.Prelude.{◌≡◌, ℕ, zero, suc, ◌+◌, ◌-◌, ◌*◌, ◌<◌, ◌≤◌, Bool, true, false, not, ◌||◌, T, ltb, List}
+use Rattle.std.specs.Prelude.{◌≡◌, ℕ, zero, suc, ◌+◌, ◌-◌, ◌*◌, ◌<◌, ◌≤◌, Bool, true, false, not, ◌||◌, T, ltb, List, is_ok, Result, Ok, Err}
 use mathlib.Core.Path.{refl, sym, ap, subst, ◌∙◌}
 use mathlib.Core.Bool.{and-eq-true_iff}
 use native.Mathlib.Omega.{arith}
@@ -9,13 +9,12 @@ use Rattle.records.specs.Records.{tree_at}
 use Rattle.records.specs.declared.BvhTree.{BvhTree}
 use Rattle.walk_steps.specs.Boxes.{meets}
 use Rattle.walk_steps.specs.Refusals.{bad_range}
-use Rattle.walk_steps.specs.Step.{Lent, Turn, quiet, going, passing, more, step_of}
+use Rattle.walk_steps.specs.Step.{Lent, Turn, quiet, passing, more, step_of}
 use Rattle.walk.specs.Walks.{joined, left, walk_from}
 use Rattle.walk.specs.Steps.Passing.{passes_over, PassedUpTo}
 use Rattle.walk_steps.specs.Steps.Contracts.{ahead_at, inside_range}
 use Rattle.walk_steps.specs.declared.boxes.Query.{Query}
-use Rattle.walk_steps.specs.declared.state.Status.{Status}
-use Rattle.walk_steps.specs.declared.state.Status.TheVariants.{Going, Stopped}
+use Rattle.walk_steps.specs.declared.refusals.WalkRefusal.{WalkRefusal}
 use Rattle.walk_steps.specs.declared.state.WalkState.{WalkState}
 use Rattle.walk_steps.proofs.StepLaws.{tree_passed, step_tree}
 use Rattle.walk.proofs.WalkLaws.{walk_more, step_falls}
@@ -52,23 +51,23 @@ module _ (q : Query) (nodes : ℕ) (t : BvhTree) where
       go false e = refl
 
 -- ---- states
-pub is_going : (r : Status) → going r ≡ true → r ≡ Going
-is_going Going e = refl
-is_going (Stopped why) e = absurd (apart (sym e))
+pub is_going : (r : Result (Unit {0}) WalkRefusal) → is_ok r ≡ true → r ≡ Ok tt
+is_going (Ok u) e = refl
+is_going (Err why) e = absurd (apart (sym e))
 
 pub inside_more : (trees : ℕ) (s : WalkState) → inside_range s ≡ true → more trees s ≡ true
 inside_more trees s e =
-    let both = (and-eq-true_iff (going s.status) (ltb s.at s.last)).0 e in
+    let both = (and-eq-true_iff (is_ok s.status) (ltb s.at s.last)).0 e in
     both_yes both.0 (or_yes (ltb s.tree trees) both.1)
 
 pub inside_at : (s : WalkState) → inside_range s ≡ true → s.at < s.last
-inside_at s e = ltb-true s.at s.last ((and-eq-true_iff (going s.status) (ltb s.at s.last)).0 e).1
+inside_at s e = ltb-true s.at s.last ((and-eq-true_iff (is_ok s.status) (ltb s.at s.last)).0 e).1
 
-pub outside_at : (s : WalkState) → going s.status ≡ true → inside_range s ≡ false → s.last ≤ s.at
+pub outside_at : (s : WalkState) → is_ok s.status ≡ true → inside_range s ≡ false → s.last ≤ s.at
 outside_at s g e = ltb-false s.at s.last (sym (and_yes (ltb s.at s.last) g) ∙ e)
 
-pub tree_more : (trees : ℕ) (s : WalkState) → s.status ≡ Going → s.tree < trees → more trees s ≡ true
-tree_more trees s g h = both_yes (ap going g) (go (ltb s.at s.last))
+pub tree_more : (trees : ℕ) (s : WalkState) → s.status ≡ Ok tt → s.tree < trees → more trees s ≡ true
+tree_more trees s g h = both_yes (ap is_ok g) (go (ltb s.at s.last))
   where
     go : (b : Bool) → b || ltb s.tree trees ≡ true
     go true = refl
@@ -92,13 +91,13 @@ past_none s =
     let r : s.reads ≡ s.reads + 0 = omega arith in
     λ i. record { tree = t i; at = s.at; last = s.last; reads = r i; handed = s.handed; status = s.status }
 
-past_more : (n : ℕ) (s : WalkState) → s.status ≡ Going → past n (passing s) ≡ past (suc n) s
+past_more : (n : ℕ) (s : WalkState) → s.status ≡ Ok tt → past n (passing s) ≡ past (suc n) s
 past_more n s g =
     let t : s.tree + 1 + n ≡ s.tree + suc n = omega arith in
     let r : s.reads + 1 + n ≡ s.reads + suc n = omega arith in
     λ i. record { tree = t i; at = s.at; last = s.last; reads = r i; handed = s.handed; status = sym g i }
 
-past_ahead : (k : ℕ) (s : WalkState) → s.status ≡ Going → s.tree ≤ k → past (k - s.tree) s ≡ ahead_at k s
+past_ahead : (k : ℕ) (s : WalkState) → s.status ≡ Ok tt → s.tree ≤ k → past (k - s.tree) s ≡ ahead_at k s
 past_ahead k s g h =
     let t : s.tree + (k - s.tree) ≡ k = omega arith in
     λ i. record { tree = t i; at = s.at; last = s.last; reads = s.reads + (k - s.tree); handed = s.handed; status = g i }
@@ -114,7 +113,7 @@ module _ (l : Lent) where
       let nodes = l.sizes.nodes in
       step_tree l s h ∙ ap quiet (tree_passed q nodes t s (sound q nodes t p) (misses q nodes t p))
 
-  one : (s : WalkState) → s.status ≡ Going → s.last ≤ s.at → s.tree < l.sizes.trees → over s.tree ≡ true → Behind l s (passing s) 1
+  one : (s : WalkState) → s.status ≡ Ok tt → s.last ≤ s.at → s.tree < l.sizes.trees → over s.tree ≡ true → Behind l s (passing s) 1
   one s g h k p =
       let m = tree_more l.sizes.trees s g k in
       let e = step_passes s h p in
@@ -127,7 +126,7 @@ module _ (l : Lent) where
   more_behind : (s r u : WalkState) (n : ℕ) → Behind l s r 1 → Behind l r u n → Behind l s u (suc n)
   more_behind s r u n a b = record { walk_is = a.walk_is ∙ b.walk_is; left_falls = omega (arith, a.left_falls, b.left_falls) }
 
-  many : (n : ℕ) (s : WalkState) → s.status ≡ Going → s.last ≤ s.at → s.tree + n ≤ l.sizes.trees
+  many : (n : ℕ) (s : WalkState) → s.status ≡ Ok tt → s.last ≤ s.at → s.tree + n ≤ l.sizes.trees
       → ((k : ℕ) → s.tree ≤ k → k < s.tree + n → over k ≡ true) → Behind l s (past n s) n
   many zero s g h k p = behind_as l s s (past 0 s) 0 (past_none s) (record { walk_is = refl; left_falls = omega arith })
   many (suc n) s g h k p =
@@ -137,7 +136,7 @@ module _ (l : Lent) where
       (many n (passing s) refl h (omega arith) (λ j a b. p j (omega arith) (omega arith))))
 
   -- The walk goes on behind the trees passed over, which cost one reading each.
-  pub walk_passes : (s : WalkState) (upto r : ℕ) → s.status ≡ Going → s.last ≤ s.at → upto ≤ l.sizes.trees
+  pub walk_passes : (s : WalkState) (upto r : ℕ) → s.status ≡ Ok tt → s.last ≤ s.at → upto ≤ l.sizes.trees
       → PassedUpTo l.query l.sizes.nodes l.trees s.tree upto r → Behind l s (ahead_at r s) (r - s.tree)
   walk_passes s upto r g h u p =
       let a = p.onward in

@@ -1,5 +1,5 @@
 -- A walk as a whole: each reading uses up some of what `left` allows, so a walk ends, and goes on from each state as a reading and the rest.
-use Rattle.std.specs.Prelude.{◌≡◌, ℕ, zero, suc, ◌+◌, ◌-◌, ◌*◌, ◌<◌, ◌≤◌, max, Bool, true, false, cond, ◌||◌, eqb, ltb, ◌++◌, length, pos}
+use Rattle.std.specs.Prelude.{◌≡◌, ℕ, zero, suc, ◌+◌, ◌-◌, ◌*◌, ◌<◌, ◌≤◌, max, Bool, true, false, cond, ◌||◌, eqb, ltb, ◌++◌, length, pos, is_ok, Result, Ok, Err}
 use mathlib.Core.Path.{refl, sym, ap, subst, ◌∙◌}
 use native.Mathlib.Omega.{arith}
 use lib.Signed.{lt_z}
@@ -12,10 +12,10 @@ use Rattle.records.specs.declared.BvhNode.{BvhNode}
 use Rattle.records.specs.declared.BvhTree.{BvhTree}
 use Rattle.walk_steps.specs.Boxes.{meets}
 use Rattle.walk_steps.specs.Refusals.{whole, bad_range, bad_node}
-use Rattle.walk_steps.specs.Step.{Lent, Turn, quiet, going, refused, entering, passing, at_tree, stride_of, onward, handed_of, handing, at_node, more, step_of}
+use Rattle.walk_steps.specs.Step.{Lent, Turn, quiet, refused, entering, passing, at_tree, stride_of, onward, handed_of, handing, at_node, more, step_of}
 use Rattle.walk.specs.Walks.{joined, read_on, range_nodes, allowance, left, walk_from}
+use Rattle.walk_steps.specs.declared.refusals.WalkRefusal.{WalkRefusal}
 use Rattle.walk_steps.specs.declared.refusals.WalkRefusal.TheVariants.{TreeRange, NodeRecord, TooManyHandedOut}
-use Rattle.walk_steps.specs.declared.state.Status.TheVariants.{Going, Stopped}
 use Rattle.walk_steps.specs.declared.state.WalkState.{WalkState}
 use Rattle.walk_steps.proofs.StepLaws.{tree_refused, tree_entered, tree_passed, node_refused, node_handing, node_onward}
 use Rattle.walk_steps.proofs.StepLaws.{step_node, step_tree, more_going, more_tree}
@@ -96,7 +96,7 @@ allowance_next l k n h =
     let e : n - k ≡ suc (n - (k + 1)) = omega arith in
     ap (allowance l k) e
 
-stopped_or_on : (b : Bool) (x : ℕ) → cond (going (cond b (Stopped TooManyHandedOut) Going)) x 0 ≤ x
+stopped_or_on : (b : Bool) (x : ℕ) → cond (is_ok {T = Unit {0}} {E = WalkRefusal} (cond b (Err TooManyHandedOut) (Ok tt))) x 0 ≤ x
 stopped_or_on true x = omega arith
 stopped_or_on false x = omega arith
 

@@ -1,20 +1,17 @@
 -- A whole walk, and what it answers. Definitions only.
-use Rattle.std.specs.Prelude.{◌≡◌, ℕ, zero, suc, ◌+◌, ◌-◌, ◌*◌, Bool, true, false, cond, ◌||◌, List, [], ◌++◌, length, nat_lt}
+use Rattle.std.specs.Prelude.{◌≡◌, ℕ, zero, suc, ◌+◌, ◌-◌, ◌*◌, Bool, true, false, cond, ◌||◌, List, [], ◌++◌, length, nat_lt, is_ok, Result, Ok, Err}
 use Rattle.base.specs.Lists.{over}
 use Rattle.math.specs.declared.aabb.Aabb.{Aabb}
 use Rattle.math.specs.declared.vec3.Vec3.{Vec3}
 use Rattle.records.specs.Records.{tree_at}
 use Rattle.walk_steps.specs.Boxes.{query_of}
 use Rattle.walk_steps.specs.Refusals.{whole, bad_range}
-use Rattle.walk_steps.specs.Step.{Lent, lent_of, Turn, quiet, going, started, more, step_of}
+use Rattle.walk_steps.specs.Step.{Lent, lent_of, Turn, quiet, started, more, step_of}
 use Rattle.walk.specs.declared.slices.Counts.{Counts}
-use Rattle.walk.specs.declared.slices.Walk.{Walk}
-use Rattle.walk.specs.declared.slices.Walk.TheVariants.{Walked, Refused}
+use Rattle.walk.specs.declared.slices.Refused.{Refused}
 use Rattle.walk_steps.specs.declared.refusals.WalkRefusal.{WalkRefusal}
 use Rattle.walk_steps.specs.declared.refusals.WalkRefusal.TheVariants.{TooMany, BufferTooShort, TreeRange, NodeRecord, TooManyHandedOut}
 use Rattle.walk_steps.specs.declared.state.Sizes.{Sizes}
-use Rattle.walk_steps.specs.declared.state.Status.{Status}
-use Rattle.walk_steps.specs.declared.state.Status.TheVariants.{Going, Stopped}
 use Rattle.walk_steps.specs.declared.state.WalkState.{WalkState}
 
 -- one turn, and the next
@@ -43,7 +40,7 @@ allowance l k (suc n) = 1 + range_nodes l k + allowance l (k + 1) n
 
 -- How many records can be left to read: the rest of the range, and the trees to come.
 abbrev pub left : Lent → WalkState → ℕ
-left l s = cond (going s.status) (s.last - s.at + allowance l s.tree (l.sizes.trees - s.tree)) 0
+left l s = cond (is_ok s.status) (s.last - s.at + allowance l s.tree (l.sizes.trees - s.tree)) 0
 
 -- Rule W8: on from a state until no record is left. `left` readings are enough (WalkLaws, walk-ends).
 unfoldable pub walk_from : Lent → WalkState → Turn
@@ -58,19 +55,19 @@ refusal_number NodeRecord = 10
 refusal_number TooManyHandedOut = 11
 
 -- the number that a state ends with, 0 where nothing was refused
-abbrev pub status_number : Status → ℕ
-status_number Going = 0
-status_number (Stopped r) = refusal_number r
+abbrev pub status_number : Result (Unit {0}) WalkRefusal → ℕ
+status_number (Ok u) = 0
+status_number (Err r) = refusal_number r
 
 -- 01's number of each answer, 0 where it is not refused
-abbrev pub number_of : Walk → ℕ
-number_of (Walked c) = 0
-number_of (Refused r c) = refusal_number r
+abbrev pub number_of : Result Counts Refused → ℕ
+number_of (Ok c) = 0
+number_of (Err e) = refusal_number e.refusal
 
 -- the counts that an answer carries; before reading they are 0
-abbrev pub counts_of : Walk → Counts
-counts_of (Walked c) = c
-counts_of (Refused r c) = c
+abbrev pub counts_of : Result Counts Refused → Counts
+counts_of (Ok c) = c
+counts_of (Err e) = e.counts
 
 -- What a walk comes to: 01's number, the counts, and the positions handed out.
 pub record Outcome : Type 0 where
@@ -107,7 +104,7 @@ walk_of box cen inverse z nodes trees room =
     (ended (walk_from (lent_of (query_of box cen inverse) z nodes trees) started)))
 
 -- Rule W9 (01: the output keeps what was handed out before, the rest is unchanged): what an answer r and the output at exit promise.
-pub record Promise (o : Outcome) (out out' : List ℕ) (r : Walk) : Type 0 where
+pub record Promise (o : Outcome) (out out' : List ℕ) (r : Result Counts Refused) : Type 0 where
   pub number_is : number_of r ≡ o.number
   pub counts_are : counts_of r ≡ o.counts
   pub output_is : out' ≡ over o.given out

@@ -3,7 +3,7 @@ ghost use Rattle.std.specs.Prelude.{length};
 ghost use Rattle.walk.specs.Walks.{walk_of, Promise};
 
 use crate::reader::NodeReader;
-use crate::slices::Walk;
+use crate::slices::{Counts, Refused};
 use math::aabb::Aabb;
 use math::vec3::Vec3;
 use walk_steps::state::Sizes;
@@ -17,7 +17,7 @@ pub fn walk_bvh(
     node_bytes: &[u8],
     tree_bytes: &[u8],
     out: &mut [u16],
-) -> Walk
+) -> Result<Counts, Refused>
     ensures { Promise (walk_of query cen inverse sizes node_bytes.now tree_bytes.now (length out.old))
         out.old out.new result }
 {

@@ -3,7 +3,7 @@ ghost use Rattle.std.specs.Prelude.{◌≡◌, ◌+◌, ◌*◌, ◌≤◌, leng
 ghost use Rattle.records.specs.Records.{node_at};
 ghost use Rattle.walk.specs.Walks.{walk_of, Promise};
 
-use crate::slices::Walk;
+use crate::slices::{Counts, Refused};
 use math::aabb::Aabb;
 use math::vec3::Vec3;
 use records::BvhNode;
@@ -38,7 +38,7 @@ impl<'a> NodeReader<'a> {
         sizes: Sizes,
         tree_bytes: &[u8],
         out: &mut [u16],
-    ) -> Walk
+    ) -> Result<Counts, Refused>
         ensures { Promise (walk_of query cen inverse sizes self.entry.node_bytes.now tree_bytes.now (length out.old))
             out.old out.new result }
     {

@@ -14,19 +14,20 @@ use math::aabb::Aabb;
 use math::vec3::Vec3;
 use walk_steps::boxes::{Lanes, Query};
 use walk_steps::refusals::WalkRefusal;
-use walk_steps::state::{Sizes, Status, WalkState};
+use walk_steps::state::{Sizes, WalkState};
 
 // Records read, and positions handed out.
-#[derive(Clone, Copy)]
+#[derive(Clone, Copy, Debug, PartialEq, Eq)]
 pub struct Counts {
     pub reads: usize,
     pub handed: usize,
 }
 
-#[derive(Clone, Copy)]
-pub enum Walk {
-    Walked(Counts),
-    Refused(WalkRefusal, Counts),
+// Why a walk is refused, and the counts so far: the refused record is one of those read.
+#[derive(Clone, Copy, Debug, PartialEq, Eq)]
+pub struct Refused {
+    pub refusal: WalkRefusal,
+    pub counts: Counts,
 }
 
 // Refusal 1.
@@ -70,10 +71,8 @@ fn hand_many(out: &mut [u16], from: usize, first: Position, n: usize)
     ensures { out.new ≡ sets out.old from (up_from first.0 n) }
 {
     let id = first.0 as usize;
-    let mut i = 0;
-    while i < n {
+    for i in 0..n {
         out[from + i] = (id + i) as u16;
-        i += 1;
     }
 }
 
@@ -110,11 +109,12 @@ fn pass_trees(query: Lanes, nodes: usize, tree_bytes: &[u8], from: usize, upto: 
     requires topped { Topped query }
     ensures { PassedUpTo (plain_of query) nodes tree_bytes.now from upto result }
 {
-    let mut t = from;
-    while t < upto && passes(query, nodes, tree_bytes, 16 * t) {
-        t += 1;
+    for t in from..upto {
+        if !passes(query, nodes, tree_bytes, 16 * t) {
+            return t;
+        }
     }
-    t
+    upto
 }
 
 // The nodes of the range are read. The one place where a walk stores.
@@ -215,31 +215,30 @@ pub fn run(
 }
 
 // The answer that a finished state stands for.
-fn answer(s: WalkState) -> Walk
+fn answer(s: WalkState) -> Result<Counts, Refused>
     ensures { (number_of result ≡ status_number s.status) × (counts_of result ≡ record { reads = s.reads; handed = s.handed }) }
 {
     let counts = Counts {
         reads: s.reads,
         handed: s.handed,
     };
-    let status = s.status;
-    match status {
-        Status::Going => Walk::Walked(counts),
-        Status::Stopped(why) => Walk::Refused(why, counts),
+    match s.status {
+        Ok(()) => Ok(counts),
+        Err(refusal) => Err(Refused { refusal, counts }),
     }
 }
 
 // A refusal before anything is read.
-fn unread(why: WalkRefusal) -> Walk
-    ensures { (number_of result ≡ (unread why).number) × (counts_of result ≡ (unread why).counts) }
+fn unread(refusal: WalkRefusal) -> Result<Counts, Refused>
+    ensures { (number_of result ≡ (unread refusal).number) × (counts_of result ≡ (unread refusal).counts) }
 {
-    Walk::Refused(
-        why,
-        Counts {
+    Err(Refused {
+        refusal,
+        counts: Counts {
             reads: 0,
             handed: 0,
         },
-    )
+    })
 }
 
 // Which positions the query may meet, into the first places of `out`.
@@ -251,7 +250,7 @@ pub fn walk_core(
     node_bytes: &[u8],
     tree_bytes: &[u8],
     out: &mut [u16],
-) -> Walk
+) -> Result<Counts, Refused>
     ensures { Promise (walk_of query cen inverse sizes node_bytes.now tree_bytes.now (length out.old))
         out.old out.new result }
 {

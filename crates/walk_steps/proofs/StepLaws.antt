@@ -1,4 +1,5 @@
 -- What a reading leads to, case by case.
+use Rattle.std.specs.Prelude.{Ok, is_ok}
 use mathlib.Core.Path.{◌≡◌}
 use mathlib.Core.Bool.{and-eq-true_iff, true, false, ◌||◌}
 use Prim.Native.Nat.{ℕ, ◌+◌, ◌*◌, ◌≤◌, ◌<◌}
@@ -10,10 +11,9 @@ use Rattle.records.specs.declared.BvhNode.{BvhNode}
 use Rattle.records.specs.declared.BvhTree.{BvhTree}
 use Rattle.walk_steps.specs.Boxes.{meets}
 use Rattle.walk_steps.specs.Refusals.{whole, bad_range, bad_node}
-use Rattle.walk_steps.specs.Step.{Lent, quiet, refused, entering, passing, at_tree, stride_of, onward, handing, at_node, more, going, step_of}
+use Rattle.walk_steps.specs.Step.{Lent, quiet, refused, entering, passing, at_tree, stride_of, onward, handing, at_node, more, step_of}
 use Rattle.walk_steps.specs.declared.boxes.Query.{Query}
 use Rattle.walk_steps.specs.declared.refusals.WalkRefusal.TheVariants.{TreeRange, NodeRecord}
-use Rattle.walk_steps.specs.declared.state.Status.TheVariants.{Going}
 use Rattle.walk_steps.specs.declared.state.WalkState.{WalkState}
 
 module _ (q : Query) (nodes : ℕ) (t : BvhTree) (s : WalkState) where
@@ -31,8 +31,8 @@ module _ (q : Query) (nodes : ℕ) (t : BvhTree) (s : WalkState) where
 
 -- the state in a range, by the numbers read from its record
 pub entering_by : (t : BvhTree) (s : WalkState) (first last : ℕ) → first ≡ whole t.node_index1 → last ≡ whole t.node_index2
-    → ◌≡◌ {A = WalkState} (record { tree = s.tree + 1; at = first; last = last; reads = s.reads + 1; handed = s.handed; status = Going }) (entering t s)
-entering_by t s first last e k = λ i. record { tree = s.tree + 1; at = e i; last = k i; reads = s.reads + 1; handed = s.handed; status = Going }
+    → ◌≡◌ {A = WalkState} (record { tree = s.tree + 1; at = first; last = last; reads = s.reads + 1; handed = s.handed; status = Ok tt }) (entering t s)
+entering_by t s first last e k = λ i. record { tree = s.tree + 1; at = e i; last = k i; reads = s.reads + 1; handed = s.handed; status = Ok tt }
 
 module _ (q : Query) (items : ℕ) (n : BvhNode) (s : WalkState) where
   pub node_refused : bad_node s.at s.last items n ≡ true → at_node q items n s ≡ quiet (refused NodeRecord s)
@@ -57,10 +57,10 @@ module _ (l : Lent) (s : WalkState) where
   step_tree h = rw (le-ltb s.at s.last h)
 
 -- ---- a record is left to read
-pub more_going : (trees : ℕ) (s : WalkState) → more trees s ≡ true → going s.status ≡ true
-more_going trees s h = ((and-eq-true_iff (going s.status) (ltb s.at s.last || ltb s.tree trees)).0 h).0
+pub more_going : (trees : ℕ) (s : WalkState) → more trees s ≡ true → is_ok s.status ≡ true
+more_going trees s h = ((and-eq-true_iff (is_ok s.status) (ltb s.at s.last || ltb s.tree trees)).0 h).0
 
 pub more_tree : (trees : ℕ) (s : WalkState) → more trees s ≡ true → s.last ≤ s.at → s.tree < trees
 more_tree trees s h k =
-    let e = ((and-eq-true_iff (going s.status) (ltb s.at s.last || ltb s.tree trees)).0 h).1 in
+    let e = ((and-eq-true_iff (is_ok s.status) (ltb s.at s.last || ltb s.tree trees)).0 h).1 in
     ltb-true s.tree trees (either_second (ltb s.at s.last) (ltb s.tree trees) e (le-ltb s.at s.last k))

@@ -4,14 +4,14 @@ ghost use Rattle.walk_steps.specs.Refusals.{whole, bad_range, bad_node};
 
 use records::{BvhNode, BvhTree};
 
-// What a walk turns down: the first two before it reads, the others as it reads a record.
-#[derive(Clone, Copy)]
+// What a walk turns down, by 01's number: the first two before it reads, the others as it reads a record.
+#[derive(Clone, Copy, Debug, PartialEq, Eq)]
 pub enum WalkRefusal {
-    TooMany,
-    BufferTooShort,
-    TreeRange,
-    NodeRecord,
-    TooManyHandedOut,
+    TooMany = 1,
+    BufferTooShort = 2,
+    TreeRange = 9,
+    NodeRecord = 10,
+    TooManyHandedOut = 11,
 }
 
 // v, or 0 where it is below 0.

@@ -19,14 +19,8 @@ pub struct Sizes {
     pub items: usize,
 }
 
-// Whether the walk goes on, or what it was refused for.
-#[derive(Clone, Copy)]
-pub enum Status {
-    Going,
-    Stopped(WalkRefusal),
-}
-
-// The next tree to read, the next node and one past the last of the range, and the counts so far.
+// The next tree to read, the next node and one past the last of the range, the counts so far, and whether the walk goes on or what it was
+// refused for.
 #[derive(Clone, Copy)]
 pub struct WalkState {
     pub tree: usize,
@@ -34,7 +28,7 @@ pub struct WalkState {
     pub last: usize,
     pub reads: usize,
     pub handed: usize,
-    pub status: Status,
+    pub status: Result<(), WalkRefusal>,
 }
 
 // One record further: the state, and the run of `count` positions from `first` on that is handed out.
@@ -63,13 +57,13 @@ pub fn lesser(a: usize, b: usize) -> usize
 }
 
 // Refusal 11, where a node has more positions than there is room for.
-fn leaf_status(room: usize, count: usize) -> Status
+fn leaf_status(room: usize, count: usize) -> Result<(), WalkRefusal>
     ensures { result ≡ leaf_status room count }
 {
     if room < count {
-        Status::Stopped(WalkRefusal::TooManyHandedOut)
+        Err(WalkRefusal::TooManyHandedOut)
     } else {
-        Status::Going
+        Ok(())
     }
 }
 
@@ -103,7 +97,7 @@ impl WalkState {
             last: 0,
             reads: 0,
             handed: 0,
-            status: Status::Going,
+            status: Ok(()),
         }
     }
 
@@ -111,22 +105,14 @@ impl WalkState {
     pub fn unfinished(self, trees: usize) -> bool
         ensures { result ≡ more trees self }
     {
-        let status = self.status;
-        match status {
-            Status::Going => self.at < self.last || self.tree < trees,
-            Status::Stopped(_) => false,
-        }
+        self.status.is_ok() && (self.at < self.last || self.tree < trees)
     }
 
     // Whether a node of the range is left to read.
     pub fn inside(self) -> bool
         ensures { result ≡ inside_range self }
     {
-        let status = self.status;
-        match status {
-            Status::Going => self.at < self.last,
-            Status::Stopped(_) => false,
-        }
+        self.status.is_ok() && self.at < self.last
     }
 
     // The trees before `tree` are passed over, each of them read.
@@ -141,7 +127,7 @@ impl WalkState {
             last: self.last,
             reads: read,
             handed: self.handed,
-            status: Status::Going,
+            status: Ok(()),
         }
     }
 
@@ -157,7 +143,7 @@ impl WalkState {
             last: self.last,
             reads: read,
             handed: self.handed,
-            status: Status::Stopped(why),
+            status: Err(why),
         }
     }
 
@@ -180,7 +166,7 @@ impl WalkState {
                 last,
                 reads: self.reads + 1,
                 handed: self.handed,
-                status: Status::Going,
+                status: Ok(()),
             }
         } else {
             WalkState {
@@ -189,7 +175,7 @@ impl WalkState {
                 last: self.last,
                 reads: self.reads + 1,
                 handed: self.handed,
-                status: Status::Going,
+                status: Ok(()),
             }
         }
     }
@@ -239,7 +225,7 @@ impl WalkState {
             last: self.last,
             reads: self.reads + 1,
             handed: self.handed,
-            status: Status::Going,
+            status: Ok(()),
         })
     }
 

@@ -1,17 +1,11 @@
--- `answer` meets its contract: a case of the enum each, told by the match.
+-- `answer` meets its contract: the cases of Ok by those of the enum, and a refusal by its number.
 use Prim.Native.Nat.{ℕ}
 use mathlib.Core.Path.{ap, ◌∙◌}
 use Rattle.shrink_answers.specs.Interface.{without}
 use Rattle.shrink_answers.proofs.answer.Goals as goal
 
-pub returns-in-ByMargin : goal.returns-in-ByMargin
-returns-in-ByMargin c = rw c.in-ByMargin.is
+pub returns-in-Ok : goal.returns-in-Ok
+returns-in-Ok c = rw c.in-Ok.is c.shrunk.ensures
 
-pub returns-in-ByNormals : goal.returns-in-ByNormals
-returns-in-ByNormals c = rw c.in-ByNormals.is c.without.ensures
-
-pub returns-in-NoVertices : goal.returns-in-NoVertices
-returns-in-NoVertices c = rw c.in-NoVertices.is c.without-in-NoVertices.ensures
-
-pub returns-in-Refused : goal.returns-in-Refused
-returns-in-Refused c = rw c.in-Refused.is (c.without-in-Refused.ensures ∙ ap (λ (n : ℕ). without n 0) c.refusal_number.ensures)
+pub returns-in-Err : goal.returns-in-Err
+returns-in-Err c = rw c.in-Err.is (c.without.ensures ∙ ap (λ (n : ℕ). without n 0) c.refusal_number.ensures)

@@ -1,5 +1,5 @@
 -- What `pair::build_and_walk` promises, from what the build and the walk do.
-use Rattle.std.specs.Prelude.{◌≡◌, ℕ, List, length, Ok, Err}
+use Rattle.std.specs.Prelude.{◌≡◌, ℕ, List, length, Ok, Err, Result}
 use native.Mathlib.Omega.{arith}
 use mathlib.Core.Path.{refl, ap, subst, ◌∙◌}
 use Rattle.math.specs.declared.aabb.Aabb.{Aabb}
@@ -8,14 +8,15 @@ use Rattle.bvh.specs.declared.slices.BuiltTree.{BuiltTree}
 use Rattle.bvh.specs.Build.{Build, Entries, refusal_number, number_of}
 use Rattle.bvh.specs.Entry.{entries_in, Outputs, Lent, lengths_of, Answered}
 use Rattle.walk.specs.Walks.{Outcome, walk_of, Promise}
-use Rattle.walk.specs.declared.slices.Walk.{Walk}
+use Rattle.walk.specs.declared.slices.Counts.{Counts}
+use Rattle.walk.specs.declared.slices.Refused.{Refused as RefusedWalk}
 use Rattle.tree.specs.declared.pair.Found.TheVariants.{Unbuilt, Walked}
 use Rattle.tree.specs.Pair.{outcome_of, Delivered, pair_number, Paired}
 use Rattle.tree.specs.WellFormed.{count_for}
 use Rattle.tree.proofs.AnswerLaws.{refusal_numbered, words_listed}
 use Rattle.tree.proofs.PointThree.{records_well_formed, walk_delivers}
 
-module _ (n th : ℕ) (ws : List ℕ) (query : Aabb) (given : Lent) (before after : Outputs) (out out' : List ℕ) (b : BuiltTree) (w : Walk) where
+module _ (n th : ℕ) (ws : List ℕ) (query : Aabb) (given : Lent) (before after : Outputs) (out out' : List ℕ) (b : BuiltTree) (w : Result Counts RefusedWalk) where
   abbrev e : Entries
   e = entries_in n ws
 

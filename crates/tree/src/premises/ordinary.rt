@@ -36,17 +36,15 @@ fn first_fault(entries: &[u32], n: usize) -> Premises
     requires { (7 * n ≤ length entries.now) × (n ≤ 32767) }
     ensures { result ≡ first_fault (box_at entries.now) (marked 0 n entries.now) }
 {
-    let mut p = 0;
-    while p < n {
+    for p in 0..n {
         let fault = entry_fault(entries, Place(p as u32));
         if fault != 0 {
             return Premises {
                 refusal: 0,
-                fault: fault,
+                fault,
                 place: p as u32,
             };
         }
-        p += 1;
     }
     Premises {
         refusal: 0,
@@ -76,10 +74,8 @@ fn fold_present(entries: &[u32], n: usize) -> BoxWords
     ensures { result ≡ fold_box (box_at entries.now) (marked 0 n entries.now) }
 {
     let mut acc = entries::boxes::start_box();
-    let mut p = 0;
-    while p < n {
+    for p in 0..n {
         acc = fold_entry(entries, Place(p as u32), acc);
-        p += 1;
     }
     acc
 }

@@ -8,16 +8,17 @@ use lib.Ieee.{Float}
 use lib.ListN.{length, take, drop}
 use lib.Seq.{length-take-le}
 use borrow.Author.Tests.{lt-ltb, le-ltb, ltb-false, eq-eqb, ne_eqb}
-use Rattle.std.specs.Prelude.{Option, Some, None}
+use Rattle.std.specs.Prelude.{Option, Some, None, Result, Ok, Err}
 use Rattle.base.specs.Lists.{over}
 use Rattle.base.proofs.Truth.{neither}
 use Rattle.corners.specs.Corners.{kinds_known}
 use Rattle.shrink.specs.Shrinking.{shrink_margin}
 use Rattle.shrinking.specs.declared.whole.Geometry.{Geometry}
 use Rattle.verts_shrunk.specs.declared.entry.Lengths.{Lengths}
+use Rattle.verts_shrunk.specs.declared.entry.ShrinkRefusal.{ShrinkRefusal}
 use Rattle.verts_shrunk.specs.declared.entry.ShrinkRefusal.TheVariants.{TooManyPolygons, TooManyVertices, BufferTooShort, UnknownKind, InfiniteMargin}
 use Rattle.verts_shrunk.specs.declared.entry.Shrunk.{Shrunk}
-use Rattle.verts_shrunk.specs.declared.entry.Shrunk.TheVariants.{NoVertices, Refused}
+use Rattle.verts_shrunk.specs.declared.entry.Shrunk.TheVariants.{NoVertices}
 use Rattle.shrinking.specs.Whole.{mesh_in, bound_of, infinite_start, shrunk_of, ShrunkTo}
 use Rattle.verts_shrunk.specs.Answers.{short_of, short, shrunk_by, answer_of, kept, Answered}
 use Rattle.verts_shrunk.specs.Steps.Work.{Lent}
@@ -104,76 +105,76 @@ lent n v polygons vertices points corners tri firsts spare links normals olds ne
 -- ---- the answers
 
 module _ (g : Geometry) (n : ℕ) (polygons : List ℕ) (v : ℕ) (vertices : List ℕ) (l : Lengths) (before : List ℕ) where
-  abbrev answer_is : Shrunk → Type 0
+  abbrev answer_is : Result Shrunk ShrinkRefusal → Type 0
   answer_is r = r ≡ answer_of g n polygons v vertices l
 
-  abbrev done : List ℕ → Shrunk → Type 0
+  abbrev done : List ℕ → Result Shrunk ShrinkRefusal → Type 0
   done after r = Answered g n polygons v vertices l before after r
 
-  as_many_polygons : 32767 < n → answer_is (Refused TooManyPolygons)
+  as_many_polygons : 32767 < n → answer_is (Err TooManyPolygons)
   unfolding answer_of
   as_many_polygons h = rw (lt-ltb 32767 n h)
 
-  pub many_polygons : 32767 < n → done before (Refused TooManyPolygons)
+  pub many_polygons : 32767 < n → done before (Err TooManyPolygons)
   many_polygons h = record { answer = as_many_polygons h; points_are = refl }
 
-  as_many_vertices : n ≤ 32767 → 32768 < v → answer_is (Refused TooManyVertices)
+  as_many_vertices : n ≤ 32767 → 32768 < v → answer_is (Err TooManyVertices)
   unfolding answer_of
   as_many_vertices h k = rw (le-ltb 32767 n h, lt-ltb 32768 v k)
 
-  pub many_vertices : n ≤ 32767 → 32768 < v → done before (Refused TooManyVertices)
+  pub many_vertices : n ≤ 32767 → 32768 < v → done before (Err TooManyVertices)
   many_vertices h k = record { answer = as_many_vertices h k; points_are = refl }
 
   module _ (few : n ≤ 32767) (few_vertices : v ≤ 32768) where
-    as_short : short n v l ≡ true → answer_is (Refused BufferTooShort)
+    as_short : short n v l ≡ true → answer_is (Err BufferTooShort)
     unfolding answer_of
     as_short e = rw (le-ltb 32767 n few, le-ltb 32768 v few_vertices, e)
 
-    pub too_small : short n v l ≡ true → done before (Refused BufferTooShort)
+    pub too_small : short n v l ≡ true → done before (Err BufferTooShort)
     too_small e = record { answer = as_short e; points_are = refl }
 
     module _ (long : short n v l ≡ false) where
-      as_unknown : kinds_known n polygons ≡ false → answer_is (Refused UnknownKind)
+      as_unknown : kinds_known n polygons ≡ false → answer_is (Err UnknownKind)
       unfolding answer_of
       as_unknown k = rw (le-ltb 32767 n few, le-ltb 32768 v few_vertices, long, k)
 
-      pub unknown : kinds_known n polygons ≡ false → done before (Refused UnknownKind)
+      pub unknown : kinds_known n polygons ≡ false → done before (Err UnknownKind)
       unknown k = record { answer = as_unknown k; points_are = refl }
 
       module _ (known : kinds_known n polygons ≡ true) where
-        as_none : v ≡ 0 → answer_is NoVertices
+        as_none : v ≡ 0 → answer_is (Ok NoVertices)
         unfolding answer_of
         as_none z = rw (le-ltb 32767 n few, le-ltb 32768 v few_vertices, long, known, eq-eqb v 0 z)
 
-        pub none_there : v ≡ 0 → done before NoVertices
+        pub none_there : v ≡ 0 → done before (Ok NoVertices)
         none_there z = record { answer = as_none z; points_are = refl }
 
         module _ (some : v ≡ 0 → ⊥) where
-          as_infinite : infinite_start g ≡ true → answer_is (Refused InfiniteMargin)
+          as_infinite : infinite_start g ≡ true → answer_is (Err InfiniteMargin)
           unfolding answer_of
           as_infinite i = rw (le-ltb 32767 n few, le-ltb 32768 v few_vertices, long, known, ne_eqb v 0 some, i)
 
-          pub infinite : infinite_start g ≡ true → done before (Refused InfiniteMargin)
+          pub infinite : infinite_start g ≡ true → done before (Err InfiniteMargin)
           infinite i = record { answer = as_infinite i; points_are = refl }
 
           module _ (finite : infinite_start g ≡ false) where
-            as_shrunk : shrunk_by (shrink_margin (bound_of g) (mesh_in n polygons v vertices)) ≡ answer_of g n polygons v vertices l
+            as_shrunk : Ok (shrunk_by (shrink_margin (bound_of g) (mesh_in n polygons v vertices))) ≡ answer_of g n polygons v vertices l
             unfolding answer_of
             as_shrunk = rw (le-ltb 32767 n few, le-ltb 32768 v few_vertices, long, known, ne_eqb v 0 some, finite)
 
-            written : (m : Option Float) (a b : List ℕ) → a ≡ kept (shrunk_by m) a b
+            written : (m : Option Float) (a b : List ℕ) → a ≡ kept (Ok (shrunk_by m)) a b
             written (Some m) a b = refl
             written None a b = refl
 
             pub served : (front : List ℕ) (m : Option Float) (r : Shrunk) → length front ≡ 3 * v → ShrunkTo g (mesh_in n polygons v vertices) front m
-                → r ≡ shrunk_by m → done (front ++ drop (3 * v) before) r
+                → r ≡ shrunk_by m → done (front ++ drop (3 * v) before) (Ok r)
             served front m r size s e =
                 let whole : List ℕ = over (shrunk_of g (mesh_in n polygons v vertices)) before in
                 record {
-                  answer = e ∙ ap shrunk_by s.answer ∙ as_shrunk;
+                  answer = ap (λ (x : Shrunk). Ok x) (e ∙ ap shrunk_by s.answer) ∙ as_shrunk;
                   points_are =
                       ap (λ (k : ℕ). front ++ drop k before) (sym size)
                       ∙ ap (λ (l : List ℕ). over l before) s.points_are
                       ∙ written m whole before
-                      ∙ ap (λ (x : Shrunk). kept x whole before) (sym e);
+                      ∙ ap (λ (x : Shrunk). kept (Ok x) whole before) (sym e);
                 }

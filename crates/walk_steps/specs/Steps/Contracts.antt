@@ -1,11 +1,10 @@
 -- What the functions below `walk_core` ask and leave. Definitions only; `walk_bvh`'s contract needs none of them.
-use Rattle.std.specs.Prelude.{ℕ, ◌+◌, ◌-◌, ◌*◌, ◌≤◌, ◌<◌, Bool, ◌&&◌, List, ◌≡◌, ltb, length}
+use Rattle.std.specs.Prelude.{ℕ, ◌+◌, ◌-◌, ◌*◌, ◌≤◌, ◌<◌, Bool, is_ok, Ok, ◌&&◌, List, ◌≡◌, ltb, length}
 use Rattle.std.proofs.lemmas.List.Edits.{sets}
 use Rattle.base.specs.Lists.{up_from}
-use Rattle.walk_steps.specs.Step.{Turn, going}
+use Rattle.walk_steps.specs.Step.{Turn}
 use Rattle.walk_steps.specs.declared.state.Sizes.{Sizes}
 use Rattle.walk_steps.specs.declared.state.Step.{Step}
-use Rattle.walk_steps.specs.declared.state.Status.TheVariants.{Going}
 use Rattle.walk_steps.specs.declared.state.WalkState.{WalkState}
 
 -- What a step asks: counts within 01's limits, buffers that hold them, a state within the counts.
@@ -36,8 +35,8 @@ pub record Ran (t : Turn) (out out' : List ℕ) (r : WalkState) : Type 0 where
 -- The state at tree k, the trees before it passed over.
 abbrev pub ahead_at : ℕ → WalkState → WalkState
 ahead_at k s =
-    record { tree = k; at = s.at; last = s.last; reads = s.reads + (k - s.tree); handed = s.handed; status = Going }
+    record { tree = k; at = s.at; last = s.last; reads = s.reads + (k - s.tree); handed = s.handed; status = Ok tt }
 
 -- Whether a node of the range is left to read.
 abbrev pub inside_range : WalkState → Bool
-inside_range s = going s.status && ltb s.at s.last
+inside_range s = is_ok s.status && ltb s.at s.last

@@ -21,27 +21,19 @@ pub loop-i-init : goal.loop-i-init
 loop-i-init c = record { upto = omega arith; same_length = refl; size = c.requires.1; written = λ sum h. refl; behind = refl }
 
 pub vertex_at-sum-requires : goal.vertex_at-sum-requires
-vertex_at-sum-requires c = omega (arith, c.loop-i.invariant.size, c.loop-i-test.true)
+vertex_at-sum-requires c = omega (arith, c.loop-i.invariant.size)
 
 pub vertex_at-requires : goal.vertex_at-requires
-vertex_at-requires c = omega (arith, c.requires.0, c.loop-i-test.true)
+vertex_at-requires c = omega (arith, c.requires.0)
 
 pub put_point-requires : goal.put_point-requires
-put_point-requires c = omega (arith, c.loop-i.invariant.size, c.loop-i-test.true)
-
-pub overflow_add-i : goal.overflow_add-i
-overflow_add-i c =
-    omega (
-      arith,
-      c.loop-i-test.true,
-      c.ranges.v.fits,
-    )
+put_point-requires c = omega (arith, c.loop-i.invariant.size)
 
 pub loop-i-preserved : goal.loop-i-preserved
 loop-i-preserved c =
     let a = c.args in
     let l = c.loop-i in
-    let more : l.i < a.v = c.loop-i-test.true in
+    let more : l.i < a.v = omega arith in
     let room : 3 * l.i + 3 ≤ length l.points = omega (arith, l.invariant.size) in
     let read = c.vertex_at-sum.ensures ∙ point_behind l.points a.points.now l.i l.invariant.behind in
     let moved = c.pushed.ensures ∙ ap₂ (λ (from sum : Vec3). pushed_of from sum a.by) c.vertex_at.ensures read in

@@ -20,6 +20,3 @@ pub record Pushing (vertices : List ℕ) (v : ℕ) (by : Float) (before points :
 
 abbrev pub invariant-loop-i : goal.invariant-loop-i
 invariant-loop-i l = Pushing l.vertices l.v l.by l.initial.points l.points l.i
-
-abbrev pub decreases-loop-i : goal.decreases-loop-i
-decreases-loop-i l = l.v - l.i

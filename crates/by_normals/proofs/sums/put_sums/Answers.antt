@@ -35,16 +35,8 @@ loop-p-init c =
 pub add_triangle-requires : goal.add_triangle-requires
 add_triangle-requires c =
     let l = c.loop-p in (
-      one_of l.points l.p (omega (arith, c.loop-p-test.true)) (l.invariant.same_length ∙ c.clear.auto.words) c.requires,
+      one_of l.points l.p (omega (arith)) (l.invariant.same_length ∙ c.clear.auto.words) c.requires,
       l.invariant.sums-are,
-    )
-
-pub overflow_add-p : goal.overflow_add-p
-overflow_add-p c =
-    omega (
-      arith,
-      c.loop-p-test.true,
-      c.requires.few,
     )
 
 pub loop-p-preserved : goal.loop-p-preserved
@@ -53,7 +45,7 @@ loop-p-preserved c =
     let l = c.loop-p in
     let next : 3 * l.p + 3 ≡ 3 * (l.p + 1) = omega arith in
     record {
-      upto = omega (arith, c.loop-p-test.true);
+      upto = omega (arith);
       same_length = c.add_triangle.auto.points ∙ l.invariant.same_length;
       sums-are =
           subst (λ (m : ℕ). Sums (placed_of a.corners.now a.vertices.now a.v a.center a.transform) m c.add_triangle.new.points)
@@ -64,5 +56,5 @@ pub returns : goal.returns
 returns c =
     let a = c.args in
     let l = c.loop-p in
-    let end : 3 * l.p ≡ 3 * a.n = omega (arith, l.invariant.upto, c.loop-p-test.false) in
+    let end : 3 * l.p ≡ 3 * a.n = omega (arith, l.invariant.upto) in
     subst (λ (m : ℕ). Sums (placed_of a.corners.now a.vertices.now a.v a.center a.transform) m l.points) end l.invariant.sums-are

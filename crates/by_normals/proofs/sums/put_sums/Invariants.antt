@@ -14,6 +14,3 @@ pub record Summing (g : Placed) (n : ℕ) (before points : List ℕ) (p : ℕ) :
 
 abbrev pub invariant-loop-p : goal.invariant-loop-p
 invariant-loop-p l = Summing (placed_of l.corners l.vertices l.v l.center l.transform) l.n l.initial.points l.points l.p
-
-abbrev pub decreases-loop-p : goal.decreases-loop-p
-decreases-loop-p l = l.n - l.p

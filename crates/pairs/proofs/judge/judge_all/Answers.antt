@@ -4,10 +4,7 @@ use Rattle.pairs.proofs.CountLaws.{compared_none, compared_at}
 use Rattle.pairs.proofs.judge.judge_all.Goals as goal
 
 pub loop-i-init : goal.loop-i-init
-loop-i-init c = (omega arith, compared_none _ _ _)
-
-pub loop-i-preserved : goal.loop-i-preserved
-loop-i-preserved c = (omega arith, c.judged-m.ensures)
+loop-i-init c = compared_none _ _ _
 
 pub returns : goal.returns
-returns c = compared_at _ _ _ _ (omega arith) c.loop-i.invariant.1
+returns c = compared_at _ _ _ _ (omega arith) c.loop-i.invariant

@@ -1,10 +1,7 @@
 -- `judge::mark_all` meets its contract: the items of the first i positions have their marks, and those that had one are counted.
-use Rattle.std.proofs.Common.{◌≡◌, ◌-◌, ◌≤◌}
+use Rattle.std.proofs.Common.{◌≡◌}
 use Rattle.pairs.specs.Judging.{count_of, marks, twice_at}
 use Rattle.pairs.proofs.judge.mark_all.Given as goal
 
 abbrev pub invariant-loop-i : goal.invariant-loop-i
-invariant-loop-i l = (l.i ≤ l.handed) × (l.twice ≡ count_of (twice_at l.threshold l.order l.out l.initial.seen) l.i) × (l.seen ≡ marks l.threshold l.order l.out l.initial.seen l.i)
-
-abbrev pub decreases-loop-i : goal.decreases-loop-i
-decreases-loop-i l = l.handed - l.i
+invariant-loop-i l = (l.twice ≡ count_of (twice_at l.threshold l.order l.out l.initial.seen) l.i) × (l.seen ≡ marks l.threshold l.order l.out l.initial.seen l.i)

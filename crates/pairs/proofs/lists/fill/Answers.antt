@@ -7,8 +7,7 @@ pub loop-i-preserved : goal.loop-i-preserved
 loop-i-preserved c =
     let l = c.loop-i in
     let start = c.args in (
-      omega arith,
-      c.put_entry-s.auto.entries ∙ l.invariant.1,
-      number_next start.shape.seed l.i l.invariant.2 c.put_entry-s.ensures.value,
-      entry_next start.shape l.i start.entries.now l.invariant.2 l.invariant.3 (omega arith) c.put_entry-s.ensures.entries_after,
+      c.put_entry-s.auto.entries ∙ l.invariant.0,
+      number_next start.shape.seed l.i l.invariant.1 c.put_entry-s.ensures.value,
+      entry_next start.shape l.i start.entries.now l.invariant.1 l.invariant.2 (omega arith) c.put_entry-s.ensures.entries_after,
     )

@@ -48,20 +48,12 @@ put_facet-requires c = (
   omega arith,
 )
 
-pub overflow_add-k : goal.overflow_add-k
-overflow_add-k c =
-    omega (
-      arith,
-      c.loop-k-test.true,
-      c.requires.rows_in.few,
-    )
-
 pub loop-k-preserved : goal.loop-k-preserved
 loop-k-preserved c =
     let a = c.args in
     let l = c.loop-k in
     let room : 9 * a.t ≤ length l.rows = omega (arith, c.requires.rows_in.coordinates, l.invariant.same_length) in
-    let more : l.k < a.t = c.loop-k-test.true in
+    let more : l.k < a.t = omega arith in
     let f = c.facet.result in
     let f-is =
     c.facet.ensures

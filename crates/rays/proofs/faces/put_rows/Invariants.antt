@@ -1,6 +1,6 @@
 -- `faces::put_rows` meets its contract. The loop's invariant: the rows hold the triangles before k, and are as many as at entry.
 use mathlib.Core.Path.{◌≡◌}
-use Prim.Native.Nat.{ℕ, ◌-◌, ◌≤◌}
+use Prim.Native.Nat.{ℕ, ◌≤◌}
 use mathlib.Core.List.{List}
 use lib.ListN.{length}
 use lib.Ieee.{Float}
@@ -14,6 +14,3 @@ pub record Filling (tri : List ℕ) (t : ℕ) (points : List ℕ) (before rows :
 
 abbrev pub invariant-loop-k : goal.invariant-loop-k
 invariant-loop-k l = Filling l.tri l.t l.points l.initial.rows l.rows l.k
-
-abbrev pub decreases-loop-k : goal.decreases-loop-k
-decreases-loop-k l = l.t - l.k

@@ -21,7 +21,6 @@ overflow_add-t c =
       c.one_if_there-t.ensures,
       one_or_none (there a.corners.now (3 * l.p)),
       l.invariant.1,
-      c.loop-p-test.true,
       c.requires.1,
     )
 
@@ -38,5 +37,5 @@ pub returns : goal.returns
 returns c =
     let a = c.args in
     let l = c.loop-p in
-    let end : l.p ≡ a.n = omega (arith, l.invariant.0, c.loop-p-test.false) in
+    let end : l.p ≡ a.n = omega (arith, l.invariant.0) in
     (l.invariant.2 ∙ ap (λ (k : ℕ). length (triangles_of a.corners.now k)) end, omega (arith, l.invariant.0, l.invariant.1))

@@ -1,5 +1,5 @@
 -- `triangles::count_triangles` meets its contract. The loop's invariant: t counts the triangles before p.
-use Prim.Native.Nat.{◌-◌, ◌≤◌}
+use Prim.Native.Nat.{◌≤◌}
 use mathlib.Core.Path.{◌≡◌}
 use lib.ListN.{length}
 use Rattle.rays.specs.Checks.{triangles_of}
@@ -7,6 +7,3 @@ use Rattle.rays.proofs.triangles.count_triangles.Given as goal
 
 abbrev pub invariant-loop-p : goal.invariant-loop-p
 invariant-loop-p l = (l.p ≤ l.n) × (l.t ≤ l.p) × (l.t ≡ length (triangles_of l.corners l.p))
-
-abbrev pub decreases-loop-p : goal.decreases-loop-p
-decreases-loop-p l = l.n - l.p

@@ -27,7 +27,7 @@ loop-p-init c =
     }
 
 pub bounds-corners-p : goal.bounds-corners-p
-bounds-corners-p c = omega (arith, c.requires.0.corners, c.loop-p-test.true)
+bounds-corners-p c = omega (arith, c.requires.0.corners)
 
 pub loop-p-preserved-then-corners-p-eq65535 : goal.loop-p-preserved-then-corners-p-eq65535
 loop-p-preserved-then-corners-p-eq65535 c =
@@ -44,7 +44,7 @@ loop-p-preserved-then-corners-p-eq65535 c =
 pub put_triangle-requires : goal.put_triangle-requires
 put_triangle-requires c =
     let l = c.loop-p in
-    let more : l.p < c.args.n = c.loop-p-test.true in
+    let more : l.p < c.args.n = omega arith in
     let room = free c.args.corners.now c.args.n l.p more (a_triangle c.args.corners.now l.p c.if-corners-p-eq65535.false) in
     (omega (arith, c.requires.0.corners), omega (arith, c.requires.0.room, c.requires.2, l.invariant.same_length), omega (arith, c.requires.1, l.invariant.count))
 
@@ -52,7 +52,7 @@ pub overflow_add-k : goal.overflow_add-k
 overflow_add-k c =
     let a = c.args in
     let l = c.loop-p in
-    let more : l.p < a.n = c.loop-p-test.true in
+    let more : l.p < a.n = omega arith in
     let room = free a.corners.now a.n l.p more (a_triangle a.corners.now l.p c.if-corners-p-eq65535.false) in
     omega (arith, c.requires.1, c.requires.2, c.requires.0.few, l.invariant.count)
 
@@ -60,7 +60,7 @@ pub loop-p-preserved : goal.loop-p-preserved
 loop-p-preserved c =
     let a = c.args in
     let l = c.loop-p in
-    let more : l.p < a.n = c.loop-p-test.true in
+    let more : l.p < a.n = omega arith in
     let one = a_triangle a.corners.now l.p c.if-corners-p-eq65535.false in
     let room = free a.corners.now a.n l.p more one in
     let put = c.put_triangle.ensures in
@@ -81,7 +81,7 @@ pub returns : goal.returns
 returns c =
     let a = c.args in
     let l = c.loop-p in
-    let end : l.p ≡ a.n = omega (arith, l.invariant.upto, c.loop-p-test.false) in
+    let end : l.p ≡ a.n = omega (arith, l.invariant.upto) in
     let all : l.k ≡ a.t = l.invariant.count ∙ ap (λ (k : ℕ). length (triangles_of a.corners.now k)) end ∙ sym c.requires.1 in
     let stand = subst (λ (p : ℕ). Standing a.corners.now (triangles_of a.corners.now p) l.tri a.t l.k) end l.invariant.stand in
     let whole = subst (λ (k : ℕ). Standing a.corners.now (triangles_of a.corners.now a.n) l.tri a.t k) all stand in

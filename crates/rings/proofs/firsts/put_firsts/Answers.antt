@@ -27,16 +27,8 @@ pub note_side-requires : goal.note_side-requires
 note_side-requires c = (
   c.loop-s.invariant.room,
   omega
-      (arith, c.requires.1, c.loop-s-test.true),
+      (arith, c.requires.1),
 )
-
-pub overflow_add-s : goal.overflow_add-s
-overflow_add-s c =
-    omega (
-      arith,
-      c.requires.1,
-      c.loop-s-test.true,
-    )
 
 pub loop-s-preserved : goal.loop-s-preserved
 loop-s-preserved c =
@@ -45,13 +37,13 @@ loop-s-preserved c =
     let put = c.note_side.ensures ∙ ap (λ (i : ℕ). noted l.firsts a.v i l.s) c.wide.ensures in
     record {
       end_is = l.invariant.end_is;
-      upto = omega (arith, c.loop-s-test.true);
+      upto = omega (arith);
       same_length = ap length put ∙ length_noted l.firsts a.v (get_or a.corners.now l.s 0) l.s ∙ l.invariant.same_length;
       room = omega (arith, l.invariant.room, ap length put, length_noted l.firsts a.v (get_or a.corners.now l.s 0) l.s);
       firsts_are =
           subst (λ (fs : List ℕ). Firsts a.corners.now (l.s + 1) a.v fs) (sym put)
           (one_side a.corners.now l.s a.v l.firsts
-          (omega (arith, c.requires.1, l.invariant.end_is, c.loop-s-test.true)) l.invariant.room
+          (omega (arith, c.requires.1, l.invariant.end_is)) l.invariant.room
           l.invariant.firsts_are);
     }
 

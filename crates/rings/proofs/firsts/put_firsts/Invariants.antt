@@ -1,6 +1,6 @@
 -- `firsts::put_firsts` meets its contract. The loop's invariant: the list holds the first sides of those below s.
 use mathlib.Core.Path.{◌≡◌}
-use Prim.Native.Nat.{ℕ, ◌-◌, ◌*◌, ◌≤◌}
+use Prim.Native.Nat.{ℕ, ◌*◌, ◌≤◌}
 use mathlib.Core.List.{List}
 use lib.ListN.{length}
 use Rattle.rings.specs.Steps.Stored.{Firsts}
@@ -15,6 +15,3 @@ pub record Noting (corners : List ℕ) (n v end : ℕ) (before firsts : List ℕ
 
 abbrev pub invariant-loop-s : goal.invariant-loop-s
 invariant-loop-s l = Noting l.corners l.n l.v l.end l.initial.firsts l.firsts l.s
-
-abbrev pub decreases-loop-s : goal.decreases-loop-s
-decreases-loop-s l = l.end - l.s

@@ -35,6 +35,6 @@ returns c =
     let a = c.args in
     let l = c.loop-i in
     let all : a.count - 0 ≡ a.count = omega arith in
-    finished (each_first a.m) a.ns.now a.count _ l.best.point l.i l.invariant.scan c.loop-i-test.false
+    finished (each_first a.m) a.ns.now a.count _ l.best.point l.i l.invariant.scan (omega arith)
     ∙ ap (λ (k : ℕ). each_first a.m c.reached-best.result.point (normals_from a.ns.now 0 k)) all
     ∙ ap (λ (r : Reach). each_first a.m r.point (normals_from a.ns.now 0 a.count)) c.reached-best.ensures

@@ -7,6 +7,3 @@ use Rattle.rings.proofs.moving.each_first.Given as goal
 
 abbrev pub invariant-loop-i : goal.invariant-loop-i
 invariant-loop-i l = Carried l.m (each_first l.m) l.ns l.count (each_first l.m l.initial.best.point (normals_from l.ns 0 (l.count - 0))) l.best l.i
-
-abbrev pub decreases-loop-i : goal.decreases-loop-i
-decreases-loop-i l = l.count - l.i

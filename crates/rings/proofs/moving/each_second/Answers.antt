@@ -33,4 +33,4 @@ returns c =
     let a = c.args in
     let l = c.loop-i in
     l.invariant.with_way
-    ∙ ap (reach_of a.m) (finished (each_second a.m a.a) a.ns.now a.count _ l.best.point l.i l.invariant.scan c.loop-i-test.false)
+    ∙ ap (reach_of a.m) (finished (each_second a.m a.a) a.ns.now a.count _ l.best.point l.i l.invariant.scan (omega arith))

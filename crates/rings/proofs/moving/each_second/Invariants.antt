@@ -7,6 +7,3 @@ use Rattle.rings.proofs.moving.each_second.Given as goal
 
 abbrev pub invariant-loop-i : goal.invariant-loop-i
 invariant-loop-i l = Carried l.m (each_second l.m l.a) l.ns l.count (each_second l.m l.a l.initial.best.point (normals_from l.ns l.from (l.count - l.from))) l.best l.i
-
-abbrev pub decreases-loop-i : goal.decreases-loop-i
-decreases-loop-i l = l.count - l.i

@@ -34,4 +34,4 @@ returns c =
     let l = c.loop-i in
     l.invariant.with_way
     ∙ ap (reach_of a.m)
-    (finished (each_third a.m a.a a.b) a.ns.now a.count _ l.best.point l.i l.invariant.scan c.loop-i-test.false)
+    (finished (each_third a.m a.a a.b) a.ns.now a.count _ l.best.point l.i l.invariant.scan (omega arith))

@@ -26,4 +26,4 @@ pub returns : goal.returns
 returns c =
     let a = c.args in
     let l = c.loop-i in
-    finished (sum_from) a.ns.now a.count _ l.sum l.i l.invariant c.loop-i-test.false
+    finished (sum_from) a.ns.now a.count _ l.sum l.i l.invariant (omega arith)

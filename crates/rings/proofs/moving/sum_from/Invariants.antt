@@ -7,6 +7,3 @@ use Rattle.rings.proofs.moving.sum_from.Given as goal
 
 abbrev pub invariant-loop-i : goal.invariant-loop-i
 invariant-loop-i l = Scan (sum_from) l.ns l.count ((sum_from) l.initial.sum (normals_from l.ns 1 (l.count - 1))) l.sum l.i
-
-abbrev pub decreases-loop-i : goal.decreases-loop-i
-decreases-loop-i l = l.count - l.i

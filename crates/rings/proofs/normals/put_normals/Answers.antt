@@ -22,7 +22,7 @@ loop-p-preserved c =
     let l = c.loop-p in
     let put = c.put_normal.ensures in
     let n = c.polygon_normal.result in
-    let more : l.p < a.n = c.loop-p-test.true in
+    let more : l.p < a.n = omega arith in
     record {
       upto = omega arith;
       same_length = ap length put ∙ length_normal l.ns l.p n ∙ l.invariant.same_length;

@@ -1,6 +1,6 @@
 -- `normals::put_normals` meets its contract. The loop's invariant: the normals before p are there.
 use mathlib.Core.Path.{◌≡◌}
-use Prim.Native.Nat.{ℕ, ◌-◌, ◌≤◌}
+use Prim.Native.Nat.{ℕ, ◌≤◌}
 use mathlib.Core.List.{List}
 use lib.ListN.{length}
 use lib.Ieee.{Float}
@@ -14,6 +14,3 @@ pub record Going (corners vertices : List ℕ) (v n : ℕ) (before ns : List Flo
 
 abbrev pub invariant-loop-p : goal.invariant-loop-p
 invariant-loop-p l = Going l.corners l.vertices l.v l.n l.initial.ns l.ns l.p
-
-abbrev pub decreases-loop-p : goal.decreases-loop-p
-decreases-loop-p l = l.n - l.p

@@ -1,9 +1,11 @@
 -- `ring::ring` meets its contract. The loop's invariant: what is written, followed by the ring from the walker on, is the whole ring.
-use mathlib.Core.Path.{sym, subst}
+use mathlib.Core.Path.{◌≡◌, sym, subst}
 use Prim.Native.Nat.{ℕ, ◌+◌, ◌/◌}
 use lib.ListN.{set}
+use native.Mathlib.Omega.{arith}
 use Rattle.rings.specs.declared.ring.Walker.{Walker}
 use Rattle.rings.specs.Rings.{ring_of}
+use Rattle.rings.specs.Steps.Stored.{Begins}
 use Rattle.rings.proofs.RingLaws.{Ringing, begun, ended, filled, here, again}
 use Rattle.rings.proofs.ring.ring.Goals as goal
 
@@ -37,11 +39,13 @@ loop-count-preserved c =
     subst (λ (w : Walker). Ringing a.corners.now a.links.now a.v (a.s / 3) a.n (ring_of a.corners.now a.links.now a.v a.s)
     a.out.now (set l.out l.count l.w.at) w (l.count + 1)) (sym c.onward-w.ensures) (again a.corners.now a.links.now a.v
     (a.s / 3) a.n (ring_of a.corners.now a.links.now a.v a.s) a.out.now l.out l.w l.count c.requires.2 l.invariant c.requires.0
-    c.loop-count-test.true c.if-p-eq65535.false)
+    (omega arith) c.if-p-eq65535.false)
 
 pub returns : goal.returns
 returns c =
     let a = c.args in
     let l = c.loop-count in
-    filled a.corners.now a.links.now a.v (a.s / 3) a.n (ring_of a.corners.now a.links.now a.v a.s) a.out.now l.out
-    l.w l.count c.requires.2 l.invariant c.loop-count-test.false
+    let whole = ring_of a.corners.now a.links.now a.v a.s in
+    let end : l.count ≡ 63 = omega arith in
+    subst (λ (n : ℕ). Begins whole l.out n) end
+    (filled a.corners.now a.links.now a.v (a.s / 3) a.n whole a.out.now l.out l.w l.count c.requires.2 l.invariant (omega arith))

@@ -6,6 +6,3 @@ use Rattle.rings.proofs.ring.ring.Given as goal
 
 abbrev pub invariant-loop-count : goal.invariant-loop-count
 invariant-loop-count l = Ringing l.corners l.links l.v (l.s / 3) l.n (ring_of l.corners l.links l.v l.s) l.initial.out l.out l.w l.count
-
-abbrev pub decreases-loop-count : goal.decreases-loop-count
-decreases-loop-count l = 63 - l.count

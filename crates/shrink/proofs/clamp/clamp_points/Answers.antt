@@ -21,24 +21,16 @@ pub loop-i-init : goal.loop-i-init
 loop-i-init c = record { upto = omega arith; same_length = refl; size = c.requires; written = refl; behind = refl }
 
 pub vertex_at-s-requires : goal.vertex_at-s-requires
-vertex_at-s-requires c = omega (arith, c.loop-i.invariant.size, c.loop-i-test.true)
+vertex_at-s-requires c = omega (arith, c.loop-i.invariant.size)
 
 pub put_point-requires : goal.put_point-requires
-put_point-requires c = omega (arith, c.loop-i.invariant.size, c.loop-i-test.true)
-
-pub overflow_add-i : goal.overflow_add-i
-overflow_add-i c =
-    omega (
-      arith,
-      c.loop-i-test.true,
-      c.ranges.v.fits,
-    )
+put_point-requires c = omega (arith, c.loop-i.invariant.size)
 
 pub loop-i-preserved : goal.loop-i-preserved
 loop-i-preserved c =
     let a = c.args in
     let l = c.loop-i in
-    let more : l.i < a.v = c.loop-i-test.true in
+    let more : l.i < a.v = omega arith in
     let room : 3 * l.i + 3 ≤ length l.points = omega (arith, l.invariant.size) in
     let clamped =
     c.clamp.ensures

@@ -18,6 +18,3 @@ pub record Going (before : List ℕ) (v : ℕ) (b : Aabb) (points : List ℕ) (i
 
 abbrev pub invariant-loop-i : goal.invariant-loop-i
 invariant-loop-i l = Going l.initial.points l.v l.b l.points l.i
-
-abbrev pub decreases-loop-i : goal.decreases-loop-i
-decreases-loop-i l = l.v - l.i

@@ -36,7 +36,7 @@ shrunk_at-requires c =
     let l = c.loop-i in (
       movable_again c.requires.0 _ _
           l.invariant.ring-length l.invariant.ns-length,
-      c.loop-i-test.true,
+      omega arith,
     )
 
 pub put_point-requires : goal.put_point-requires
@@ -44,7 +44,6 @@ put_point-requires c =
     omega (
       arith,
       c.loop-i.invariant.size,
-      c.loop-i-test.true,
     )
 
 pub vertex_at-requires : goal.vertex_at-requires
@@ -52,7 +51,6 @@ vertex_at-requires c =
     omega (
       arith,
       c.requires.0.vertices_in,
-      c.loop-i-test.true,
     )
 
 pub vertex_at-requires-in-loop-i : goal.vertex_at-requires-in-loop-i
@@ -60,7 +58,6 @@ vertex_at-requires-in-loop-i c =
     omega (
       arith,
       c.loop-i.invariant.size,
-      c.loop-i-test.true,
       c.put_point.auto.points,
     )
 
@@ -70,8 +67,7 @@ returns-then-has_moved c =
     c.args in
     let l = c.loop-i in
     let mesh = mesh_of a.corners.now a.links.now a.n a.vertices.now a.v in
-    let more : l.i < a.v =
-    c.loop-i-test.true in
+    let more : l.i < a.v = omega arith in
     let point =
     c.shrunk_at.ensures
     ∙ ap (λ (by : Float). shrunk_at mesh by l.i) l.invariant.by-is in
@@ -88,29 +84,13 @@ returns-then-has_moved c =
       points_are = λ e. absurd (true≢false (sym e));
     }
 
-pub overflow_add-i : goal.overflow_add-i
-overflow_add-i c =
-    omega (
-      arith,
-      c.loop-i-test.true,
-      c.requires.0.few,
-    )
-
-pub loop-i-smaller : goal.loop-i-smaller
-loop-i-smaller c =
-    omega (
-      arith,
-      c.loop-i-test.true,
-    )
-
 pub loop-i-preserved : goal.loop-i-preserved
 loop-i-preserved c =
     let a =
     c.args in
     let l = c.loop-i in
     let mesh = mesh_of a.corners.now a.links.now a.n a.vertices.now a.v in
-    let more : l.i < a.v =
-    c.loop-i-test.true in
+    let more : l.i < a.v = omega arith in
     let point =
     c.shrunk_at.ensures
     ∙ ap (λ (by : Float). shrunk_at mesh by l.i) l.invariant.by-is in

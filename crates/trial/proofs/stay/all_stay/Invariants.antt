@@ -25,6 +25,3 @@ pub record Staying (mesh : Mesh) (margin by : Float) (ring₀ : List ℕ) (ns₀
 
 abbrev pub invariant-loop-i : goal.invariant-loop-i
 invariant-loop-i l = Staying (mesh_of l.corners l.links l.n l.vertices l.v) l.margin l.by l.initial.ring l.initial.ns l.initial.points l.ring l.ns l.points l.i
-
-abbrev pub decreases-loop-i : goal.decreases-loop-i
-decreases-loop-i l = l.v - l.i

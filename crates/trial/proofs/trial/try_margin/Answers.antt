@@ -6,10 +6,15 @@ use Rattle.trial.specs.Steps.Trying.{Tryable}
 use Rattle.trial.proofs.TrialLaws.{by_staying}
 use Rattle.trial.proofs.trial.try_margin.Goals as goal
 
-pub returns-then-bad : goal.returns-then-bad
-returns-then-bad c =
+pub returns-then-stayed : goal.returns-then-stayed
+returns-then-stayed c =
     by_staying c.requires c.if-bad.true
-    c.args.margin _ _ c.all_stay-stayed.ensures
+    c.args.margin _ _ (rw (← c.if-stayed.true) c.all_stay-stayed.ensures)
+
+pub returns-else-stayed : goal.returns-else-stayed
+returns-else-stayed c =
+    by_staying c.requires c.if-bad.true
+    c.args.margin _ _ (rw (← c.if-stayed.false) c.all_stay-stayed.ensures)
 
 pub try_good-requires : goal.try_good-requires
 try_good-requires c =

@@ -1,9 +1,0 @@
--- `ask_all` is safe and ends: k counts the queries.
-use Rattle.std.proofs.Common.{◌-◌, ◌≤◌}
-use Rattle.pairs.proofs.ask_all.Given as goal
-
-abbrev pub invariant-loop-k : goal.invariant-loop-k
-invariant-loop-k l = l.k ≤ 16
-
-abbrev pub decreases-loop-k : goal.decreases-loop-k
-decreases-loop-k l = 16 - l.k
