@@ -119,13 +119,8 @@ pub fn total(entries: &[u32], places: &[u32], plain: bool) -> Totals
     ensures { result ≡ totals_all (box_at entries.now) places.now }
 {
     let mut t = no_totals();
-    let mut i = 0;
-    while i < places.len() {
-        t = total_step(
-            t,
-            crate::boxes::corners_at(entries, Place(places[i]), plain),
-        );
-        i += 1;
+    for p in places {
+        t = total_step(t, crate::boxes::corners_at(entries, Place(*p), plain));
     }
     t
 }
@@ -137,13 +132,8 @@ fn total_on(entries: &[u32], places: &[u32], plain: bool, start: Totals) -> Tota
     ensures { result ≡ totals_from (box_at entries.now) start places.now }
 {
     let mut t = start;
-    let mut i = 0;
-    while i < places.len() {
-        t = total_step(
-            t,
-            crate::boxes::corners_at(entries, Place(places[i]), plain),
-        );
-        i += 1;
+    for p in places {
+        t = total_step(t, crate::boxes::corners_at(entries, Place(*p), plain));
     }
     t
 }

@@ -12,8 +12,8 @@ use Rattle.entries.proofs.TotalLaws.{all_totals}
 use Rattle.entries.proofs.Places.{Pass, begin, taken, finished, next_within}
 use Rattle.entries.proofs.totals.total.Goals as goal
 
-pub loop-i-init : goal.loop-i-init
-loop-i-init c =
+pub loop-p-init : goal.loop-p-init
+loop-p-init c =
     let at = box_at c.args.entries.now in
     let ps = c.args.places.now in
     let start : Totals = totals_of start_box origin in
@@ -22,26 +22,23 @@ loop-i-init c =
 
 pub corners_at-requires : goal.corners_at-requires
 corners_at-requires c =
-    let l = c.loop-i in
-    (next_within _ _ c.args.places.now _ l.t l.i l.invariant (omega arith), c.requires.1)
+    let l = c.loop-p in
+    (next_within _ _ c.args.places.now _ l.t l.p-index l.invariant (omega arith), c.requires.1)
 
-pub overflow_add-i : goal.overflow_add-i
-overflow_add-i c = omega (arith, c.well_formed.1.0)
-
-pub loop-i-preserved : goal.loop-i-preserved
-loop-i-preserved c =
-    let l = c.loop-i in
+pub loop-p-preserved : goal.loop-p-preserved
+loop-p-preserved c =
+    let l = c.loop-p in
     let g = c.args in
     let at = box_at g.entries.now in
     let ps = g.places.now in
     let step = c.total_step-t.ensures ∙ ap (total_step l.t) c.corners_at.ensures in
-    taken (totals_from at) _ ps (totals_of start_box origin) l.t _ l.i l.invariant (omega arith)
-    (ap (λ (s : Totals). totals_from at s (drop (l.i + 1) ps)) step)
+    taken (totals_from at) _ ps (totals_of start_box origin) l.t _ l.p-index l.invariant (omega arith)
+    (ap (λ (s : Totals). totals_from at s (drop (l.p-index + 1) ps)) step)
 
 pub returns : goal.returns
 returns c =
-    let l = c.loop-i in
+    let l = c.loop-p in
     let g = c.args in
     let at = box_at g.entries.now in
     let ps = g.places.now in
-    finished (totals_from at) _ ps (totals_of start_box origin) l.t l.i l.invariant c.loop-i-test.false ∙ all_totals at ps
+    finished (totals_from at) _ ps (totals_of start_box origin) l.t l.p-index l.invariant (omega arith) ∙ all_totals at ps
