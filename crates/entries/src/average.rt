@@ -90,11 +90,9 @@ pub fn put_centres(entries: &[u32], centres: &mut [f32], plain: bool)
     requires { (4 * length entries.now ≤ 7 * length centres.old) × (length entries.now < 4294967296) × (Plain plain entries.now) }
     ensures { Kept entries.now centres.new }
 {
-    let mut i = 0;
-    while 7 * i + 7 <= entries.len() {
+    for i in 0..entries.len() / 7 {
         let c = centre(crate::boxes::corners_at(entries, Place(i as u32), plain));
         put_centre(centres, i, c);
-        i += 1;
     }
 }
 

@@ -101,22 +101,13 @@ pub fn corners_at(entries: &[u32], place: Place, plain: bool) -> Corners
     }
 }
 
-// The greater of two, or either of two that are equal.
-fn greater(a: u32, b: u32) -> u32
-    ensures { (a ≤ result) × (b ≤ result) }
-{
-    if a < b { b } else { a }
-}
-
 // Whether no word is a NaN's: none is above infinity's but for its sign.
 pub fn all_numbers(entries: &[u32]) -> bool
     ensures { Plain result entries.now }
 {
     let mut most = 0;
-    let mut i = 0;
-    while i < entries.len() {
-        most = greater(most, entries[i] % 0x8000_0000);
-        i += 1;
+    for word in entries {
+        most = most.max(*word % 0x8000_0000);
     }
     most <= 0x7f80_0000
 }

@@ -29,33 +29,17 @@ pub fn fold_words(entries: &[u32], places: &[u32]) -> BoxWords
     ensures { result ≡ fold_box (box_at entries.now) places.now }
 {
     let mut acc = crate::boxes::start_box();
-    let mut i = 0;
-    while i < places.len() {
-        acc = fold_step(acc, crate::boxes::box_at(entries, Place(places[i])));
-        i += 1;
+    for p in places {
+        acc = fold_step(acc, crate::boxes::box_at(entries, Place(*p)));
     }
     acc
 }
 
+#[tactic(auto, unfolding(crate::specs::Steps::Totals::any_nan))]
 fn any_nan(v: Vec3) -> bool
     ensures { result ≡ any_nan v }
 {
-    if v.x != v.x {
-        return true;
-    }
-    if v.y != v.y {
-        return true;
-    }
-    v.z != v.z
-}
-
-fn either_nan(low: Vec3, high: Vec3) -> bool
-    ensures { result ≡ (any_nan low || any_nan high) }
-{
-    if any_nan(low) {
-        return true;
-    }
-    any_nan(high)
+    v.x.is_nan() || v.y.is_nan() || v.z.is_nan()
 }
 
 // Whether the fold has a NaN: where no entry has one, it has none, and nothing is tested.
@@ -63,10 +47,7 @@ fn has_nan(low: Vec3, high: Vec3, plain: bool) -> bool
     requires { plain ≡ true → (any_nan low || any_nan high) ≡ false }
     ensures { result ≡ (any_nan low || any_nan high) }
 {
-    if plain {
-        return false;
-    }
-    either_nan(low, high)
+    !plain && (any_nan(low) || any_nan(high))
 }
 
 // The word of a float that is no NaN.
@@ -74,7 +55,7 @@ fn number_word(x: f32) -> u32
     requires { is_nan x ≡ false }
     ensures { result ≡ to_bits binary32 x }
 {
-    f32::to_bits(x)
+    x.to_bits()
 }
 
 // The words of floats of which none is a NaN.

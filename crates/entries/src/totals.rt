@@ -113,39 +113,26 @@ fn total_step(t: Totals, b: Corners) -> Totals
     )
 }
 
-// The totals of the places' boxes, in their order.
-pub fn total(entries: &[u32], places: &[u32], plain: bool) -> Totals
-    requires { (Within (length entries.now) places.now) × (Plain plain entries.now) }
-    ensures { result ≡ totals_all (box_at entries.now) places.now }
-{
-    let mut t = no_totals();
-    let mut i = 0;
-    while i < places.len() {
-        t = total_step(
-            t,
-            crate::boxes::corners_at(entries, Place(places[i]), plain),
-        );
-        i += 1;
-    }
-    t
-}
-
-// The totals so far, and the places' boxes after them, in their order. A loop of its own, since a start that is lent is read from
-// memory, which a leaf of a few boxes need not.
+// The totals so far, and the places' boxes after them, in their order. Compiled into its callers, since a start that is lent is read
+// from memory, which a leaf of a few boxes need not.
+#[inline(always)]
 fn total_on(entries: &[u32], places: &[u32], plain: bool, start: Totals) -> Totals
     requires { (Within (length entries.now) places.now) × (Plain plain entries.now) }
     ensures { result ≡ totals_from (box_at entries.now) start places.now }
 {
     let mut t = start;
-    let mut i = 0;
-    while i < places.len() {
-        t = total_step(
-            t,
-            crate::boxes::corners_at(entries, Place(places[i]), plain),
-        );
-        i += 1;
+    for p in places {
+        t = total_step(t, crate::boxes::corners_at(entries, Place(*p), plain));
     }
     t
+}
+
+// The totals of the places' boxes, in their order.
+pub fn total(entries: &[u32], places: &[u32], plain: bool) -> Totals
+    requires { (Within (length entries.now) places.now) × (Plain plain entries.now) }
+    ensures { result ≡ totals_all (box_at entries.now) places.now }
+{
+    total_on(entries, places, plain, no_totals())
 }
 
 // The totals of a node's first places, `count` of them; where it is 0, none are kept. Of a list that loses a few places on each
@@ -168,8 +155,8 @@ fn begin(entries: &[u32], places: &[u32], plain: bool, begun: Begun) -> Begun
     let n = places.len();
     let count = n - n / 8;
     Begun {
-        count: count,
-        totals: total_on(entries, &places[0..count], plain, no_totals()),
+        count,
+        totals: total(entries, &places[..count], plain),
     }
 }
 
@@ -194,10 +181,8 @@ pub fn gather(entries: &[u32], places: &[u32], plain: bool, begun: Begun) -> Gat
         };
     }
     let b = begin(entries, places, plain, begun);
-    let from = b.count;
-    let first = b.totals;
     Gathered {
-        totals: total_on(entries, &places[from..n], plain, first),
+        totals: total_on(entries, &places[b.count..], plain, b.totals),
         begun: b,
     }
 }
@@ -216,11 +201,7 @@ pub fn not_begun() -> Begun
 pub fn no_longer(begun: Begun) -> Begun
     ensures { result.count ≡ 0 }
 {
-    let totals = begun.totals;
-    Begun {
-        count: 0,
-        totals: totals,
-    }
+    Begun { count: 0, ..begun }
 }
 
 // What is begun, where it is of the first n places.

@@ -41,16 +41,14 @@ pub fn count_below(entries: &[u32], centres: &[f32], places: &[u32], avg: Vec3) 
         z: 0,
         over: 0,
     };
-    let mut i = 0;
-    while i < places.len() {
-        let c = entries::average::centre_at(centres, Place(places[i]));
+    for p in places {
+        let c = entries::average::centre_at(centres, Place(*p));
         counts = Counts {
             x: counts.x + one_if_below(c.x, avg.x),
             y: counts.y + one_if_below(c.y, avg.y),
             z: counts.z + one_if_below(c.z, avg.z),
             over: counts.over + one_if_below(c.w, -avg.x),
         };
-        i += 1;
     }
     counts
 }
@@ -105,11 +103,7 @@ pub fn paste(dst: &mut [u32], at: usize, src: &[u32], n: usize)
     requires { (at + n ≤ length dst.old) × (n ≤ length src.now) }
     ensures { dst.new ≡ paste dst.old at src.now n }
 {
-    let mut j = 0;
-    while j < n {
-        dst[at + j] = src[j];
-        j += 1;
-    }
+    dst[at..at + n].copy_from_slice(&src[..n]);
 }
 
 // The places whose centre is above the average on the axis, to the front of `places`, the others to the front of `temp`, in their order;
@@ -132,13 +126,11 @@ pub fn partition(
     let step = step_of(axis);
     let cut = math::axis::coordinate(axis, avg);
     let mut k = seen;
-    let mut i = seen;
-    while i < n {
+    for i in seen..n {
         let p = places[i];
         places[k] = p;
         temp[i - k] = p;
         k += one_if_above(entries, centres, Place(p), step, cut);
-        i += 1;
     }
     k
 }
@@ -181,12 +173,10 @@ fn none_above(
 {
     let step = step_of(axis);
     let cut = math::axis::coordinate(axis, avg);
-    let mut i = from;
-    while i < places.len() {
+    for i in from..places.len() {
         if one_if_above(entries, centres, Place(places[i]), step, cut) > 0 {
             return false;
         }
-        i += 1;
     }
     true
 }
@@ -221,14 +211,12 @@ fn run_above(places: &[u32], entries: &[u32], centres: &[f32], avg: Vec3, axis: 
 {
     let step = step_of(axis);
     let cut = math::axis::coordinate(axis, avg);
-    let mut i = 0;
-    while i < places.len() {
-        if one_if_above(entries, centres, Place(places[i]), step, cut) < 1 {
+    for (i, p) in places.iter().enumerate() {
+        if one_if_above(entries, centres, Place(*p), step, cut) < 1 {
             return i;
         }
-        i += 1;
     }
-    i
+    places.len()
 }
 
 // Whether all that are above the average on the axis stand first: on x, where they were counted, the others are looked at.

@@ -1,11 +1,6 @@
 -- `average::put_centres` meets its contract. The loop's invariant: the centres of the entries that are passed are stored.
-use Prim.Native.Nat.{◌-◌, ◌*◌}
-use lib.ListN.{length}
 use Rattle.entries.proofs.CentreLaws.{Storing}
 use Rattle.entries.proofs.average.put_centres.Given as goal
 
 abbrev pub invariant-loop-i : goal.invariant-loop-i
 invariant-loop-i l = Storing l.entries l.initial.centres l.centres l.i
-
-abbrev pub decreases-loop-i : goal.decreases-loop-i
-decreases-loop-i l = length l.entries - 7 * l.i

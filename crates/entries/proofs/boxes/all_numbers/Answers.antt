@@ -1,46 +1,34 @@
--- `boxes::all_numbers` meets its contract. The loop's invariant: no word that is passed exceeds `most`, but for its sign.
+-- `boxes::all_numbers` meets its contract.
 use native.Mathlib.Omega.{arith}
-use Prim.Native.Nat.{ℕ, ◌+◌, ◌%◌, ◌≤◌, ◌<◌}
+use Prim.Native.Nat.{ℕ, ◌%◌, ◌≤◌, ◌<◌}
 use native.Mathlib.Decide.{dec_lt}
+use borrow.Author.Count.{below_more}
+use Rattle.std.proofs.lemmas.Bool.Decides.{nat_tests}
 use mathlib.Core.List.{List}
 use mathlib.Core.Path.{◌≡◌, sym, subst}
 use lib.Dec.{T, leb→le}
 use lib.ListN.{length, get_or, get_or-eq_default}
+use Rattle.std.specs.Ordering.{ord_max, nat_cmp}
 use Rattle.entries.specs.Plain.{Number}
-use Rattle.entries.proofs.boxes.all_numbers.Invariants.{Passed}
 use Rattle.entries.proofs.boxes.all_numbers.Goals as goal
 
-one_more : (ws : List ℕ) (most next i : ℕ) → Passed ws most i → i < length ws → most ≤ next → get_or ws i 0 % 0x8000_0000 ≤ next → Passed ws next (i + 1)
-one_more ws most next i p h a b = record { upto = omega arith; least = λ j l. go j (dec_lt j i) l }
-  where
-    go : (j : ℕ) → Dec (j < i) → j < i + 1 → get_or ws j 0 % 0x8000_0000 ≤ next
-    go j (yes k) l = omega (arith, p.least j k)
-    go j (no k) l =
-        let e : i ≡ j = omega arith in
-        subst (λ (n : ℕ). get_or ws n 0 % 0x8000_0000 ≤ next) e b
+greater : (a b m : ℕ) → m ≡ ord_max nat_cmp a b → (a ≤ m) × (b ≤ m)
+greater a b m e = grind (arith, nat_tests)
 
-all_passed : (ws : List ℕ) (most i : ℕ) → Passed ws most i → length ws ≤ i → most ≤ 0x7f80_0000 → (j : ℕ) → Number (get_or ws j 0)
-all_passed ws most i p h a j = go (dec_lt j (length ws))
+all_passed : (ws : List ℕ) (most : ℕ) → ((j : ℕ) → j < length ws → get_or ws j 0 % 0x8000_0000 ≤ most) → most ≤ 0x7f80_0000 → (j : ℕ) → Number (get_or ws j 0)
+all_passed ws most p a j = go (dec_lt j (length ws))
   where
     go : Dec (j < length ws) → Number (get_or ws j 0)
-    go (yes k) = omega (arith, p.least j (omega arith))
+    go (yes k) = omega (arith, p j k)
     go (no k) = subst Number (sym (get_or-eq_default ws 0 (omega arith))) (omega arith)
 
-pub loop-i-init : goal.loop-i-init
-loop-i-init c = record { upto = omega arith; least = λ j h. omega arith }
-
-pub loop-i-preserved : goal.loop-i-preserved
-loop-i-preserved c =
-    let l = c.loop-i in
-    let g = c.args in
-    one_more g.entries.now l.most c.greater-most.result l.i l.invariant c.loop-i-test.true
-    c.greater-most.ensures.0 c.greater-most.ensures.1
+pub loop-word-preserved : goal.loop-word-preserved
+loop-word-preserved c =
+    let m = greater _ _ _ c.max-most.ensures in
+    below_more _ _ (λ j k. omega (arith, c.loop-word.invariant j k)) m.1
 
 pub returns : goal.returns
 returns c =
-    let l = c.loop-i in
-    let g = c.args in
     record {
-      numbers =
-          λ e. all_passed g.entries.now l.most l.i l.invariant c.loop-i-test.false (leb→le l.most 0x7f80_0000 (subst T (sym e) tt));
+      numbers = λ e. all_passed c.args.entries.now c.loop-word.most (λ j k. c.loop-word.invariant j (omega arith)) (leb→le c.loop-word.most 0x7f80_0000 (subst T (sym e) tt));
     }

@@ -1,47 +1,13 @@
--- `totals::total` meets its contract. The loop's invariant: the rest taken into the totals so far gives those of all.
-use native.Mathlib.Omega.{arith}
-use Prim.Native.Nat.{◌+◌}
-use mathlib.Core.Path.{ap, subst, sym, ◌∙◌}
-use lib.ListN.{length, drop}
+-- `totals::total` meets its contract: the totals that begin with none.
+use mathlib.Core.Path.{ap, ◌∙◌}
 use Rattle.entries.specs.declared.totals.Totals.{Totals}
 use Rattle.entries.specs.Boxes.{box_at}
-use Rattle.entries.specs.Folding.{start_box}
-use Rattle.entries.specs.Average.{origin}
-use Rattle.entries.specs.Steps.Totals.{totals_of, total_step, totals_from}
+use Rattle.entries.specs.Steps.Totals.{totals_from}
 use Rattle.entries.proofs.TotalLaws.{all_totals}
-use Rattle.entries.proofs.Places.{Pass, begin, taken, finished, next_within}
 use Rattle.entries.proofs.totals.total.Goals as goal
-
-pub loop-i-init : goal.loop-i-init
-loop-i-init c =
-    let at = box_at c.args.entries.now in
-    let ps = c.args.places.now in
-    let start : Totals = totals_of start_box origin in
-    subst (λ (s : Totals). Pass (totals_from at) (length c.args.entries.now) ps start s 0) (sym c.no_totals-t.ensures)
-    (begin (totals_from at) _ ps start c.requires.0)
-
-pub corners_at-requires : goal.corners_at-requires
-corners_at-requires c =
-    let l = c.loop-i in
-    (next_within _ _ c.args.places.now _ l.t l.i l.invariant (omega arith), c.requires.1)
-
-pub overflow_add-i : goal.overflow_add-i
-overflow_add-i c = omega (arith, c.well_formed.1.0)
-
-pub loop-i-preserved : goal.loop-i-preserved
-loop-i-preserved c =
-    let l = c.loop-i in
-    let g = c.args in
-    let at = box_at g.entries.now in
-    let ps = g.places.now in
-    let step = c.total_step-t.ensures ∙ ap (total_step l.t) c.corners_at.ensures in
-    taken (totals_from at) _ ps (totals_of start_box origin) l.t _ l.i l.invariant (omega arith)
-    (ap (λ (s : Totals). totals_from at s (drop (l.i + 1) ps)) step)
 
 pub returns : goal.returns
 returns c =
-    let l = c.loop-i in
-    let g = c.args in
-    let at = box_at g.entries.now in
-    let ps = g.places.now in
-    finished (totals_from at) _ ps (totals_of start_box origin) l.t l.i l.invariant c.loop-i-test.false ∙ all_totals at ps
+    let at = box_at c.args.entries.now in
+    let ps = c.args.places.now in
+    c.total_on.ensures ∙ ap (λ (s : Totals). totals_from at s ps) c.no_totals.ensures ∙ all_totals at ps

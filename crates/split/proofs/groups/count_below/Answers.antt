@@ -15,73 +15,73 @@ use Rattle.split.proofs.LaneLaws.{lane_above}
 use Rattle.split.proofs.Counting.{onto, none, onto_more, onto_none, none_onto, small}
 use Rattle.split.proofs.groups.count_below.Goals as goal
 
-pub loop-i-init : goal.loop-i-init
-loop-i-init c =
+pub loop-p-init : goal.loop-p-init
+loop-p-init c =
     let at = box_at c.args.entries.now in
     begin (onto at c.args.avg) _ c.args.places.now (none at c.args.avg) c.requires.0
 
 pub centre_at-c-requires : goal.centre_at-c-requires
 centre_at-c-requires c =
-    let l = c.loop-i in
-    omega (arith, next_within _ _ c.args.places.now _ l.counts l.i l.invariant (omega arith), c.requires.2.room)
+    let l = c.loop-p in
+    omega (arith, next_within _ _ c.args.places.now _ l.counts l.p-index l.invariant (omega arith), c.requires.2.room)
 
 pub overflow_add-counts : goal.overflow_add-counts
 overflow_add-counts c =
-    let few : let n = c.loop-i.counts in let m = length c.args.places.now in (n.x ≤ m) × (n.y ≤ m) × (n.z ≤ m) × (n.over ≤ m) =
+    let few : let n = c.loop-p.counts in let m = length c.args.places.now in (n.x ≤ m) × (n.y ≤ m) × (n.z ≤ m) × (n.over ≤ m) =
     let g = c.args in
-    small (box_at g.entries.now) g.avg _ g.places.now _ _ c.loop-i.invariant in
+    small (box_at g.entries.now) g.avg _ g.places.now _ _ c.loop-p.invariant in
     omega (arith, c.one_if_below.ensures.1, few.0)
 
-pub overflow_add-counts-in-loop-i : goal.overflow_add-counts-in-loop-i
-overflow_add-counts-in-loop-i c =
-    let few : let n = c.loop-i.counts in let m = length c.args.places.now in (n.x ≤ m) × (n.y ≤ m) × (n.z ≤ m) × (n.over ≤ m) =
+pub overflow_add-counts-in-loop-p : goal.overflow_add-counts-in-loop-p
+overflow_add-counts-in-loop-p c =
+    let few : let n = c.loop-p.counts in let m = length c.args.places.now in (n.x ≤ m) × (n.y ≤ m) × (n.z ≤ m) × (n.over ≤ m) =
     let g = c.args in
-    small (box_at g.entries.now) g.avg _ g.places.now _ _ c.loop-i.invariant in
-    omega (arith, c.one_if_below-in-loop-i.ensures.1, few.1)
+    small (box_at g.entries.now) g.avg _ g.places.now _ _ c.loop-p.invariant in
+    omega (arith, c.one_if_below-in-loop-p.ensures.1, few.1)
 
-pub overflow_add-counts-in-loop-i-2 : goal.overflow_add-counts-in-loop-i-2
-overflow_add-counts-in-loop-i-2 c =
-    let few : let n = c.loop-i.counts in let m = length c.args.places.now in (n.x ≤ m) × (n.y ≤ m) × (n.z ≤ m) × (n.over ≤ m) =
+pub overflow_add-counts-in-loop-p-2 : goal.overflow_add-counts-in-loop-p-2
+overflow_add-counts-in-loop-p-2 c =
+    let few : let n = c.loop-p.counts in let m = length c.args.places.now in (n.x ≤ m) × (n.y ≤ m) × (n.z ≤ m) × (n.over ≤ m) =
     let g = c.args in
-    small (box_at g.entries.now) g.avg _ g.places.now _ _ c.loop-i.invariant in
-    omega (arith, c.one_if_below-in-loop-i-2.ensures.1, few.2)
+    small (box_at g.entries.now) g.avg _ g.places.now _ _ c.loop-p.invariant in
+    omega (arith, c.one_if_below-in-loop-p-2.ensures.1, few.2)
 
-pub overflow_add-counts-in-loop-i-3 : goal.overflow_add-counts-in-loop-i-3
-overflow_add-counts-in-loop-i-3 c =
-    let few : let n = c.loop-i.counts in let m = length c.args.places.now in (n.x ≤ m) × (n.y ≤ m) × (n.z ≤ m) × (n.over ≤ m) =
+pub overflow_add-counts-in-loop-p-3 : goal.overflow_add-counts-in-loop-p-3
+overflow_add-counts-in-loop-p-3 c =
+    let few : let n = c.loop-p.counts in let m = length c.args.places.now in (n.x ≤ m) × (n.y ≤ m) × (n.z ≤ m) × (n.over ≤ m) =
     let g = c.args in
-    small (box_at g.entries.now) g.avg _ g.places.now _ _ c.loop-i.invariant in
-    omega (arith, c.one_if_below-in-loop-i-3.ensures.1, few.3)
+    small (box_at g.entries.now) g.avg _ g.places.now _ _ c.loop-p.invariant in
+    omega (arith, c.one_if_below-in-loop-p-3.ensures.1, few.3)
 
-pub loop-i-preserved : goal.loop-i-preserved
+pub loop-p-preserved : goal.loop-p-preserved
 unfolding below above
-loop-i-preserved c =
-    let l = c.loop-i in
+loop-p-preserved c =
+    let l = c.loop-p in
     let g = c.args in
     let at = box_at g.entries.now in
     let ps = g.places.now in
     let n = l.counts in
     let below-x = c.one_if_below in
-    let below-y = c.one_if_below-in-loop-i in
-    let below-z = c.one_if_below-in-loop-i-2 in
-    let counts = c.one_if_below-in-loop-i-3 in
-    let inside = next_within _ _ ps _ n l.i l.invariant (omega arith) in
-    let lanes = c.centre_at-c.ensures ∙ c.requires.2.lanes (get_or ps l.i 0) inside in
+    let below-y = c.one_if_below-in-loop-p in
+    let below-z = c.one_if_below-in-loop-p-2 in
+    let counts = c.one_if_below-in-loop-p-3 in
+    let inside = next_within _ _ ps _ n l.p-index l.invariant (omega arith) in
+    let lanes = c.centre_at-c.ensures ∙ c.requires.2.lanes (get_or ps l.p-index 0) inside in
     let x = below-x.ensures.0 ∙ ap (λ (v : Lanes). one_if (lt v.x g.avg.x)) lanes in
     let y = below-y.ensures.0 ∙ ap (λ (v : Lanes). one_if (lt v.y g.avg.y)) lanes in
     let z = below-z.ensures.0 ∙ ap (λ (v : Lanes). one_if (lt v.z g.avg.z)) lanes in
     let w = counts.ensures.0 ∙ ap (λ (v : Lanes). one_if (lt v.w (neg g.avg.x))) lanes ∙ ap one_if (lane_above _ g.avg.x) in
     let step : record { x = n.x + below-x.result; y = n.y + below-y.result; z = n.z + below-z.result; over = n.over + counts.result }
-    ≡ count_more at g.avg n (get_or ps l.i 0) =
+    ≡ count_more at g.avg n (get_or ps l.p-index 0) =
     λ i. record { x = n.x + x i; y = n.y + y i; z = n.z + z i; over = n.over + w i } in
-    taken (onto at g.avg) _ ps _ n _ l.i l.invariant (omega arith)
-    (ap (λ (k : Counts). onto at g.avg k (drop (l.i + 1) ps)) step ∙ onto_more at g.avg n (get_or ps l.i 0) (drop (l.i + 1) ps))
+    taken (onto at g.avg) _ ps _ n _ l.p-index l.invariant (omega arith)
+    (ap (λ (k : Counts). onto at g.avg k (drop (l.p-index + 1) ps)) step ∙ onto_more at g.avg n (get_or ps l.p-index 0) (drop (l.p-index + 1) ps))
 
 pub returns : goal.returns
 returns c =
-    let l = c.loop-i in
+    let l = c.loop-p in
     let g = c.args in
     let at = box_at g.entries.now in
     onto_none at g.avg l.counts
-    ∙ finished (onto at g.avg) _ g.places.now _ l.counts l.i l.invariant c.loop-i-test.false
+    ∙ finished (onto at g.avg) _ g.places.now _ l.counts l.p-index l.invariant (omega arith)
     ∙ none_onto at g.avg g.places.now

@@ -12,7 +12,7 @@ use Rattle.split.proofs.Parting.{passes_above, step_small}
 use Rattle.split.proofs.groups.none_above.Goals as goal
 
 pub loop-i-init : goal.loop-i-init
-loop-i-init c = (omega arith, c.requires.0, λ k h l. absurd (omega arith))
+loop-i-init c = λ k h l. absurd (omega arith)
 
 pub one_if_above-requires : goal.one_if_above-requires
 one_if_above-requires c =
@@ -33,7 +33,7 @@ loop-i-preserved c =
     let step = c.step_of-step.result in
     let cut = c.coordinate-cut.result in
     let e = none_if (passes c.args.entries.now step cut (get_or c.args.places.now l.i 0)) (omega (arith, a.ensures)) in
-    (omega arith, omega arith, below_more _ l.i l.invariant.2 (λ h. e))
+    below_more _ l.i l.invariant (λ h. e)
 
 pub returns : goal.returns
 returns c =
@@ -42,5 +42,5 @@ returns c =
     let e = passes_above c.args.entries.now c.args.avg c.args.axis step.result cut.result step.ensures cut.ensures in
     λ t.
     record {
-      fails = λ k l h. subst (λ (test : ℕ → Bool). test (get_or c.args.places.now k 0) ≡ false) e (c.loop-i.invariant.2 k (omega arith) l);
+      fails = λ k l h. subst (λ (test : ℕ → Bool). test (get_or c.args.places.now k 0) ≡ false) e (c.loop-i.invariant k (omega arith) l);
     }

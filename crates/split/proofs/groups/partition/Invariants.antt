@@ -1,11 +1,7 @@
 -- `groups::partition` meets its contract. The loop's invariant: what is stored so far, followed by what the rest gives, is the whole of each group.
-use Prim.Native.Nat.{◌-◌}
 use Rattle.split.specs.Steps.Groups.{passes}
 use Rattle.split.proofs.Parting.{Parting}
 use Rattle.split.proofs.groups.partition.Given as goal
 
 abbrev pub invariant-loop-i : goal.invariant-loop-i
 invariant-loop-i l = Parting (passes l.entries l.step l.cut) l.initial.places l.initial.temp l.places l.temp l.k l.i
-
-abbrev pub decreases-loop-i : goal.decreases-loop-i
-decreases-loop-i l = l.n - l.i

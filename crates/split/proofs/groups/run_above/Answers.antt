@@ -2,9 +2,9 @@
 use borrow.Author.Count.{below_more}
 use native.Mathlib.Omega.{arith}
 use Prim.Native.Nat.{ℕ}
-use mathlib.Core.Path.{subst}
+use mathlib.Core.Path.{◌≡◌, subst}
 use mathlib.Core.Bool.{Bool}
-use lib.ListN.{get_or}
+use lib.ListN.{length, get_or}
 use Rattle.base.proofs.WithinLaws.{within_at}
 use Rattle.entries.specs.Boxes.{box_at}
 use Rattle.split.specs.Rule.{above}
@@ -53,4 +53,5 @@ returns c =
     let cut = c.coordinate-cut in
     let e = passes_above g.entries.now g.avg g.axis step.result cut.result step.ensures cut.ensures in
     subst (λ (test : ℕ → Bool). Leading test g.places.now r) e w in
-    leading c.loop-i.i c.loop-i.invariant
+    let all : c.loop-i.i ≡ length c.args.places.now = omega (arith, c.loop-i.invariant.within) in
+    rw (← all) (leading c.loop-i.i c.loop-i.invariant)

@@ -1,11 +1,6 @@
 -- `groups::run_above` meets its contract: all before i pass.
-use Prim.Native.Nat.{◌-◌}
-use lib.ListN.{length}
 use Rattle.split.specs.Steps.Groups.{passes, Leading}
 use Rattle.split.proofs.groups.run_above.Given as goal
 
 abbrev pub invariant-loop-i : goal.invariant-loop-i
 invariant-loop-i l = Leading (passes l.entries l.step l.cut) l.places l.i
-
-abbrev pub decreases-loop-i : goal.decreases-loop-i
-decreases-loop-i l = length l.places - l.i
