@@ -1,6 +1,6 @@
 -- What `bounds_composite_tree` answers, from what `composite_tree` does; and point 3 of the request for it: where there is a tree, the answer is that of a
 -- build at threshold 1 over the children's items, of which PointThree speaks; what it says of these items is said of the children.
-use Rattle.std.specs.Prelude.{Ok, Err}
+use Rattle.std.specs.Prelude.{Some, None, Ok, Err}
 use Prim.Native.Nat.{ℕ, ◌<◌}
 use native.Mathlib.Omega.{arith}
 use mathlib.Core.Bool.{cond}
@@ -14,9 +14,7 @@ use Rattle.bvh.specs.Build as B
 use Rattle.bvh.specs.Build.{Build, refusal_number, nodes_written, trees_written, order_written}
 use Rattle.bvh.specs.Entry.{Outputs}
 use Rattle.bvh.specs.declared.slices.Lengths.{Lengths}
-use Rattle.composite.specs.declared.building.CompositeTree.{CompositeTree}
-use Rattle.composite.specs.declared.building.CompositeTree.TheVariants.{NoTree, Tree}
-use Rattle.composite.specs.Trees.{child_limit, child_entries, tree_above, kept, Answered}
+use Rattle.composite.specs.Trees.{CompositeTree, child_limit, child_entries, tree_above, kept, Answered}
 use Rattle.composite.proofs.Delivers.{as_build, positions_are_places, entries_are_children, children_listed, present_among, only_present_among}
 use Rattle.composite.proofs.Delivers.{entry_is_computed}
 use Rattle.tree.specs.WellFormed.{node_no, items_at, NodeNumbers}
@@ -46,14 +44,14 @@ module _ (n : ℕ) (ws : List ℕ) (l : Lengths) (r : BuildAnswer) (before after
   of_build : (x : CompositeTree) → x ≡ tree_above child_limit n ws l → CompositeAnswered n ws l r before after → r.refusal ≡ 0 → 0 < r.nodes
       → Answers (child_entries n ws) 1 l r before after
   unfolding refused_by
-  of_build NoTree same a zero some =
+  of_build (Ok None) same a zero some =
       let none : r.nodes ≡ 0 = ap (λ (v : BuildAnswer). v.nodes) (a.answer ∙ ap composite_answer (sym same)) in
       absurd (omega (arith, none, some))
-  of_build (Tree (Err why)) same a zero some =
+  of_build (Err why) same a zero some =
       let m : r.refusal ≡ refusal_number why = ap (λ (v : BuildAnswer). v.refusal) (a.answer ∙ ap composite_answer (sym same)) in
       absurd (omega (arith, m, zero, refusal_numbered why))
-  of_build (Tree (Ok b)) same a zero some =
-      let told : Answered child_limit n ws l (Tree (Ok b)) before after =
+  of_build (Ok (Some b)) same a zero some =
+      let told : Answered child_limit n ws l (Ok (Some b)) before after =
       record {
         answer = same;
         nodes_are = a.nodes_are ∙ ap (λ (y : CompositeTree). kept y (nodes_written (child_entries n ws) 1) before.nodes) (sym same);

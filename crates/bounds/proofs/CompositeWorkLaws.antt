@@ -1,6 +1,6 @@
 -- One work buffer that is cut serves a composite's tree as it serves a build (answers BuildWorkLaws): `bounds_composite_tree_in` of the C header cuts it as
 -- `bounds_build_bvh_in` does, for as many entries as there are children. Assumes nothing.
-use Rattle.std.specs.Prelude.{Ok, Err}
+use Rattle.std.specs.Prelude.{None, Ok, Err}
 use Prim.Native.Nat.{ℕ, ◌*◌, ◌≤◌}
 use mathlib.Core.Bool.{Bool, true, false, cond, ◌||◌, or_assoc}
 use mathlib.Core.List.{List}
@@ -12,8 +12,7 @@ use Rattle.bvh.specs.Build.{Build, Entries, short, tree_of, built_by, answer_by}
 use Rattle.bvh.specs.Entry.{entries_of}
 use Rattle.bvh.specs.declared.slices.BuildRefusal.TheVariants.{TooManyEntries, BufferTooShort, TooManyNodes}
 use Rattle.bvh.specs.declared.slices.Lengths.{Lengths}
-use Rattle.composite.specs.declared.building.CompositeTree.TheVariants.{NoTree, Tree}
-use Rattle.composite.specs.Trees.{child_limit, child_entries, build_by, tree_above_by}
+use Rattle.composite.specs.Trees.{with_tree, child_limit, child_entries, build_by, tree_above_by}
 use Rattle.composite.proofs.ItemLaws.{length_items}
 use Rattle.answers.specs.BuildWork.{output_short, cut_build}
 use Rattle.answers.specs.Trees.{work_len}
@@ -62,11 +61,11 @@ module _ (range n : ℕ) (ws : List ℕ) where
   pub composite_cut_serves : (w : ℕ) (l : Lengths)
       → tree_above_by range child_limit n ws (cut_build n w l)
       ≡ cond (ltb child_limit n)
-      (Tree (cond (ltb 32767 n) (Err TooManyEntries)
+      (with_tree (cond (ltb 32767 n) (Err TooManyEntries)
       (cond (ltb (length ws) (24 * n) || output_short n l || ltb w (work_len n)) (Err BufferTooShort) (built_whole range (child_entries n ws)))))
-      NoTree
+      (Ok None)
   unfolding tree_above_by
-  composite_cut_serves w l = ap (λ (b : Build). cond (ltb child_limit n) (Tree b) NoTree) (by (ltb 32767 n) refl)
+  composite_cut_serves w l = ap (λ (b : Build). cond (ltb child_limit n) (with_tree b) (Ok None)) (by (ltb 32767 n) refl)
     where
       by : (t : Bool) → ltb 32767 n ≡ t
           → build_by range n ws (cut_build n w l)

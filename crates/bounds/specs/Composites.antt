@@ -1,18 +1,17 @@
 -- What the C interface answers of a composite's tree. Definitions only.
-use Rattle.std.specs.Prelude.{ℕ, List, ◌≡◌}
+use Rattle.std.specs.Prelude.{ℕ, List, ◌≡◌, Some, None, Ok, Err}
 use Rattle.bvh.specs.Build.{nodes_written, trees_written, order_written}
 use Rattle.bvh.specs.Entry.{Outputs}
 use Rattle.bvh.specs.declared.slices.Lengths.{Lengths}
-use Rattle.composite.specs.declared.building.CompositeTree.{CompositeTree}
-use Rattle.composite.specs.declared.building.CompositeTree.TheVariants.{NoTree, Tree}
-use Rattle.composite.specs.Trees.{child_limit, child_entries, tree_above, kept}
+use Rattle.composite.specs.Trees.{CompositeTree, child_limit, child_entries, tree_above, kept}
 use Rattle.answers.specs.declared.trees.BuildAnswer.{BuildAnswer}
 use Rattle.answers.specs.Trees.{refused_by, build_answer}
 
 -- Rule C3: the number and the values of each answer. No tree is zeros throughout; a tree has a node.
 abbrev pub composite_answer : CompositeTree → BuildAnswer
-composite_answer NoTree = refused_by 0
-composite_answer (Tree b) = build_answer b
+composite_answer (Ok None) = refused_by 0
+composite_answer (Ok (Some b)) = build_answer (Ok b)
+composite_answer (Err why) = build_answer (Err why)
 
 -- Rule C3: the answer r of a composite of n children, and the three outputs whole.
 pub record CompositeAnswered (n : ℕ) (ws : List ℕ) (l : Lengths) (r : BuildAnswer) (before after : Outputs) : Type 0 where

@@ -7,7 +7,7 @@ ghost use Rattle.composite.specs.Children.{child_box_of};
 ghost use Rattle.bounds.specs.Composites.{composite_answer, CompositeAnswered};
 
 use answers::trees::{BuildAnswer, build_answer, refused};
-use composite::building::CompositeTree;
+use bvh::slices::{BuildRefusal, BuiltTree};
 use composite::children::ChildBox;
 
 // The children's boxes as bytes, 32 each; 01's number, 0 where it is not refused.
@@ -27,12 +27,13 @@ pub extern "C" fn bounds_computed_box(children: &[u32], k: usize) -> ChildBox
 }
 
 // No tree is an answer of zeros.
-fn composite_answer(t: CompositeTree) -> BuildAnswer
+fn composite_answer(t: Result<Option<BuiltTree>, BuildRefusal>) -> BuildAnswer
     ensures { result ≡ composite_answer t }
 {
     match t {
-        CompositeTree::NoTree => refused(0),
-        CompositeTree::Tree(b) => build_answer(b),
+        Ok(None) => refused(0),
+        Ok(Some(b)) => build_answer(Ok(b)),
+        Err(why) => build_answer(Err(why)),
     }
 }
 

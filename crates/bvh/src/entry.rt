@@ -53,10 +53,8 @@ pub fn build_bvh(
         (outputs node_bytes.new tree_bytes.new order.new) }
 {
     let n = taken(items.len(), entries.len());
-    let mut i = 0;
-    while i < n {
+    for i in 0..n {
         put_item(entries, i, items[i]);
-        i += 1;
     }
     crate::slices::build_core(
         items.len(),

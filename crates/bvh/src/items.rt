@@ -30,11 +30,9 @@ pub fn gather(entries: &[u32], n: usize, places: &mut [u32]) -> usize
     ensures { Gathered n entries.now places.new result }
 {
     let mut k = 0;
-    let mut p = 0;
-    while p < n {
+    for p in 0..n {
         places[k] = p as u32;
         k += one_if_marked(entries[7 * p]);
-        p += 1;
     }
     k
 }

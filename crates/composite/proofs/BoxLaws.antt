@@ -1,5 +1,5 @@
 -- The children's boxes: 32 bytes each, stored one after the other they are one run of stores; and what the checks come to. By induction on the children.
-use Rattle.std.specs.Prelude.{◌≡◌, ℕ, zero, suc, ◌+◌, ◌*◌, ◌<◌, ◌≤◌, Bool, true, false, cond, List, ◌++◌, length, replicate}
+use Rattle.std.specs.Prelude.{◌≡◌, ℕ, zero, suc, ◌+◌, ◌*◌, ◌<◌, ◌≤◌, Bool, true, false, cond, List, ◌++◌, length, replicate, Ok, Err}
 use native.Mathlib.Nat.{add-zero}
 use native.Mathlib.Numerals.{add-one}
 use native.Mathlib.Omega.{arith}
@@ -15,10 +15,8 @@ use Rattle.base.proofs.LittleEndian.{Bytes, joined, number_bytes, zero_bytes, ze
 use Rattle.base.proofs.StoreLaws.{store_next, over_next}
 use Rattle.entries.specs.declared.boxes.BoxWords.{BoxWords}
 use Rattle.math.specs.declared.words3.Words3.{Words3}
-use Rattle.composite.specs.declared.boxes.ChildBoxes.{ChildBoxes}
-use Rattle.composite.specs.declared.boxes.ChildBoxes.TheVariants.{Written, Refused}
 use Rattle.composite.specs.declared.boxes.ChildBoxesRefusal.TheVariants.{TooManyChildren, BufferTooShort}
-use Rattle.composite.specs.Boxes.{row_bytes, child_bytes, children_bytes, boxes_of, number_of, kept, Boxed, BoxedBy}
+use Rattle.composite.specs.Boxes.{ChildBoxes, row_bytes, child_bytes, children_bytes, boxes_of, number_of, kept, Boxed, BoxedBy}
 use Rattle.composite.specs.Children.{is_present, mark_of, box_of, margin_of}
 
 -- ---- one child
@@ -95,33 +93,33 @@ one_more ws before now after k g room a =
 -- ---- the answer
 
 module _ (n : ℕ) (ws before : List ℕ) where
-  many_is : 32767 < n → Refused TooManyChildren ≡ boxes_of n (length ws) (length before)
+  many_is : 32767 < n → Err TooManyChildren ≡ boxes_of n (length ws) (length before)
   unfolding boxes_of
   many_is h = rw (lt-ltb 32767 n h)
 
-  pub too_many : 32767 < n → Boxed n ws before before (Refused TooManyChildren)
+  pub too_many : 32767 < n → Boxed n ws before before (Err TooManyChildren)
   too_many h = record { answer = many_is h; bytes = refl }
 
-  given_is : n ≤ 32767 → length ws < 24 * n → Refused BufferTooShort ≡ boxes_of n (length ws) (length before)
+  given_is : n ≤ 32767 → length ws < 24 * n → Err BufferTooShort ≡ boxes_of n (length ws) (length before)
   unfolding boxes_of
   given_is few h = rw (le-ltb 32767 n few, lt-ltb (length ws) (24 * n) h)
 
-  pub given_short : n ≤ 32767 → length ws < 24 * n → Boxed n ws before before (Refused BufferTooShort)
+  pub given_short : n ≤ 32767 → length ws < 24 * n → Boxed n ws before before (Err BufferTooShort)
   given_short few h = record { answer = given_is few h; bytes = refl }
 
-  room_is : n ≤ 32767 → length before < 32 * n → Refused BufferTooShort ≡ boxes_of n (length ws) (length before)
+  room_is : n ≤ 32767 → length before < 32 * n → Err BufferTooShort ≡ boxes_of n (length ws) (length before)
   unfolding boxes_of
   room_is few h = rw (le-ltb 32767 n few, lt-ltb (length before) (32 * n) h, or-true)
 
-  pub room_short : n ≤ 32767 → length before < 32 * n → Boxed n ws before before (Refused BufferTooShort)
+  pub room_short : n ≤ 32767 → length before < 32 * n → Boxed n ws before before (Err BufferTooShort)
   room_short few h = record { answer = room_is few h; bytes = refl }
 
-  written_is : n ≤ 32767 → 24 * n ≤ length ws → 32 * n ≤ length before → Written ≡ boxes_of n (length ws) (length before)
+  written_is : n ≤ 32767 → 24 * n ≤ length ws → 32 * n ≤ length before → Ok tt ≡ boxes_of n (length ws) (length before)
   unfolding boxes_of
   written_is few g h = rw (le-ltb 32767 n few, le-ltb (length ws) (24 * n) g, le-ltb (length before) (32 * n) h)
 
   pub written : (after : List ℕ) → n ≤ 32767 → 24 * n ≤ length ws → 32 * n ≤ length before → after ≡ over (children_bytes ws 0 n) before
-      → Boxed n ws before after Written
+      → Boxed n ws before after (Ok tt)
   written after few g h e = record { answer = written_is few g h; bytes = e }
 
 -- An answer by its number promises what the answer does.

@@ -1,6 +1,6 @@
 -- Point 3 of the request for a composite's tree, from the contracts of `composite_tree` and of a walk alone: a composite's tree is a build at threshold 1
 -- over its children's items, so tree's PointThree speaks of it, and a position is a child's place.
-use Rattle.std.specs.Prelude.{◌≡◌, ℕ, ◌*◌, ◌<◌, Bool, true, false, cond, ltb, List, [], ◌∷◌, length, take, drop, Ok, Err, Result}
+use Rattle.std.specs.Prelude.{◌≡◌, ℕ, ◌*◌, ◌<◌, Bool, true, false, cond, ltb, List, [], ◌∷◌, length, take, drop, Some, None, Ok, Err, Result}
 use native.Mathlib.Omega.{arith}
 use mathlib.Core.List.{Memᴰ}
 use mathlib.Core.Path.{refl, sym, ap, ap₂, ◌∙◌, subst}
@@ -24,11 +24,9 @@ use Rattle.tree.specs.WellFormed.{WellFormed, items_at}
 use Rattle.tree.proofs.AnswerLaws.{refusal_numbered, Listed, items_listed}
 use Rattle.rows.specs.Ranges.{range_limit}
 use Rattle.tree.proofs.PointThree.{records_well_formed, walk_delivers}
-use Rattle.composite.specs.declared.building.CompositeTree.{CompositeTree}
-use Rattle.composite.specs.declared.building.CompositeTree.TheVariants.{NoTree, Tree}
 use Rattle.composite.specs.Children.{is_present, computed_box}
 use Rattle.composite.specs.Delivers.{WalkedOver, handed_out, Delivers}
-use Rattle.composite.specs.Trees.{child_items, child_entries, build_by, tree_above_by, Answered}
+use Rattle.composite.specs.Trees.{CompositeTree, with_tree, child_items, child_entries, build_by, tree_above_by, Answered}
 use Rattle.composite.proofs.ItemLaws.{length_items, present_listed, listed_present, box_at_lem}
 
 -- ---- the build
@@ -43,15 +41,17 @@ past false why rest b e = e
 
 -- the build that an answer tells of; without a tree, one that is refused
 abbrev build_in : CompositeTree → Build
-build_in NoTree = Err TooManyEntries
-build_in (Tree x) = x
+build_in (Ok None) = Err TooManyEntries
+build_in (Ok (Some b)) = Ok b
+build_in (Err why) = Err why
 
-has_tree : (t : Bool) (x : Build) (b : BuiltTree) → Tree (Ok b) ≡ cond t (Tree x) NoTree → Ok b ≡ x
-has_tree true x b e = ap build_in e
+has_tree : (t : Bool) (x : Build) (b : BuiltTree) → Ok (Some b) ≡ cond t (with_tree x) (Ok None) → Ok b ≡ x
+has_tree true (Ok c) b e = ap build_in e
+has_tree true (Err why) b e = ap build_in e
 has_tree false x b e = absurd (not_refused b TooManyEntries (ap build_in e))
 
 module _ (limit n : ℕ) (ws : List ℕ) (l : Lengths) (before after : Outputs) (b : BuiltTree)
-    (a : Answered limit n ws l (Tree (Ok b)) before after) where
+    (a : Answered limit n ws l (Ok (Some b)) before after) where
   built_is : Ok b ≡ B.answer_of (child_entries n ws) 1 l
   unfolding tree_above_by build_by
   built_is =
@@ -138,7 +138,7 @@ module _ (n : ℕ) (ws : List ℕ) where
 
 -- Whatever the limit of children: a composite that has a tree, and a walk over that tree's records.
 pub composite_delivers : (limit n : ℕ) (ws : List ℕ) (l : Lengths) (before after : Outputs) (b : BuiltTree)
-    → Answered limit n ws l (Tree (Ok b)) before after
+    → Answered limit n ws l (Ok (Some b)) before after
     → (query : Aabb) (out out' : List ℕ) (w : Result Counts RefusedWalk) → WalkedOver n query b after out out' w
     → Delivers n ws query b after out out' w
 composite_delivers limit n ws l before after b a query out out' w p =

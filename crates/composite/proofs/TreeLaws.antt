@@ -1,5 +1,5 @@
 -- What `tree_above` answers, case by case. Where the children are put into words, the build over the words is the build over their items (bvh EntryWords).
-use Rattle.std.specs.Prelude.{◌≡◌, ℕ, ◌*◌, ◌<◌, ◌≤◌, List, length, take, Err}
+use Rattle.std.specs.Prelude.{◌≡◌, ℕ, ◌*◌, ◌<◌, ◌≤◌, List, length, take, None, Ok, Err}
 use mathlib.Core.Path.{refl, sym, ap, ◌∙◌, subst}
 use borrow.Author.Tests.{lt-ltb, le-ltb}
 use lib.Ieee.{Float}
@@ -11,8 +11,7 @@ use Rattle.bvh.specs.declared.slices.Lengths.{Lengths}
 use Rattle.bvh.specs.declared.items.BvhItem.{BvhItem}
 use Rattle.bvh.proofs.EntryWords.{answers, taken_fits}
 use Rattle.bvh.proofs.ItemWords.{apart}
-use Rattle.composite.specs.declared.building.CompositeTree.TheVariants.{NoTree, Tree}
-use Rattle.composite.specs.Trees.{child_items, child_entries, build_by, tree_above_by, AnsweredBy}
+use Rattle.composite.specs.Trees.{CompositeTree, with_tree, child_items, child_entries, build_by, tree_above_by, AnsweredBy}
 use Rattle.composite.proofs.ItemLaws.{length_items}
 
 -- what is taken fits, of a number that is what is taken
@@ -22,37 +21,42 @@ fits n room k e = subst (λ (j : ℕ). (j ≤ n) × (7 * j ≤ room)) (sym e) (t
 module _ (range limit n : ℕ) (ws : List ℕ) (l : Lengths) where
   -- ---- refused, or none
 
-  none_is : n ≤ limit → NoTree ≡ tree_above_by range limit n ws l
+  none_is : n ≤ limit → Ok None ≡ tree_above_by range limit n ws l
   unfolding tree_above_by
   none_is h = rw (le-ltb limit n h)
 
-  pub none : (o : Outputs) → n ≤ limit → AnsweredBy range limit n ws l NoTree o o
+  pub none : (o : Outputs) → n ≤ limit → AnsweredBy range limit n ws l (Ok None) o o
   none o h = record { answer = none_is h; nodes_are = refl; trees_are = refl; order_is = refl }
 
-  many_is : limit < n → 32767 < n → Tree (Err TooManyEntries) ≡ tree_above_by range limit n ws l
+  many_is : limit < n → 32767 < n → Err TooManyEntries ≡ tree_above_by range limit n ws l
   unfolding tree_above_by build_by
   many_is h many = rw (lt-ltb limit n h, lt-ltb 32767 n many)
 
-  pub too_many : (o : Outputs) → limit < n → 32767 < n → AnsweredBy range limit n ws l (Tree (Err TooManyEntries)) o o
+  pub too_many : (o : Outputs) → limit < n → 32767 < n → AnsweredBy range limit n ws l (Err TooManyEntries) o o
   too_many o h many = record { answer = many_is h many; nodes_are = refl; trees_are = refl; order_is = refl }
 
-  short_is : limit < n → n ≤ 32767 → length ws < 24 * n → Tree (Err BufferTooShort) ≡ tree_above_by range limit n ws l
+  short_is : limit < n → n ≤ 32767 → length ws < 24 * n → Err BufferTooShort ≡ tree_above_by range limit n ws l
   unfolding tree_above_by build_by
   short_is h few short = rw (lt-ltb limit n h, le-ltb 32767 n few, lt-ltb (length ws) (24 * n) short)
 
-  pub too_short : (o : Outputs) → limit < n → n ≤ 32767 → length ws < 24 * n → AnsweredBy range limit n ws l (Tree (Err BufferTooShort)) o o
+  pub too_short : (o : Outputs) → limit < n → n ≤ 32767 → length ws < 24 * n → AnsweredBy range limit n ws l (Err BufferTooShort) o o
   too_short o h few short = record { answer = short_is h few short; nodes_are = refl; trees_are = refl; order_is = refl }
 
   -- ---- built
 
-  tree_is : limit < n → n ≤ 32767 → 24 * n ≤ length ws → Tree (answer_by range (child_entries n ws) 1 l) ≡ tree_above_by range limit n ws l
+  tree_is : limit < n → n ≤ 32767 → 24 * n ≤ length ws → with_tree (answer_by range (child_entries n ws) 1 l) ≡ tree_above_by range limit n ws l
   unfolding tree_above_by build_by
   tree_is h few long = rw (lt-ltb limit n h, le-ltb 32767 n few, le-ltb (length ws) (24 * n) long)
 
-  pub by_build : (r : Build) (o o' : Outputs) → limit < n → n ≤ 32767 → 24 * n ≤ length ws → E.AnsweredBy range (child_entries n ws) 1 l r o o'
-      → AnsweredBy range limit n ws l (Tree r) o o'
-  by_build r o o' h few long a =
-      record { answer = ap Tree a.answer ∙ tree_is h few long; nodes_are = a.nodes_are; trees_are = a.trees_are; order_is = a.order_is }
+  -- of an answer that is the build's, of a composite that has a tree
+  pub by_build : (r : Build) (x : CompositeTree) (o o' : Outputs) → x ≡ with_tree r → limit < n → n ≤ 32767 → 24 * n ≤ length ws
+      → E.AnsweredBy range (child_entries n ws) 1 l r o o' → AnsweredBy range limit n ws l x o o'
+  by_build (Ok b) x o o' is h few long a =
+      subst (λ (y : CompositeTree). AnsweredBy range limit n ws l y o o') (sym is)
+      (record { answer = ap with_tree a.answer ∙ tree_is h few long; nodes_are = a.nodes_are; trees_are = a.trees_are; order_is = a.order_is })
+  by_build (Err why) x o o' is h few long a =
+      subst (λ (y : CompositeTree). AnsweredBy range limit n ws l y o o') (sym is)
+      (record { answer = ap with_tree a.answer ∙ tree_is h few long; nodes_are = a.nodes_are; trees_are = a.trees_are; order_is = a.order_is })
 
 -- ---- the build over the words
 

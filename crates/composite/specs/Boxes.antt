@@ -1,11 +1,9 @@
 -- Rule C2: the children's boxes as bytes, and what `child_boxes` answers (01, composites; bounds.rs, Aabb, Composite::prepare). Definitions only.
-use Rattle.std.specs.Prelude.{◌≡◌, ℕ, zero, suc, ◌+◌, ◌*◌, Bool, cond, ◌||◌, List, [], ◌++◌, length, replicate, nat_lt}
+use Rattle.std.specs.Prelude.{◌≡◌, ℕ, zero, suc, ◌+◌, ◌*◌, Bool, cond, ◌||◌, List, [], ◌++◌, length, replicate, nat_lt, ⊤, Result, Ok, Err}
 use Rattle.base.specs.Lists.{over}
 use Rattle.base.specs.LittleEndian.{little_endian}
 use Rattle.math.specs.declared.words3.Words3.{Words3}
 use Rattle.composite.specs.Children.{is_present, box_of, margin_of}
-use Rattle.composite.specs.declared.boxes.ChildBoxes.{ChildBoxes}
-use Rattle.composite.specs.declared.boxes.ChildBoxes.TheVariants.{Written, Refused}
 use Rattle.composite.specs.declared.boxes.ChildBoxesRefusal.{ChildBoxesRefusal}
 use Rattle.composite.specs.declared.boxes.ChildBoxesRefusal.TheVariants.{TooManyChildren, BufferTooShort}
 
@@ -27,9 +25,13 @@ children_bytes ws at (suc n) = child_bytes ws at ++ children_bytes ws (at + 1) n
 abbrev pub short : ℕ → ℕ → ℕ → Bool
 short n given room = nat_lt given (24 * n) || nat_lt room (32 * n)
 
+-- what is answered: that the boxes are written, or why they are not
+abbrev pub ChildBoxes : Type 0
+ChildBoxes = Result ⊤ ChildBoxesRefusal
+
 -- Rule C2 (01, child boxes): the checks in the order written.
 unfoldable pub boxes_of : ℕ → ℕ → ℕ → ChildBoxes
-boxes_of n given room = cond (nat_lt 32767 n) (Refused TooManyChildren) (cond (short n given room) (Refused BufferTooShort) Written)
+boxes_of n given room = cond (nat_lt 32767 n) (Err TooManyChildren) (cond (short n given room) (Err BufferTooShort) (Ok tt))
 
 -- 01's number for each reason
 abbrev pub refusal_number : ChildBoxesRefusal → ℕ
@@ -38,13 +40,13 @@ refusal_number BufferTooShort = 2
 
 -- 01's number for each answer, 0 where it is not refused
 abbrev pub number_of : ChildBoxes → ℕ
-number_of Written = 0
-number_of (Refused why) = refusal_number why
+number_of (Ok done) = 0
+number_of (Err why) = refusal_number why
 
 -- what the output holds at the end: on a refusal what it had
 abbrev pub kept : ChildBoxes → List ℕ → List ℕ → List ℕ
-kept Written written before = over written before
-kept (Refused why) written before = before
+kept (Ok done) written before = over written before
+kept (Err why) written before = before
 
 -- Rule C2: the answer, and every byte of the output.
 pub record Boxed (n : ℕ) (ws before after : List ℕ) (r : ChildBoxes) : Type 0 where

@@ -1,18 +1,18 @@
 -- Rule C3: the tree of a composite over its children's computed boxes, and what `composite_tree` answers (01, composites; bounds.rs, Composite::build_bvh).
 -- Definitions only.
-use Rattle.std.specs.Prelude.{◌≡◌, ℕ, zero, suc, ◌+◌, ◌*◌, cond, List, [], ◌∷◌, length, nat_lt, Err}
+use Rattle.std.specs.Prelude.{◌≡◌, ℕ, zero, suc, ◌+◌, ◌*◌, cond, List, [], ◌∷◌, length, nat_lt, Option, Some, None, Result, Ok, Err}
 use Rattle.bvh.specs.Build as B
 use Rattle.bvh.specs.Build.{Build, Entries, nodes_written, trees_written_by, order_written}
 use Rattle.bvh.specs.Entry.{entries_of, Outputs}
 use Rattle.bvh.specs.Items.{absent}
+use Rattle.bvh.specs.declared.slices.BuildRefusal.{BuildRefusal}
 use Rattle.bvh.specs.declared.slices.BuildRefusal.TheVariants.{TooManyEntries, BufferTooShort}
+use Rattle.bvh.specs.declared.slices.BuiltTree.{BuiltTree}
 use Rattle.bvh.specs.declared.slices.Lengths.{Lengths}
 use Rattle.bvh.specs.declared.items.BvhItem.{BvhItem}
 use Rattle.math.specs.Stored.{bits_of}
 use Rattle.rows.specs.Ranges.{range_limit}
 use Rattle.composite.specs.Children.{mark_of, is_present, computed_box}
-use Rattle.composite.specs.declared.building.CompositeTree.{CompositeTree}
-use Rattle.composite.specs.declared.building.CompositeTree.TheVariants.{NoTree, Tree}
 
 -- Rule C3 (01: "a tree above 5 children"): absent ones count.
 abbrev pub child_limit : ℕ
@@ -40,17 +40,27 @@ build_by range n ws l =
     cond (nat_lt 32767 n) (Err TooManyEntries)
     (cond (nat_lt (length ws) (24 * n)) (Err BufferTooShort) (B.answer_by range (child_entries n ws) 1 l))
 
+-- What a composite's tree is answered by: none where it has none, else the tree's values or why its build is refused.
+abbrev pub CompositeTree : Type 0
+CompositeTree = Result (Option BuiltTree) BuildRefusal
+
+-- a build's answer, of a composite that has a tree
+abbrev pub with_tree : Build → CompositeTree
+with_tree (Ok b) = Ok (Some b)
+with_tree (Err why) = Err why
+
 -- Rule C3: a tree above so many children, and else none, without a look at any buffer; at a limit of nodes a range, and at that of a build.
 unfoldable pub tree_above_by : ℕ → ℕ → ℕ → List ℕ → Lengths → CompositeTree
-tree_above_by range limit n ws l = cond (nat_lt limit n) (Tree (build_by range n ws l)) NoTree
+tree_above_by range limit n ws l = cond (nat_lt limit n) (with_tree (build_by range n ws l)) (Ok None)
 
 abbrev pub tree_above : ℕ → ℕ → List ℕ → Lengths → CompositeTree
 tree_above limit n ws l = tree_above_by range_limit limit n ws l
 
 -- what an output holds at the end: what it had, where there is no tree or the build is refused
 abbrev pub kept : CompositeTree → List ℕ → List ℕ → List ℕ
-kept NoTree written before = before
-kept (Tree b) written before = B.kept b written before
+kept (Ok None) written before = before
+kept (Ok (Some b)) written before = B.kept (Ok b) written before
+kept (Err why) written before = before
 
 -- Rule C3: the answer for trees above so many children, and the three outputs whole; at a limit of nodes a range, and at that of a build.
 pub record AnsweredBy (range limit n : ℕ) (ws : List ℕ) (l : Lengths) (r : CompositeTree) (before after : Outputs) : Type 0 where

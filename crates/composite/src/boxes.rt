@@ -16,10 +16,15 @@ pub enum ChildBoxesRefusal {
     BufferTooShort,
 }
 
-#[derive(Clone, Copy)]
-pub enum ChildBoxes {
-    Written,
-    Refused(ChildBoxesRefusal),
+impl From<ChildBoxesRefusal> for u32 {
+    ghost from_gives = { λ why n. n ≡ refusal_number why };
+
+    fn from(why: ChildBoxesRefusal) -> u32 {
+        match why {
+            ChildBoxesRefusal::TooManyChildren => 1,
+            ChildBoxesRefusal::BufferTooShort => 2,
+        }
+    }
 }
 
 fn put_row(out: &mut [u8], at: usize, p: Words3, w: u32)
@@ -51,45 +56,34 @@ fn put_children(out: &mut [u8], children: &[u32], n: usize)
     requires { (32 * n ≤ length out.old) × (24 * n ≤ length children.now) × (n ≤ 32767) }
     ensures { out.new ≡ over (children_bytes children.now 0 n) out.old }
 {
-    let mut k = 0;
-    while k < n {
+    for k in 0..n {
         put_child(out, 32 * k, children, Place(k as u32));
-        k += 1;
     }
 }
 
 // The boxes of n children, or a refusal that changes no byte.
-pub fn child_boxes(n: usize, children: &[u32], out: &mut [u8]) -> ChildBoxes
+pub fn child_boxes(n: usize, children: &[u32], out: &mut [u8]) -> Result<(), ChildBoxesRefusal>
     ensures { Boxed n children.now out.old out.new result }
 {
     if n > 32767 {
-        return ChildBoxes::Refused(ChildBoxesRefusal::TooManyChildren);
+        return Err(ChildBoxesRefusal::TooManyChildren);
     }
     if children.len() < 24 * n {
-        return ChildBoxes::Refused(ChildBoxesRefusal::BufferTooShort);
+        return Err(ChildBoxesRefusal::BufferTooShort);
     }
     if out.len() < 32 * n {
-        return ChildBoxes::Refused(ChildBoxesRefusal::BufferTooShort);
+        return Err(ChildBoxesRefusal::BufferTooShort);
     }
     put_children(out, children, n);
-    ChildBoxes::Written
-}
-
-fn refusal_number(why: ChildBoxesRefusal) -> u32
-    ensures { result ≡ refusal_number why }
-{
-    match why {
-        ChildBoxesRefusal::TooManyChildren => 1,
-        ChildBoxesRefusal::BufferTooShort => 2,
-    }
+    Ok(())
 }
 
 // An answer's number, for a caller that no enum can be given to.
-pub fn number(answer: ChildBoxes) -> u32
+pub fn number(answer: Result<(), ChildBoxesRefusal>) -> u32
     ensures { result ≡ number_of answer }
 {
     match answer {
-        ChildBoxes::Written => 0,
-        ChildBoxes::Refused(why) => refusal_number(why),
+        Ok(()) => 0,
+        Err(why) => u32::from(why),
     }
 }

@@ -15,13 +15,6 @@ use rows::ranges::RANGE_LIMIT;
 // Rule C3: a composite has a tree above so many children.
 pub const CHILD_LIMIT: usize = 5;
 
-// No tree, or what the build of one answers.
-#[derive(Clone, Copy)]
-pub enum CompositeTree {
-    NoTree,
-    Tree(Result<BuiltTree, BuildRefusal>),
-}
-
 fn absent() -> BvhItem
     ensures { result ≡ absent }
 {
@@ -55,14 +48,12 @@ fn put_items(children: &[u32], n: usize, k: usize, entries: &mut [u32])
     requires { (24 * n ≤ length children.now) × (k ≤ n) × (7 * k ≤ length entries.old) × (n ≤ 32767) }
     ensures { entries.new ≡ over (words_of (take k (child_items children.now 0 n))) entries.old }
 {
-    let mut i = 0;
-    while i < k {
+    for i in 0..k {
         bvh::entry::put_item(entries, i, item_of(children, Place(i as u32)));
-        i += 1;
     }
 }
 
-// The tree above so many children, with at most `range_limit` nodes a range; else none, and no buffer is looked at. The work is lent in a build's
+// The tree above so many children, with at most `range_limit` nodes a range; else `None`, and no buffer is looked at. The work is lent in a build's
 // six parts.
 fn tree_above(
     limit: usize,
@@ -78,7 +69,7 @@ fn tree_above(
     stack: &mut [u32],
     rows: &mut [u32],
     centres: &mut [f32],
-) -> CompositeTree
+) -> Result<Option<BuiltTree>, BuildRefusal>
     requires { 0 < range_limit }
     ensures { AnsweredBy range_limit limit n children.now
         (lengths_of (outputs node_bytes.old tree_bytes.old order.old)
@@ -87,16 +78,16 @@ fn tree_above(
         (outputs node_bytes.new tree_bytes.new order.new) }
 {
     if n <= limit {
-        return CompositeTree::NoTree;
+        return Ok(None);
     }
     if n > 32767 {
-        return CompositeTree::Tree(Err(BuildRefusal::TooManyEntries));
+        return Err(BuildRefusal::TooManyEntries);
     }
     if children.len() < 24 * n {
-        return CompositeTree::Tree(Err(BuildRefusal::BufferTooShort));
+        return Err(BuildRefusal::BufferTooShort);
     }
     put_items(children, n, bvh::entry::taken(n, entries.len()), entries);
-    CompositeTree::Tree(bvh::slices::build_core(
+    let tree = bvh::slices::build_core(
         n,
         1,
         range_limit,
@@ -109,7 +100,8 @@ fn tree_above(
         stack,
         rows,
         centres,
-    ))
+    )?;
+    Ok(Some(tree))
 }
 
 // The tree of a composite of n children.
@@ -125,7 +117,7 @@ pub fn composite_tree(
     stack: &mut [u32],
     rows: &mut [u32],
     centres: &mut [f32],
-) -> CompositeTree
+) -> Result<Option<BuiltTree>, BuildRefusal>
     ensures { Answered child_limit n children.now
         (lengths_of (outputs node_bytes.old tree_bytes.old order.old)
         (lent entries.old places.old temp.old stack.old rows.old centres.old)) result

@@ -16,10 +16,8 @@ pub fn put_order(order: &mut [u16], places: &[u32])
     requires { (length places.now ≤ length order.old) × (Below 65536 places.now) }
     ensures { order.new ≡ over places.now order.old }
 {
-    let mut i = 0;
-    while i < places.len() {
+    for i in 0..places.len() {
         order[i] = places[i] as u16;
-        i += 1;
     }
 }
 
@@ -81,14 +79,12 @@ pub fn put_nodes(
     ensures { node_bytes.new ≡ over (nodes_bytes scale threshold leaf_order.now (rows_in m rows.now))
         node_bytes.old }
 {
-    let mut i = 0;
-    while i < m {
+    for i in 0..m {
         records::put_node(
             node_bytes,
             16 * i,
             row_node(rows, leaf_order, scale, threshold, i),
         );
-        i += 1;
     }
 }
 
@@ -108,9 +104,7 @@ pub fn pad_nodes(node_bytes: &mut [u8], from: usize, upto: usize)
     requires { (from ≤ upto) × (16 * upto ≤ length node_bytes.old) }
     ensures { node_bytes.new ≡ sets node_bytes.old (16 * from) (pad_bytes (upto - from)) }
 {
-    let mut i = from;
-    while i < upto {
+    for i in from..upto {
         records::put_node(node_bytes, 16 * i, pad_node());
-        i += 1;
     }
 }

@@ -42,10 +42,8 @@ fn put_byte(to: i32, byte: u8) {
 }
 
 fn put_bytes(to: i32, bytes: &[u8]) {
-    let mut i = 0;
-    while i < bytes.len() {
-        put_byte(to, bytes[i]);
-        i += 1;
+    for byte in bytes {
+        put_byte(to, *byte);
     }
 }
 

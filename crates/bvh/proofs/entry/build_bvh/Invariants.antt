@@ -6,6 +6,3 @@ use Rattle.bvh.proofs.entry.build_bvh.Given as goal
 
 abbrev pub invariant-loop-i : goal.invariant-loop-i
 invariant-loop-i l = (l.i ≤ l.n) × (l.n ≡ taken_of (length l.items) (length l.initial.entries)) × (l.entries ≡ apart l.items l.initial.entries l.i)
-
-abbrev pub decreases-loop-i : goal.decreases-loop-i
-decreases-loop-i l = l.n - l.i

@@ -5,6 +5,3 @@ use Rattle.bvh.proofs.items.gather.Given as goal
 
 abbrev pub invariant-loop-p : goal.invariant-loop-p
 invariant-loop-p l = Gathering l.n l.entries l.initial.places l.places l.k l.p
-
-abbrev pub decreases-loop-p : goal.decreases-loop-p
-decreases-loop-p l = l.n - l.p

@@ -6,6 +6,3 @@ use Rattle.composite.proofs.building.put_items.Given as goal
 
 abbrev pub invariant-loop-i : goal.invariant-loop-i
 invariant-loop-i l = (Making (child_items l.children 0 l.n) l.initial.entries l.entries l.i) × (l.i ≤ l.k)
-
-abbrev pub decreases-loop-i : goal.decreases-loop-i
-decreases-loop-i l = l.k - l.i

@@ -1,10 +1,6 @@
 -- `emit::pad_nodes` meets its contract. The loop's invariant: the records from `from` up to i are padding.
-use Prim.Native.Nat.{◌-◌}
 use Rattle.rows.proofs.emit.Writing.{Padding}
 use Rattle.rows.proofs.emit.pad_nodes.Given as goal
 
 abbrev pub invariant-loop-i : goal.invariant-loop-i
 invariant-loop-i l = Padding l.initial.node_bytes l.node_bytes l.from l.i l.upto
-
-abbrev pub decreases-loop-i : goal.decreases-loop-i
-decreases-loop-i l = l.upto - l.i

@@ -1,11 +1,7 @@
 -- `emit::put_order` meets its contract. The loop's invariant: the first i places are written.
-use Prim.Native.Nat.{◌-◌}
 use lib.ListN.{length, take}
 use Rattle.rows.proofs.emit.Writing.{Writing}
 use Rattle.rows.proofs.emit.put_order.Given as goal
 
 abbrev pub invariant-loop-i : goal.invariant-loop-i
 invariant-loop-i l = Writing l.initial.order l.order (take l.i l.places) l.i (length l.places)
-
-abbrev pub decreases-loop-i : goal.decreases-loop-i
-decreases-loop-i l = length l.places - l.i
