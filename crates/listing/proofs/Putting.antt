@@ -1,11 +1,12 @@
 -- What is put part after part is put as one.
-use Rattle.std.specs.Prelude.{◌≡◌, ℕ, ◌+◌, ◌<◌, ◌≤◌, List, [], ◌∷◌, ◌++◌, length, get_or, take, set}
+use Rattle.std.specs.Prelude.{◌≡◌, ℕ, ◌+◌, ◌-◌, ◌<◌, ◌≤◌, List, [], ◌∷◌, ◌++◌, length, get_or, take, set}
 use native.Mathlib.Omega.{arith}
 use native.Mathlib.Numerals.{add-one}
 use mathlib.Core.Path.{refl, sym, ap, ◌∙◌}
 use lib.ListN.{length-append, length-set}
 use lib.Seq.{sets, length-sets, length-take-le, take-suc, take_all}
-use Rattle.base.proofs.StoreLaws.{store_next}
+use borrow.Rule.Slice.PartMut.{put_mid, Post-is}
+use Rattle.base.proofs.StoreLaws.{store_next, stores_leave}
 use Rattle.listing.specs.Text.{Put}
 
 pub put_then : {m n : ℕ} {a b before mid after : List ℕ} {at end r : ℕ} → Put m a before at mid end → Put n b mid end after r
@@ -33,24 +34,15 @@ put_as {m} {n} {a} {b} {before} {after} {at} {r} e h p =
 pub put_length : {m : ℕ} {a before after : List ℕ} {at r : ℕ} → Put m a before at after r → length after ≡ length before
 put_length {m} {a} {before} {after} {at} {r} p = ap length p.stored ∙ length-sets before at a
 
--- The first i bytes of a text are copied.
-pub record Copied (before after text : List ℕ) (at i : ℕ) : Type 0 where
-  pub upto : i ≤ length text
-  pub same : length after ≡ length before
-  pub stored : after ≡ sets before at (take i text)
-
-pub copy_next : (before after text : List ℕ) (at i : ℕ) → Copied before after text at i → i < length text
-    → Copied before (set after (at + i) (get_or text i 0)) text at (i + 1)
-copy_next before after text at i c h =
+-- A copy into the part from `at` on puts the text there.
+pub copied : (before text part : List ℕ) (at : ℕ) → at + length text ≤ length before → part ≡ text
+    → Put (length text) text before at (put_mid at (at + length text - at) before part) (at + length text)
+copied before text part at room same =
     record {
-      upto = omega arith;
-      same = length-set after (at + i) (get_or text i 0) ∙ c.same;
       stored =
-          store_next before (take i text) (get_or text i 0 ∷ []) at i (length-take-le i text c.upto) c.stored refl
-          ∙ ap (sets before at) (sym (ap (λ (k : ℕ). take k text) (add-one i) ∙ take-suc text i 0 h));
+          ap (put_mid at (at + length text - at) before) same
+          ∙ ap (λ (l : List ℕ). take at before ++ (text ++ l)) (Post-is at (at + length text) before (omega arith))
+          ∙ sym (stores_leave before text at (length text) refl room);
+      ends = refl;
+      few = omega arith;
     }
-
-pub copied_all : (before after text : List ℕ) (at i : ℕ) → Copied before after text at i → length text ≤ i
-    → Put (length text) text before at after (at + length text)
-copied_all before after text at i c h =
-    record { stored = c.stored ∙ ap (sets before at) (take_all i text h); ends = refl; few = omega arith }

@@ -76,10 +76,8 @@ pub fn put_node_lines(out: &mut [u8], at: usize, node_bytes: &[u8], count: usize
     ensures { Put (67 * count) (node_lines node_bytes.now count) out.old at out.new result }
 {
     let mut end = at;
-    let mut i = 0;
-    while i < count {
+    for i in 0..count {
         end = put_node_line(out, end, i, walk::reader::read_node(node_bytes, i));
-        i += 1;
     }
     end
 }
@@ -90,10 +88,8 @@ pub fn put_tree_lines(out: &mut [u8], at: usize, tree_bytes: &[u8], count: usize
     ensures { Put (67 * count) (tree_lines tree_bytes.now count) out.old at out.new result }
 {
     let mut end = at;
-    let mut i = 0;
-    while i < count {
+    for i in 0..count {
         end = put_tree_line(out, end, i, records::tree_at(tree_bytes, 16 * i));
-        i += 1;
     }
     end
 }

@@ -46,9 +46,7 @@ pub fn read_children(entries: &mut [u32], bytes: &[u8], n: usize)
     requires { (7 * n ≤ length entries.old) × (32 * n ≤ length bytes.now) }
     ensures { entries.new ≡ over (child_words bytes.now n) entries.old }
 {
-    let mut i = 0;
-    while i < n {
+    for i in 0..n {
         put_child(entries, bytes, i);
-        i += 1;
     }
 }

@@ -7,6 +7,3 @@ use Rattle.listing.proofs.lines.put_node_lines.Given as goal
 
 abbrev pub invariant-loop-i : goal.invariant-loop-i
 invariant-loop-i l = Lined (λ k. node_line k (node_at l.node_bytes (16 * k))) l.initial.out l.out l.at l.end l.i l.count
-
-abbrev pub decreases-loop-i : goal.decreases-loop-i
-decreases-loop-i l = l.count - l.i

@@ -7,6 +7,3 @@ use Rattle.listing.proofs.lines.put_tree_lines.Given as goal
 
 abbrev pub invariant-loop-i : goal.invariant-loop-i
 invariant-loop-i l = Lined (λ k. tree_line k (tree_at l.tree_bytes (16 * k))) l.initial.out l.out l.at l.end l.i l.count
-
-abbrev pub decreases-loop-i : goal.decreases-loop-i
-decreases-loop-i l = l.count - l.i

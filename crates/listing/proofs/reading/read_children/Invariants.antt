@@ -5,6 +5,3 @@ use Rattle.listing.proofs.reading.read_children.Given as goal
 
 abbrev pub invariant-loop-i : goal.invariant-loop-i
 invariant-loop-i l = Children l.bytes l.initial.entries l.entries l.i l.n
-
-abbrev pub decreases-loop-i : goal.decreases-loop-i
-decreases-loop-i l = l.n - l.i
