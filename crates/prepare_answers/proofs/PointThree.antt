@@ -1,5 +1,6 @@
 -- Point 3 of the request at the C interface for a prepared mesh, from the contracts of `bounds_prepare_bvh` and `bounds_walk` alone. An answer that is not
 -- refused, of a mesh with polygons, has a tree; an outcome of a walk is some walk's; and of these prepared_delivers speaks.
+use Rattle.bvh.specs.Build.{Build}
 use Rattle.std.specs.Prelude.{◌≡◌, ℕ, ◌<◌, Bool, true, false, cond, T, eqb, List, length, get_or, take, Result, Ok, Err}
 use native.Mathlib.Omega.{arith}
 use mathlib.Core.List.{Memᴰ}
@@ -8,8 +9,6 @@ use borrow.Author.Tests.{ne_eqb}
 use Rattle.base.proofs.Truth.{cond_both}
 use Rattle.base.specs.Lists.{occurrences, over}
 use Rattle.bvh.specs.Entry.{Outputs}
-use Rattle.bvh.specs.declared.slices.Build.{Build}
-use Rattle.bvh.specs.declared.slices.Build.TheVariants as B
 use Rattle.bvh.specs.declared.slices.BuiltTree.{BuiltTree}
 use Rattle.math.specs.declared.aabb.Aabb.{Aabb}
 use Rattle.math.specs.declared.vec3.Vec3.{Vec3}
@@ -35,10 +34,9 @@ use Rattle.prepared_delivers.proofs.Prepared.{prepared_delivers}
 use Rattle.prepared_delivers.specs.Delivers as Mesh
 use Rattle.rebuild.specs.Rebuilding.{leaf_limit, tree_answer}
 use Rattle.tree.specs.WellFormed.{node_no, NodeNumbers}
-use Rattle.walk.specs.Walks.{Outcome, walk_of, unread, ended, too_many, too_short, status_number, walk_from}
+use Rattle.walk.specs.Walks.{Walk, Outcome, walk_of, unread, ended, too_many, too_short, status_number, walk_from}
 use Rattle.walk.specs.Walks as W
 use Rattle.walk.specs.declared.slices.Counts.{Counts}
-use Rattle.walk.specs.declared.slices.Refused.{Refused as RefusedWalk}
 use Rattle.walk_steps.specs.Boxes.{query_of}
 use Rattle.walk_steps.specs.Step.{Turn, lent_of, started}
 use Rattle.walk_steps.specs.declared.refusals.WalkRefusal.{WalkRefusal}
@@ -55,7 +53,7 @@ use Rattle.prepare_answers.specs.declared.PrepareAnswer.{PrepareAnswer}
 -- ---- an outcome of a walk is some walk's
 
 record SomeWalk (o : Outcome) : Type 0 where
-  walk : Result Counts RefusedWalk
+  walk : Walk
   number_is : W.number_of walk ≡ o.number
   counts_are : W.counts_of walk ≡ o.counts
 
@@ -93,8 +91,8 @@ record Treed (s : Prepare) : Type 0 where
   is : s ≡ Bvh values tree
 
 with_tree_lem : (values : Values) (b : Build) → number_of (with_tree values b) ≡ 0 → Treed (with_tree values b)
-with_tree_lem values (B.Built t) zero = record { values = values; tree = t; is = refl }
-with_tree_lem values (B.Refused why) zero = absurd (some_number TooManyNodes zero)
+with_tree_lem values (Ok t) zero = record { values = values; tree = t; is = refl }
+with_tree_lem values (Err why) zero = absurd (some_number TooManyNodes zero)
 
 -- where neither test holds, the last is taken
 last_of : (s t : Bool) (x y z : Prepare) → s ≡ false → t ≡ false → (number_of z ≡ 0 → Treed z) → number_of (cond s x (cond t y z)) ≡ 0
