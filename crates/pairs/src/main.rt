@@ -15,7 +15,6 @@ use crate::tally::Tally;
 use bvh::slices::BuiltTree;
 use math::aabb::Aabb;
 use std::num::wrapping_add_u64;
-use tree::pair::Found;
 use walk::slices::Counts;
 
 const STDOUT: i32 = 1;
@@ -78,13 +77,13 @@ fn ask(list: &[u32; 4900], n: usize, threshold: u32, query: Aabb) -> Tally {
         &mut centres,
         &mut out,
     );
-    let Found::Walked(tree, walk) = found else {
+    let Ok(found) = found else {
         return Tally::refused();
     };
-    let Ok(counts) = walk else {
+    let Ok(counts) = found.walk else {
         return Tally::refused();
     };
-    verdict(list, query, threshold, tree, counts, &order, &out)
+    verdict(list, query, threshold, found.tree, counts, &order, &out)
 }
 
 // All queries over a list. They are drawn on from s.
