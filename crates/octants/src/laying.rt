@@ -53,10 +53,8 @@ fn turn_axis(falls: bool, n: usize, keys: &[u32], rows: &mut [u32], at: usize)
     requires { (at + n ≤ length keys.now) × (at + n ≤ length rows.old) }
     ensures { Filled (λ p. turned falls (get_or keys.now (at + p) 0)) n at rows.old rows.new }
 {
-    let mut p = 0;
-    while p < n {
+    for p in 0..n {
         rows[at + p] = turned(falls, keys[at + p]);
-        p += 1;
     }
 }
 
@@ -76,10 +74,8 @@ fn put_casts(falls: bool, n: usize, keys: &[u32], rows: &mut [u32])
     requires { (3 * n ≤ length keys.now) × (4 * n ≤ length rows.old) }
     ensures { Filled (λ p. cast_of (near_at falls n keys.now rows.old p)) n (2 * n) rows.old rows.new }
 {
-    let mut p = 0;
-    while p < n {
+    for p in 0..n {
         rows[2 * n + p] = cast_of(near_at(falls, n, keys, rows, p));
-        p += 1;
     }
 }
 
@@ -87,10 +83,8 @@ fn put_hides(falls: bool, n: usize, keys: &[u32], rows: &mut [u32])
     requires { (3 * n ≤ length keys.now) × (4 * n ≤ length rows.old) }
     ensures { Filled (λ p. hide_of (near_at falls n keys.now rows.old p)) n (3 * n) rows.old rows.new }
 {
-    let mut p = 0;
-    while p < n {
+    for p in 0..n {
         rows[3 * n + p] = hide_of(near_at(falls, n, keys, rows, p));
-        p += 1;
     }
 }
 

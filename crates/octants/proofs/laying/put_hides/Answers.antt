@@ -10,7 +10,7 @@ loop-p-init c = unfilled _ _ _ _
 
 pub near_at-requires : goal.near_at-requires
 near_at-requires c =
-    (c.requires.0, omega (arith, c.loop-p.invariant.len, c.requires.1), c.loop-p-test.true)
+    (c.requires.0, omega (arith, c.loop-p.invariant.len, c.requires.1), (omega arith))
 
 pub bounds-rows-n : goal.bounds-rows-n
 bounds-rows-n c = omega (arith, c.loop-p.invariant.len)
@@ -18,8 +18,8 @@ bounds-rows-n c = omega (arith, c.loop-p.invariant.len)
 pub loop-p-preserved : goal.loop-p-preserved
 loop-p-preserved c =
     let l = c.loop-p in
-    fill_more _ _ _ _ _ _ _ l.invariant c.loop-p-test.true (omega (arith, c.requires.1))
-    (c.hide_of.ensures ∙ ap hide_of (c.near_at.ensures ∙ near_kept _ _ _ _ _ _ _ _ (omega arith) l.invariant c.loop-p-test.true))
+    fill_more _ _ _ _ _ _ _ l.invariant (omega arith) (omega (arith, c.requires.1))
+    (c.hide_of.ensures ∙ ap hide_of (c.near_at.ensures ∙ near_kept _ _ _ _ _ _ _ _ (omega arith) l.invariant (omega arith)))
 
 pub returns : goal.returns
-returns c = filled _ _ _ _ _ _ c.loop-p.invariant c.loop-p-test.false
+returns c = filled _ _ _ _ _ _ c.loop-p.invariant (omega arith)
