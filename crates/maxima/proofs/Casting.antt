@@ -4,11 +4,11 @@ use mathlib.Core.Path.{◌≡◌, refl, sym, ap, ◌∙◌}
 use mathlib.Core.Logic.{◌⊎◌, inl, inr}
 use mathlib.Core.Bool.{Bool, true, false, cond, ◌&&◌, ◌||◌}
 use mathlib.Core.List.{List, [], ◌∷◌, ◌++◌}
-use Prim.Native.Nat.{ℕ, suc, ◌+◌, ◌≤◌, ◌<◌}
+use Prim.Native.Nat.{ℕ, suc, min, ◌+◌, ◌≤◌, ◌<◌}
 use native.Mathlib.Omega.{arith}
 use native.Mathlib.Decide.{dec_lt}
 use native.Mathlib.Numerals.{add-one}
-use borrow.Author.Tests.{le-leb, lt-leb, leb-true, leb-false, eqb-true, eqb-false, eq-eqb, ne_eqb, ltb-true, lt-ltb, le-ltb}
+use borrow.Author.Tests.{le-leb, lt-leb, leb-true, leb-false, eqb-true, eqb-false, eq-eqb, ne_eqb, ltb-true, lt-ltb}
 use lib.Dec.{leb, ltb, eqb}
 use lib.ListN.{length, get_or, set, take, drop, length-set, length-take, length-drop, drop_of_length-le, take-append-drop}
 use lib.Seq.{take-suc, take_all, take-take, drop-append-le, length-take-le, get_or-take, get_or-drop, get_or-set_same, get_or-set_other}
@@ -101,7 +101,7 @@ none_cast n rows before order h w =
     and_false true = refl
     and_false false = refl
 
-lesser_le : (a b z : ℕ) → leb (cond (ltb b a) b a) z ≡ (leb a z || leb b z)
+lesser_le : (a b z : ℕ) → leb (min a b) z ≡ (leb a z || leb b z)
 lesser_le a b z = go (dec_lt b a)
   where
     or_true : (t : Bool) → t ≡ true → (s : Bool) → (s ≡ true → t ≡ true) → t ≡ (s || t)
@@ -116,9 +116,9 @@ lesser_le a b z = go (dec_lt b a)
     above l (inl e) = rw e
     above l (inr e) = rw (e, lt-leb b z (omega (arith, leb-false a z e)))
 
-    go : Dec (b < a) → leb (cond (ltb b a) b a) z ≡ (leb a z || leb b z)
-    go (yes l) = rw (lt-ltb b a l) (under l (decide (leb b z)))
-    go (no l) = rw (le-ltb b a (omega arith)) (above (omega arith) (decide (leb a z)))
+    go : Dec (b < a) → leb (min a b) z ≡ (leb a z || leb b z)
+    go (yes l) = let e : min a b ≡ b = omega arith in rw e (under l (decide (leb b z)))
+    go (no l) = let e : min a b ≡ a = omega arith in rw e (above (omega arith) (decide (leb a z)))
 
 module _ (n : ℕ) (rows before order : List ℕ) (h best i j : ℕ) (marks : List ℕ) (w : Halves n rows before order h)
     (c : Casting n rows before order h best i j marks) (more : j < length order) where
@@ -137,7 +137,7 @@ module _ (n : ℕ) (rows before order : List ℕ) (h best i j : ℕ) (marks : Li
   -- ---- one more is taken in
 
   pub take_in : (ltb i h && leb (y_at n rows (get_or order i 0)) (y_at n rows (get_or order j 0))) ≡ true
-      → Casting n rows before order h (cond (ltb (cast_at n rows (get_or order i 0)) best) (cast_at n rows (get_or order i 0)) best) (i + 1) j marks
+      → Casting n rows before order h (min best (cast_at n rows (get_or order i 0))) (i + 1) j marks
   take_in e =
       let y = leb (y_at n rows (get_or order i 0)) (y_at n rows (get_or order j 0)) in
       let l : i < h = ltb-true i h (first_true (ltb i h) y e) in

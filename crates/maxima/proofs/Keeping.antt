@@ -1,4 +1,4 @@
--- The loops over a list of kept vertices: a search (`Searching`: what is left decides), a thinning in place (`Thinning`: what stands,
+-- The loops over a list of kept vertices: a thinning in place (`Thinning`: what stands,
 -- followed by what the rest gives, is the whole), and the vertices one after the other (`Gathering`).
 use mathlib.Core.Path.{◌≡◌, refl, sym, ap, ◌∙◌}
 use mathlib.Core.Bool.{Bool, true, false, not, ◌||◌}
@@ -9,6 +9,7 @@ use native.Mathlib.Decide.{dec_lt}
 use native.Mathlib.Numerals.{add-one}
 use lib.ListN.{length, get_or, set, take, drop, length-set, drop_of_length-le, length-append, length-drop, length-take}
 use lib.Seq.{take-suc-set, drop-set-lt, append_snoc, length-take-le, take-append-le}
+use Rattle.std.specs.List.{list_any}
 use Rattle.base.specs.Lists.{sift, over, Below}
 use Rattle.base.proofs.ListLaws.{length_sift}
 use Rattle.base.proofs.StoreLaws.{rest_one}
@@ -30,21 +31,9 @@ some_at p (x ∷ xs) (suc k) h e = ap (λ (b : Bool). p x || b) (some_at p xs k 
     or_true true = refl
     or_true false = refl
 
--- ---- a search
-
-pub record Searching (p : ℕ → Bool) (ks : List ℕ) (k : ℕ) : Type 0 where
-  pub upto : k ≤ length ks
-  pub rest : some p (drop k ks) ≡ some p ks
-
-module _ (p : ℕ → Bool) (ks : List ℕ) (k : ℕ) (s : Searching p ks k) where
-  pub found : k < length ks → p (get_or ks k 0) ≡ true → true ≡ some p ks
-  found h e = sym (ap (some p) (rest_one ks k h) ∙ rw e) ∙ s.rest
-
-  pub sought : k < length ks → p (get_or ks k 0) ≡ false → Searching p ks (k + 1)
-  sought h e = record { upto = omega arith; rest = sym (ap (some p) (rest_one ks k h) ∙ rw e) ∙ s.rest }
-
-  pub missed : length ks ≤ k → false ≡ some p ks
-  missed h = ap (some p) (sym (drop_of_length-le ks h)) ∙ s.rest
+pub any_is_some : (p : ℕ → Bool) (ks : List ℕ) → list_any p ks ≡ some p ks
+any_is_some p [] = refl
+any_is_some p (k ∷ ks) = ap (λ (b : Bool). p k || b) (any_is_some p ks)
 
 -- ---- a thinning in place
 
@@ -187,9 +176,10 @@ gathered n rows before kept count i g h =
 
 -- ---- written out
 
-pub written_out : (xs part rest before after : List ℕ) (r : ℕ) → r ≤ length part → Begins xs part r
-    → after ≡ over (take r (part ++ rest)) before → Written xs before after r
-written_out xs part rest before after r l b e =
+pub written_out : (xs part rest before after : List ℕ) (r : ℕ) → Begins xs part r → after ≡ over (take r (part ++ rest)) before
+    → Written xs before after r
+written_out xs part rest before after r b e =
+    let l : r ≤ length part = omega (arith, b.count, ap length b.list, length-take r part) in
     record {
       count = b.count;
       list = e ∙ ap (λ (u : List ℕ). over u before) (take-append-le r part rest l ∙ b.list);

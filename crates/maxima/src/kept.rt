@@ -1,5 +1,5 @@
 // The source's own loop: a vertex that a kept one shadows is passed over, else those that it shadows go and it comes last.
-ghost use Rattle.std.specs.Prelude.{◌≡◌, true, not, ◌+◌, ◌*◌, ◌≤◌, ◌<◌, length, take};
+ghost use Rattle.std.specs.Prelude.{◌≡◌, true, not, ◌+◌, ◌*◌, ◌≤◌, ◌<◌, length, take, IfSome};
 ghost use Rattle.base.specs.Lists.{sift, Below};
 ghost use Rattle.shadows.specs.Kept.{some, admit, kept_of};
 ghost use Rattle.far_order.specs.Rows.{shadowed_at};
@@ -10,13 +10,7 @@ fn shadowed(n: usize, rows: &[u32], i: usize, j: usize) -> bool
     requires { (4 * n ≤ length rows.now) × (i < n) × (j < n) }
     ensures { result ≡ shadowed_at n rows.now i j }
 {
-    if rows[i] < rows[j] {
-        return false;
-    }
-    if rows[n + i] < rows[n + j] {
-        return false;
-    }
-    rows[2 * n + j] <= rows[3 * n + i]
+    rows[j] <= rows[i] && rows[n + j] <= rows[n + i] && rows[2 * n + j] <= rows[3 * n + i]
 }
 
 // Whether the kept vertex at place `first`, if there is one, shadows vertex i.
@@ -24,10 +18,10 @@ fn first_shadows(n: usize, rows: &[u32], i: usize, kept: &[u32], first: usize) -
     requires { Testable n rows.now i kept.now }
     ensures { result ≡ true → some (shadowed_at n rows.now i) kept.now ≡ true }
 {
-    if kept.len() <= first {
-        return false;
+    match kept.get(first) {
+        Some(k) => shadowed(n, rows, i, *k as usize),
+        None => false,
     }
-    shadowed(n, rows, i, kept[first] as usize)
 }
 
 // Whether one of the kept vertices shadows vertex i.
@@ -35,14 +29,7 @@ fn some_shadows(n: usize, rows: &[u32], i: usize, kept: &[u32]) -> bool
     requires { Testable n rows.now i kept.now }
     ensures { result ≡ some (shadowed_at n rows.now i) kept.now }
 {
-    let mut k = 0;
-    while k < kept.len() {
-        if shadowed(n, rows, i, kept[k] as usize) {
-            return true;
-        }
-        k += 1;
-    }
-    false
+    kept.iter().any(|k| shadowed(n, rows, i, *k as usize))
 }
 
 // The same, with the one at place `first` tested before all others.
@@ -50,10 +37,7 @@ fn shadowed_first(n: usize, rows: &[u32], i: usize, kept: &[u32], first: usize) 
     requires { Testable n rows.now i kept.now }
     ensures { result ≡ some (shadowed_at n rows.now i) kept.now }
 {
-    if first_shadows(n, rows, i, kept, first) {
-        return true;
-    }
-    some_shadows(n, rows, i, kept)
+    first_shadows(n, rows, i, kept, first) || some_shadows(n, rows, i, kept)
 }
 
 // Takes those out of `kept` that vertex i shadows; how many are left.
@@ -62,46 +46,34 @@ fn retain(n: usize, rows: &[u32], i: usize, kept: &mut [u32]) -> usize
     ensures { Begins (sift (λ k. not (shadowed_at n rows.now k i)) kept.old) kept.new result }
 {
     let mut left = 0;
-    let mut k = 0;
-    while k < kept.len() {
+    for k in 0..kept.len() {
         let p = kept[k];
-        if shadowed(n, rows, p as usize, i) {
-            k += 1;
-        } else {
+        if !shadowed(n, rows, p as usize, i) {
             kept[left] = p;
             left += 1;
-            k += 1;
         }
     }
     left
-}
-
-fn greater(a: u32, b: u32) -> u32 {
-    if a < b { b } else { a }
 }
 
 // How near vertex p is on the axis on which it is nearest.
 fn nearest(n: usize, rows: &[u32], p: usize) -> u32
     requires { (4 * n ≤ length rows.now) × (p < n) }
 {
-    greater(rows[p], greater(rows[n + p], rows[2 * n + p]))
+    rows[p].max(rows[n + p]).max(rows[2 * n + p])
 }
 
 // The place of the kept vertex that is far on every axis, and so shadows most. Nothing but time depends on it.
 fn furthest(n: usize, rows: &[u32], kept: &[u32]) -> usize
     requires { (4 * n ≤ length rows.now) × (Below n kept.now) }
 {
-    let mut best = 0xffff_ffff;
+    let mut best = u32::MAX;
     let mut place = 0;
-    let mut k = 0;
-    while k < kept.len() {
-        let near = nearest(n, rows, kept[k] as usize);
+    for (k, p) in kept.iter().enumerate() {
+        let near = nearest(n, rows, *p as usize);
         if near < best {
             best = near;
             place = k;
-            k += 1;
-        } else {
-            k += 1;
         }
     }
     place
@@ -129,19 +101,17 @@ fn admit(n: usize, rows: &[u32], i: usize, kept: &mut [u32], s: Kept) -> Kept
     Kept { count, first }
 }
 
-// The list of n vertices at the start of `kept`, and how many it has; or more than `kept` has places, where they do not suffice.
-pub fn gather(n: usize, rows: &[u32], kept: &mut [u32]) -> usize
+// The list of n vertices at the start of `kept`, and how many it has; none where the places of `kept` do not suffice.
+pub fn gather(n: usize, rows: &[u32], kept: &mut [u32]) -> Option<usize>
     requires { (4 * n ≤ length rows.now) × (n ≤ 32768) }
-    ensures { result ≤ length kept.new → Begins (kept_of (shadowed_at n rows.now) n) kept.new result }
+    ensures { IfSome result (Begins (kept_of (shadowed_at n rows.now) n) kept.new) }
 {
     let mut s = Kept { count: 0, first: 0 };
-    let mut i = 0;
-    while i < n {
+    for i in 0..n {
         if s.count == kept.len() {
-            return s.count + 1;
+            return None;
         }
         s = admit(n, rows, i, kept, s);
-        i += 1;
     }
-    s.count
+    Some(s.count)
 }

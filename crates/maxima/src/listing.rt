@@ -16,10 +16,8 @@ fn count_up(order: &mut [u32])
     requires { length order.old ≤ 32768 }
     ensures { order.new ≡ numbers (length order.old) }
 {
-    let mut i = 0;
-    while i < order.len() {
-        order[i] = i as u32;
-        i += 1;
+    for (i, place) in order.iter_mut().enumerate() {
+        *place = i as u32;
     }
 }
 
@@ -28,11 +26,7 @@ fn clear(marks: &mut [u32], n: usize)
     requires { n ≤ length marks.old }
     ensures { Clear n marks.new }
 {
-    let mut i = 0;
-    while i < n {
-        marks[i] = 0;
-        i += 1;
-    }
+    marks[..n].fill(0);
 }
 
 // Writes the unmarked of the first n, rising; how many there are.
@@ -41,14 +35,10 @@ fn list_unmarked(marks: &[u32], n: usize, list: &mut [u32]) -> usize
     ensures { Written (sift (λ k. eqb (get_or marks.now k 0) 0) (numbers n)) list.old list.new result }
 {
     let mut count = 0;
-    let mut i = 0;
-    while i < n {
+    for i in 0..n {
         if marks[i] == 0 {
             list[count] = i as u32;
             count += 1;
-            i += 1;
-        } else {
-            i += 1;
         }
     }
     count
@@ -77,7 +67,7 @@ fn list_sorted(
 fn limit(n: usize) -> usize
     ensures { result ≤ n }
 {
-    if n < 128 { n } else { 128 }
+    n.min(128)
 }
 
 // Writes the list of n vertices; how many it has. The other slices are to work in.
@@ -93,8 +83,7 @@ pub fn list_maxima(
     ensures { Written (kept_of (shadowed_at n rows.now) n) list.old list.new result }
 {
     let most = limit(n);
-    let count = gather(n, rows, &mut order[..most]);
-    if count <= most {
+    if let Some(count) = gather(n, rows, &mut order[..most]) {
         keep(list, order, count);
         return count;
     }

@@ -63,54 +63,40 @@ module _ (n : ℕ) (ws before now counts : List ℕ) (k : ℕ) (e : Each n ws be
 -- ---- the loop
 
 -- the first k octants are done
-pub record Listing (n : ℕ) (keys before now counts : List ℕ) (at k : ℕ) : Type 0 where
-  pub upto : k ≤ 8
-  pub at_is : at ≡ k * n
+pub record Listing (n : ℕ) (keys before now counts : List ℕ) (k : ℕ) : Type 0 where
   pub len : length now ≡ length before
   pub done : (ws : List ℕ) → Keyed n ws keys → Each n ws before now counts k
 
-pub none_listed : (n : ℕ) (keys before counts : List ℕ) → Listing n keys before before counts 0 0
+pub none_listed : (n : ℕ) (keys before counts : List ℕ) → Listing n keys before before counts 0
 none_listed n keys before counts =
     record {
-      upto = omega arith;
-      at_is = omega arith;
       len = refl;
       done = λ ws h. record { parts_are = ap (λ (i : ℕ). drop i before) (sym (zero-mul n)); parts_len = omega arith; counts_are = λ o l. absurd (omega arith) };
     }
 
 -- k lists of n words, and one more, of eight
-pub in_range : (n k at size : ℕ) → at ≡ k * n → k < 8 → 8 * n ≤ size → at + n ≤ size
-in_range n k at size e l h = let m : (k + 1) * n ≤ 8 * n = mul-le-mul_right n l' in omega (arith, m)
+pub in_range : (n k size : ℕ) → k < 8 → 8 * n ≤ size → k * n + n ≤ size
+in_range n k size l h = let m : (k + 1) * n ≤ 8 * n = mul-le-mul_right n l' in omega (arith, m)
   where
     l' : k + 1 ≤ 8
     l' = omega arith
 
-pub one_listed : (n : ℕ) (keys before now counts : List ℕ) (at k m : ℕ) (part : List ℕ) (r v : ℕ) → Listing n keys before now counts at k
-    → m ≡ n → at + n ≤ length before → k < 8 → 8 ≤ length counts → length part ≡ length (take m (drop at now)) → v ≡ r
-    → ((ws : List ℕ) → Keyed n ws keys → Written (octant_of k ws n) (take m (drop at now)) part r)
-    → Listing n keys before (put_mid at m now part) (set counts k v) (at + n) (k + 1)
-one_listed n keys before now counts at k m part r v g same room l some len f w =
+pub one_listed : (n : ℕ) (keys before now counts : List ℕ) (k m : ℕ) (part : List ℕ) (r v : ℕ) → Listing n keys before now counts k
+    → m ≡ n → k * n + n ≤ length before → k < 8 → 8 ≤ length counts → length part ≡ length (take m (drop (k * n) now)) → v ≡ r
+    → ((ws : List ℕ) → Keyed n ws keys → Written (octant_of k ws n) (take m (drop (k * n) now)) part r)
+    → Listing n keys before (put_mid (k * n) m now part) (set counts k v) (k + 1)
+one_listed n keys before now counts k m part r v g same room l some len f w =
     record {
-      upto = omega arith;
-      at_is = omega (arith, g.at_is);
-      len = same_len_mid at m now part len ∙ g.len;
+      len = same_len_mid (k * n) m now part len ∙ g.len;
       done =
           λ ws h.
-          subst (λ (j : ℕ). Each n ws before (put_mid at j now part) (set counts k v) (k + 1)) (sym same)
-          (subst (λ (i : ℕ). Each n ws before (put_mid i n now part) (set counts k v) (k + 1)) (sym g.at_is)
-          (each_more n ws before now counts k (g.done ws h) (subst (λ (i : ℕ). i + n ≤ length before) g.at_is room) part r v full (omega arith) f
-          (subst (λ (i : ℕ). Written (octant_of k ws n) (take n (drop i now)) part r) g.at_is
-          (subst (λ (j : ℕ). Written (octant_of k ws n) (take j (drop at now)) part r) same (w ws h)))));
+          subst (λ (j : ℕ). Each n ws before (put_mid (k * n) j now part) (set counts k v) (k + 1)) (sym same)
+          (each_more n ws before now counts k (g.done ws h) room part r v full (omega arith) f
+          (subst (λ (j : ℕ). Written (octant_of k ws n) (take j (drop (k * n) now)) part r) same (w ws h)));
     }
   where
     full : length part ≡ n
-    full = len ∙ length-take-le m (drop at now) (omega (arith, length-drop at now, g.len)) ∙ same
-
-pub all_listed : (n : ℕ) (keys before now counts : List ℕ) (at k : ℕ) → Listing n keys before now counts at k → 8 ≤ k
-    → (ws : List ℕ) → Keyed n ws keys → Each n ws before now counts 8
-all_listed n keys before now counts at k g l ws h =
-    let e : k ≡ 8 = omega (arith, g.upto) in
-    subst (λ (i : ℕ). Each n ws before now counts i) e (g.done ws h)
+    full = len ∙ length-take-le m (drop (k * n) now) (omega (arith, length-drop (k * n) now, g.len)) ∙ same
 
 -- a list that was written in its part has no more than the part
 pub written_few : (xs before after : List ℕ) (r : ℕ) → Written xs before after r → length after ≡ length before → r ≤ length before

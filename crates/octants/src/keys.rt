@@ -10,10 +10,8 @@ fn put_axis(n: usize, vertices: &[u32], axis: usize, keys: &mut [u32], at: usize
     requires { (axis < 3) × (3 * n ≤ length vertices.now) × (at + n ≤ length keys.old) × (n ≤ 32768) }
     ensures { Filled (λ p. key_of (get_or vertices.now (3 * p + axis) 0)) n at keys.old keys.new }
 {
-    let mut p = 0;
-    while p < n {
+    for p in 0..n {
         keys[at + p] = order_key(vertices[3 * p + axis]);
-        p += 1;
     }
 }
 

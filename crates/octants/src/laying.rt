@@ -2,6 +2,7 @@
 ghost use Rattle.std.specs.Prelude.{◌≡◌, cond, List, ℕ, ◌+◌, ◌*◌, ◌≤◌, ◌<◌, length, get_or};
 ghost use Rattle.shadows.specs.Nearness.{turned, inside_of};
 ghost use Rattle.shadows.specs.Ranks.{cast_of, hide_of};
+ghost use Rattle.math.specs.declared.words3.Words3.{Words3};
 ghost use Rattle.octants.specs.Steps.Parts.{near_at, Filled, Keyed, Laid};
 
 use math::words3::Words3;
@@ -53,16 +54,14 @@ fn turn_axis(falls: bool, n: usize, keys: &[u32], rows: &mut [u32], at: usize)
     requires { (at + n ≤ length keys.now) × (at + n ≤ length rows.old) }
     ensures { Filled (λ p. turned falls (get_or keys.now (at + p) 0)) n at rows.old rows.new }
 {
-    let mut p = 0;
-    while p < n {
+    for p in 0..n {
         rows[at + p] = turned(falls, keys[at + p]);
-        p += 1;
     }
 }
 
 // How near vertex p is, x and y from its row.
 fn near_at(falls: bool, n: usize, keys: &[u32], rows: &[u32], p: usize) -> Words3
-    requires { (3 * n ≤ length keys.now) × (4 * n ≤ length rows.now) × (p < n) }
+    requires { (3 * n ≤ length keys.now) × (2 * n ≤ length rows.now) × (p < n) }
     ensures { result ≡ near_at falls n keys.now rows.now p }
 {
     Words3 {
@@ -72,25 +71,22 @@ fn near_at(falls: bool, n: usize, keys: &[u32], rows: &[u32], p: usize) -> Words
     }
 }
 
-fn put_casts(falls: bool, n: usize, keys: &[u32], rows: &mut [u32])
-    requires { (3 * n ≤ length keys.now) × (4 * n ≤ length rows.old) }
-    ensures { Filled (λ p. cast_of (near_at falls n keys.now rows.old p)) n (2 * n) rows.old rows.new }
+// What `rank` makes of how near each vertex is, from `at` on.
+fn put_ranks<F: Fn(Words3) -> u32>(
+    falls: bool,
+    n: usize,
+    keys: &[u32],
+    rows: &mut [u32],
+    at: usize,
+    rank: F,
+)
+    requires room { (3 * n ≤ length keys.now) × (2 * n ≤ at) × (at + n ≤ length rows.old) }
+    requires callable { F.IsAlwaysCallable rank }
+    ensures { (f : Words3 → ℕ) → ((a : Words3) (r : ℕ) → F.post rank a r → r ≡ f a)
+        → Filled (λ p. f (near_at falls n keys.now rows.old p)) n at rows.old rows.new }
 {
-    let mut p = 0;
-    while p < n {
-        rows[2 * n + p] = cast_of(near_at(falls, n, keys, rows, p));
-        p += 1;
-    }
-}
-
-fn put_hides(falls: bool, n: usize, keys: &[u32], rows: &mut [u32])
-    requires { (3 * n ≤ length keys.now) × (4 * n ≤ length rows.old) }
-    ensures { Filled (λ p. hide_of (near_at falls n keys.now rows.old p)) n (3 * n) rows.old rows.new }
-{
-    let mut p = 0;
-    while p < n {
-        rows[3 * n + p] = hide_of(near_at(falls, n, keys, rows, p));
-        p += 1;
+    for p in 0..n {
+        rows[at + p] = rank(near_at(falls, n, keys, rows, p));
     }
 }
 
@@ -102,6 +98,6 @@ pub fn lay_rows(octant: u32, n: usize, keys: &[u32], rows: &mut [u32])
     let falls = octant / 4 % 2 == 1;
     turn_axis(octant % 2 == 1, n, keys, rows, 0);
     turn_axis(octant / 2 % 2 == 1, n, keys, rows, n);
-    put_casts(falls, n, keys, rows);
-    put_hides(falls, n, keys, rows);
+    put_ranks(falls, n, keys, rows, 2 * n, cast_of);
+    put_ranks(falls, n, keys, rows, 3 * n, hide_of);
 }

@@ -56,14 +56,11 @@ fn list_each(
     requires { (Ready n keys.now rows.old order.old temp.old marks.old) × (8 * n ≤ length lists.old) × (8 ≤ length counts.old) }
     ensures { (ws : List ℕ) → Keyed n ws keys.now → Each n ws lists.old lists.new counts.new 8 }
 {
-    let mut at = 0;
-    let mut k = 0;
-    while k < 8 {
+    for k in 0..8 {
+        let at = k * n;
         let part = &mut lists[at..at + n];
         let count = list_octant(k as u32, n, keys, rows, order, temp, marks, part);
         counts[k] = count as u32;
-        at += n;
-        k += 1;
     }
 }
 

@@ -7,7 +7,7 @@ ghost use Rattle.polygon_boxes.specs.Numbers.{Numbers};
 
 use math::vec3::{Vec3, vadd_f, vmax, vmin};
 use math::words3::{Words3, bits, values, vmax_words, vmin_words};
-use numbers::{all_four, all_three, high3, high4, low3, low4};
+use numbers::{all_three, high3, high4, low3, low4};
 use polygon::Polygon;
 use polygon::halves::half_of;
 
@@ -113,16 +113,6 @@ fn word_box_4(a: Words3, b: Words3, c: Words3, d: Words3) -> PolygonBox
     }
 }
 
-fn four_box(a: Words3, b: Words3, c: Words3, d: Words3) -> PolygonBox
-    ensures { result ≡ four_box a b c d }
-{
-    if all_four(a, b, c, d) {
-        number_box_4(a, b, c, d)
-    } else {
-        word_box_4(a, b, c, d)
-    }
-}
-
 // From low to high, and the radius further either way.
 fn grown_box(low: Vec3, high: Vec3, radius: f32) -> PolygonBox
     ensures { result ≡ grown_box low high radius }
@@ -146,55 +136,16 @@ pub fn bbox(p: Polygon, vertices: &[u32]) -> PolygonBox
     ensures { result ≡ bbox_of p vertices.now }
 {
     match p {
-        Polygon::Triangle {
-            area: _,
-            nan: _,
-            v1,
-            v2,
-            v3,
-            e1: _,
-            e2: _,
-            e3: _,
-        } => {
-            let a = vertex_words(vertices, v1 % 32768);
-            let b = vertex_words(vertices, v2 % 32768);
-            let c = vertex_words(vertices, v3 % 32768);
-            three_box(a, b, c)
-        }
-        Polygon::Sphere {
-            index,
-            radius,
-            nan: _,
-        } => {
-            let centre = values(vertex_words(vertices, index));
-            grown_box(centre, centre, radius)
-        }
-        Polygon::Capsule {
-            i1,
-            i2,
-            radius,
-            nan: _,
-        } => {
-            let a = vertex_words(vertices, i1);
-            let b = vertex_words(vertices, i2);
-            pair_box(a, b, radius)
-        }
-        Polygon::Box { i1, i2, i3, i4 } => {
-            let a = vertex_words(vertices, half_of(i1));
-            let b = vertex_words(vertices, half_of(i2));
-            let c = vertex_words(vertices, half_of(i3));
-            let d = vertex_words(vertices, half_of(i4));
-            four_box(a, b, c, d)
-        }
-        Polygon::Cylinder {
-            i1,
-            i2,
-            radius,
-            nan: _,
-        } => {
-            let a = vertex_words(vertices, i1);
-            let b = vertex_words(vertices, i2);
-            pair_box(a, b, radius)
-        }
+        Polygon::Triangle { v1, v2, v3, .. } => kinds::triangle_box(v1, v2, v3, vertices),
+        Polygon::Sphere { index, radius, .. } => kinds::sphere_box(index, radius, vertices),
+        Polygon::Capsule { i1, i2, radius, .. } => kinds::capsule_box(i1, i2, radius, vertices),
+        Polygon::Box { i1, i2, i3, i4 } => kinds::box_box(
+            half_of(i1),
+            half_of(i2),
+            half_of(i3),
+            half_of(i4),
+            vertices,
+        ),
+        Polygon::Cylinder { i1, i2, radius, .. } => kinds::capsule_box(i1, i2, radius, vertices),
     }
 }

@@ -31,48 +31,44 @@ pub fn all_four(a: Words3, b: Words3, c: Words3, d: Words3) -> bool
     all_three(a, b, c) & are_numbers(d)
 }
 
+fn lesser(a: u32, b: u32) -> u32
+    requires { Number a × Number b }
+    ensures { (result ≡ vmin_word a b) × Number result }
+{
+    f32::to_bits(vmin(f32::from_bits(a), f32::from_bits(b)))
+}
+
+fn greater(a: u32, b: u32) -> u32
+    requires { Number a × Number b }
+    ensures { (result ≡ vmax_word a b) × Number result }
+{
+    f32::to_bits(vmax(f32::from_bits(a), f32::from_bits(b)))
+}
+
 pub fn low3(a: u32, b: u32, c: u32) -> u32
     requires { Number a × Number b × Number c }
     ensures { result ≡ vmin_word (vmin_word a b) c }
 {
-    f32::to_bits(vmin(
-        vmin(f32::from_bits(a), f32::from_bits(b)),
-        f32::from_bits(c),
-    ))
+    lesser(lesser(a, b), c)
 }
 
 pub fn high3(a: u32, b: u32, c: u32) -> u32
     requires { Number a × Number b × Number c }
     ensures { result ≡ vmax_word (vmax_word a b) c }
 {
-    f32::to_bits(vmax(
-        vmax(f32::from_bits(a), f32::from_bits(b)),
-        f32::from_bits(c),
-    ))
+    greater(greater(a, b), c)
 }
 
 pub fn low4(a: u32, b: u32, c: u32, d: u32) -> u32
     requires { Number a × Number b × Number c × Number d }
     ensures { result ≡ vmin_word (vmin_word (vmin_word a b) c) d }
 {
-    f32::to_bits(vmin(
-        vmin(
-            vmin(f32::from_bits(a), f32::from_bits(b)),
-            f32::from_bits(c),
-        ),
-        f32::from_bits(d),
-    ))
+    lesser(lesser(lesser(a, b), c), d)
 }
 
 pub fn high4(a: u32, b: u32, c: u32, d: u32) -> u32
     requires { Number a × Number b × Number c × Number d }
     ensures { result ≡ vmax_word (vmax_word (vmax_word a b) c) d }
 {
-    f32::to_bits(vmax(
-        vmax(
-            vmax(f32::from_bits(a), f32::from_bits(b)),
-            f32::from_bits(c),
-        ),
-        f32::from_bits(d),
-    ))
+    greater(greater(greater(a, b), c), d)
 }

@@ -7,16 +7,13 @@ use Rattle.maxima.proofs.kept.gather.Goals as goal
 pub loop-i-init : goal.loop-i-init
 loop-i-init c = record { upto = omega arith; len = refl; so_far = record { count = refl; list = refl } }
 
-pub returns-then-s-kept : goal.returns-then-s-kept
-returns-then-s-kept c = λ l. absurd (omega (arith, c.if-s-kept.true))
-
 pub admit-s-requires : goal.admit-s-requires
 admit-s-requires c =
-    admissible _ _ _ _ _ _ c.loop-i.invariant c.loop-i-test.true c.requires.0 c.requires.1 c.if-s-kept.false
+    admissible _ _ _ _ _ _ c.loop-i.invariant (omega arith) c.requires.0 c.requires.1 c.if-s-kept.false
 
 pub loop-i-preserved : goal.loop-i-preserved
 loop-i-preserved c =
-    one_more _ _ _ _ _ _ c.loop-i.invariant c.loop-i-test.true _ _ c.admit-s.auto.kept c.admit-s.ensures
+    one_more _ _ _ _ _ _ c.loop-i.invariant (omega arith) _ _ c.admit-s.auto.kept c.admit-s.ensures
 
 pub returns : goal.returns
-returns c = λ l. gathered _ _ _ _ _ _ c.loop-i.invariant c.loop-i-test.false
+returns c = gathered _ _ _ _ _ _ c.loop-i.invariant (omega arith)

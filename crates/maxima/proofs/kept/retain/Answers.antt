@@ -6,6 +6,7 @@ use Rattle.base.proofs.EveryLaws.{every_at}
 use Rattle.maxima.proofs.Keeping.{unthinned, same_here, taken_out, left_in, thinned}
 use native.Mathlib.Omega.{arith}
 use Rattle.maxima.proofs.kept.retain.Goals as goal
+use Rattle.maxima.proofs.kept.retain.Goals.{then-not-shadowed, else-not-shadowed}
 
 pub loop-k-init : goal.loop-k-init
 loop-k-init c = unthinned _ _
@@ -19,15 +20,15 @@ shadowed-requires c =
       c.requires.vertex,
     )
 
-pub loop-k-preserved-then-shadowed : goal.loop-k-preserved-then-shadowed
-loop-k-preserved-then-shadowed c =
-    let l = c.loop-k in
-    taken_out _ _ _ _ _ l.invariant (omega (arith, l.invariant.len)) (ap not (sym c.shadowed.ensures ∙ c.if-shadowed.true))
-
 pub loop-k-preserved : goal.loop-k-preserved
 loop-k-preserved c =
     let l = c.loop-k in
-    left_in _ _ _ _ _ l.invariant (omega (arith, l.invariant.len)) (ap not (sym c.shadowed.ensures ∙ c.if-shadowed.false))
+    elim c.if-not-shadowed.branch [
+      then-not-shadowed w ↦
+        rw (w.kept-is, w.left-is) (left_in _ _ _ _ _ l.invariant (omega (arith, l.invariant.len)) (ap not (sym c.shadowed.ensures ∙ w.if-not-shadowed.true)))
+      | else-not-shadowed w ↦
+        rw (w.kept-is, w.left-is) (taken_out _ _ _ _ _ l.invariant (omega (arith, l.invariant.len)) (ap not (sym c.shadowed.ensures ∙ w.if-not-shadowed.false)))
+    ]
 
 pub returns : goal.returns
 returns c = thinned _ _ _ _ _ c.loop-k.invariant (omega (arith, c.loop-k.invariant.len))

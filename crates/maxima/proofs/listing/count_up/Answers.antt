@@ -8,7 +8,7 @@ pub loop-i-init : goal.loop-i-init
 loop-i-init c = record { size = refl; upto = omega arith; so_far = refl }
 
 pub loop-i-preserved : goal.loop-i-preserved
-loop-i-preserved c = count_more_lem _ _ _ c.loop-i.invariant (omega (arith, c.loop-i.invariant.size, c.loop-i-test.true))
+loop-i-preserved c = count_more_lem _ _ _ c.loop-i.invariant (omega (arith, c.loop-i.invariant.size))
 
 pub returns : goal.returns
-returns c = counted_up _ _ _ c.loop-i.invariant (omega (arith, c.loop-i.invariant.size, c.loop-i-test.false))
+returns c = counted_up _ _ _ c.loop-i.invariant (omega (arith, c.loop-i.invariant.size))

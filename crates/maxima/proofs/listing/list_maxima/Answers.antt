@@ -1,8 +1,7 @@
 -- `list_maxima` meets its contract: by the loop, where what it kept had room, else by sorting.
 use mathlib.Core.Path.{sym}
-use Prim.Native.Nat.{◌≤◌}
 use mathlib.Core.List.{◌++◌}
-use lib.ListN.{length, drop}
+use lib.ListN.{drop}
 use lib.Seq.{length-take-le, length_front}
 use Rattle.maxima.proofs.Keeping.{written_out}
 use native.Mathlib.Omega.{arith}
@@ -12,23 +11,19 @@ pub slice_bounds-gather-end-2 : goal.slice_bounds-gather-end-2
 slice_bounds-gather-end-2 c =
     sym (length-take-le _ c.args.order.now (omega (arith, c.limit-most.ensures, c.requires.for_order)))
 
-pub returns-then-count-most : goal.returns-then-count-most
-returns-then-count-most c =
-    let g = c.gather-count in
-    let most = c.limit-most.result in
-    let l = length-take-le most c.args.order.now (omega (arith, c.limit-most.ensures, c.requires.for_order)) in
-    let fits : g.result ≤ length g.new.kept = omega (arith, g.auto.kept, l, c.if-count-most.true) in
-    written_out _ g.new.kept _ _ _ _ fits (g.ensures fits) c.keep.ensures
+pub returns-in-Some : goal.returns-in-Some
+returns-in-Some c =
+    written_out _ c.gather.new.kept _ _ _ _ c.in-Some.ensures c.keep.ensures
 
 pub slice_bounds-list_sorted-end-2 : goal.slice_bounds-list_sorted-end-2
 slice_bounds-list_sorted-end-2 c =
-    let l = length_front c.args.order.now c.gather-count.new.kept c.limit-most.result c.gather-count.auto.kept in
+    let l = length_front c.args.order.now c.gather.new.kept c.limit-most.result c.gather.auto.kept in
     sym (length-take-le _ _ (omega (arith, l, c.requires.for_order)))
 
 pub list_sorted-requires : goal.list_sorted-requires
 list_sorted-requires c =
-    let l = length_front c.args.order.now c.gather-count.new.kept c.limit-most.result c.gather-count.auto.kept in
-    let n = length-take-le c.args.n (c.gather-count.new.kept ++ drop c.limit-most.result c.args.order.now) (omega (arith, l, c.requires.for_order)) in (
+    let l = length_front c.args.order.now c.gather.new.kept c.limit-most.result c.gather.auto.kept in
+    let n = length-take-le c.args.n (c.gather.new.kept ++ drop c.limit-most.result c.args.order.now) (omega (arith, l, c.requires.for_order)) in (
       record {
         table = c.requires.table;
         for_order = omega (arith, n);

@@ -1,5 +1,4 @@
 -- `list_unmarked` meets its contract. The invariant is `Listing`: the unmarked of those passed, followed by what the list had.
-use Prim.Native.Nat.{◌-◌}
 use lib.Dec.{eqb}
 use lib.ListN.{get_or}
 use Rattle.maxima.proofs.ListingLaws.{Listing}
@@ -7,6 +6,3 @@ use Rattle.maxima.proofs.listing.list_unmarked.Given as goal
 
 abbrev pub invariant-loop-i : goal.invariant-loop-i
 invariant-loop-i l = Listing (λ k. eqb (get_or l.marks k 0) 0) l.n l.initial.list l.list l.count l.i
-
-abbrev pub decreases-loop-i : goal.decreases-loop-i
-decreases-loop-i l = l.n - l.i

@@ -1,5 +1,6 @@
 -- `put_axis` meets its contract. The invariant is `Filling`.
 use Rattle.octants.proofs.PartLaws.{unfilled, fill_more, filled}
+use native.Mathlib.Omega.{arith}
 use Rattle.octants.proofs.keys.put_axis.Goals as goal
 
 pub loop-p-init : goal.loop-p-init
@@ -7,7 +8,7 @@ loop-p-init c = unfilled _ _ _ _
 
 pub loop-p-preserved : goal.loop-p-preserved
 loop-p-preserved c =
-    fill_more _ _ _ _ _ _ _ c.loop-p.invariant c.loop-p-test.true c.requires.2 c.order_key.ensures
+    fill_more _ _ _ _ _ _ _ c.loop-p.invariant (omega arith) c.requires.2 c.order_key.ensures
 
 pub returns : goal.returns
-returns c = filled _ _ _ _ _ _ c.loop-p.invariant c.loop-p-test.false
+returns c = filled _ _ _ _ _ _ c.loop-p.invariant (omega arith)

@@ -1,5 +1,5 @@
 -- `put_axis` meets its contract. The invariant is `Filling`.
-use Prim.Native.Nat.{◌+◌, ◌*◌, ◌-◌}
+use Prim.Native.Nat.{◌+◌, ◌*◌}
 use lib.ListN.{get_or}
 use Rattle.float32.specs.SortOrder.{key_of}
 use Rattle.octants.proofs.PartLaws.{Filling}
@@ -7,6 +7,3 @@ use Rattle.octants.proofs.keys.put_axis.Given as goal
 
 abbrev pub invariant-loop-p : goal.invariant-loop-p
 invariant-loop-p l = Filling (λ q. key_of (get_or l.vertices (3 * q + l.axis) 0)) l.n l.at l.initial.keys l.keys l.p
-
-abbrev pub decreases-loop-p : goal.decreases-loop-p
-decreases-loop-p l = l.n - l.p
