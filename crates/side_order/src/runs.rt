@@ -28,19 +28,15 @@ pub fn link_runs(keys: &[u32], sides: &[u32], links: &mut [u32])
 {
     let mut first = 0; // of the run
     let mut run = 0; // its key and one, so that 0 is no run
-    let mut i = 0;
-    while i < sides.len() {
-        let side = sides[i];
-        let s = side as usize;
-        let key = key_at(keys, Side(side));
+    for (i, side) in sides.iter().enumerate() {
+        let s = *side as usize;
+        let key = key_at(keys, Side(*side));
         if key + 1 == run {
             links[s] = polygon_of(Side(first));
-            i += 1;
         } else {
             links[s] = link_of_first(keys, sides, i);
-            first = side;
+            first = *side;
             run = key + 1;
-            i += 1;
         }
     }
 }
