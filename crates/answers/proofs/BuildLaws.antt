@@ -1,9 +1,8 @@
 -- What the build's answer says of the C interface's. Assumes nothing.
 use Rattle.std.specs.Prelude.{◌≡◌, ℕ}
 use mathlib.Core.Path.{ap, ◌∙◌}
-use Rattle.bvh.specs.declared.slices.Build.{Build}
 use Rattle.bvh.specs.declared.slices.Lengths.{Lengths}
-use Rattle.bvh.specs.Build.{Entries, kept, nodes_written, trees_written, order_written}
+use Rattle.bvh.specs.Build.{Build, Entries, kept, nodes_written, trees_written, order_written}
 use Rattle.bvh.specs.Entry.{Outputs, Answered}
 use Rattle.answers.specs.declared.trees.BuildAnswer.{BuildAnswer}
 use Rattle.answers.specs.Trees.{build_answer, Answers}

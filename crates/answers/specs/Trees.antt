@@ -1,15 +1,13 @@
 -- What the C interface answers of a build and of a header. Definitions only.
-use Rattle.std.specs.Prelude.{◌≡◌, ℕ, ◌+◌, ◌*◌, List, from_bits}
+use Rattle.std.specs.Prelude.{◌≡◌, ℕ, ◌+◌, ◌*◌, List, from_bits, Ok, Err}
 use Rattle.std.specs.Float.{binary32}
 use Rattle.math.specs.declared.vec3.Vec3.{Vec3}
 use Rattle.math.specs.declared.words3.Words3.{Words3}
 use Rattle.header.specs.declared.Bvh.{Bvh}
 use Rattle.header.specs.Header.{header_answer, header_exit}
-use Rattle.bvh.specs.declared.slices.Build.{Build}
-use Rattle.bvh.specs.declared.slices.Build.TheVariants.{Built, Refused}
 use Rattle.bvh.specs.declared.slices.BuiltTree.{BuiltTree}
 use Rattle.bvh.specs.declared.slices.Lengths.{Lengths}
-use Rattle.bvh.specs.Build.{Entries, answer_of, kept, number_of, nodes_written, trees_written, order_written}
+use Rattle.bvh.specs.Build.{Build, Entries, answer_of, kept, number_of, nodes_written, trees_written, order_written}
 use Rattle.bvh.specs.Entry.{Outputs}
 use Rattle.answers.specs.declared.trees.BuildAnswer.{BuildAnswer}
 
@@ -49,8 +47,8 @@ tree_values t =
 
 -- Rule B1 (01, What each operation turns down): the number and the values of each answer.
 abbrev pub build_answer : Build → BuildAnswer
-build_answer (Built t) = tree_values t
-build_answer (Refused r) = refused_by (number_of (Refused r))
+build_answer (Ok t) = tree_values t
+build_answer (Err r) = refused_by (number_of (Err r))
 
 -- Rule B2 (01, Build): the answer r of a build of the entries e, and the three outputs whole.
 pub record Answers (e : Entries) (th : ℕ) (l : Lengths) (r : BuildAnswer) (before after : Outputs) : Type 0 where

@@ -3,7 +3,7 @@ ghost use Rattle.std.specs.Prelude.{◌≡◌};
 ghost use Rattle.bvh.specs.Build.{refusal_number as buildRefusal};
 ghost use Rattle.answers.specs.Trees.{refused_by, tree_values, build_answer, work_len};
 
-use bvh::slices::{Build, BuildRefusal, BuiltTree};
+use bvh::slices::{BuildRefusal, BuiltTree};
 use math::vec3::Vec3;
 use math::words3::Words3;
 use records::scale::Scale;
@@ -76,12 +76,12 @@ fn build_refusal_number(why: BuildRefusal) -> u32
     }
 }
 
-pub fn build_answer(b: Build) -> BuildAnswer
+pub fn build_answer(b: Result<BuiltTree, BuildRefusal>) -> BuildAnswer
     ensures { result ≡ build_answer b }
 {
     match b {
-        Build::Built(t) => tree_values(t),
-        Build::Refused(why) => refused(build_refusal_number(why)),
+        Ok(t) => tree_values(t),
+        Err(why) => refused(build_refusal_number(why)),
     }
 }
 

@@ -1,5 +1,6 @@
 -- What `bounds_composite_tree` answers, from what `composite_tree` does; and point 3 of the request for it: where there is a tree, the answer is that of a
 -- build at threshold 1 over the children's items, of which PointThree speaks; what it says of these items is said of the children.
+use Rattle.std.specs.Prelude.{Ok, Err}
 use Prim.Native.Nat.{ℕ, ◌<◌}
 use native.Mathlib.Omega.{arith}
 use mathlib.Core.Bool.{cond}
@@ -10,10 +11,8 @@ use lib.ListN.{length}
 use Rattle.base.specs.Lists.{occurrences}
 use Rattle.math.specs.declared.aabb.Aabb.{Aabb}
 use Rattle.bvh.specs.Build as B
-use Rattle.bvh.specs.Build.{refusal_number, nodes_written, trees_written, order_written}
+use Rattle.bvh.specs.Build.{Build, refusal_number, nodes_written, trees_written, order_written}
 use Rattle.bvh.specs.Entry.{Outputs}
-use Rattle.bvh.specs.declared.slices.Build.{Build}
-use Rattle.bvh.specs.declared.slices.Build.TheVariants.{Built, Refused}
 use Rattle.bvh.specs.declared.slices.Lengths.{Lengths}
 use Rattle.composite.specs.declared.building.CompositeTree.{CompositeTree}
 use Rattle.composite.specs.declared.building.CompositeTree.TheVariants.{NoTree, Tree}
@@ -50,11 +49,11 @@ module _ (n : ℕ) (ws : List ℕ) (l : Lengths) (r : BuildAnswer) (before after
   of_build NoTree same a zero some =
       let none : r.nodes ≡ 0 = ap (λ (v : BuildAnswer). v.nodes) (a.answer ∙ ap composite_answer (sym same)) in
       absurd (omega (arith, none, some))
-  of_build (Tree (Refused why)) same a zero some =
+  of_build (Tree (Err why)) same a zero some =
       let m : r.refusal ≡ refusal_number why = ap (λ (v : BuildAnswer). v.refusal) (a.answer ∙ ap composite_answer (sym same)) in
       absurd (omega (arith, m, zero, refusal_numbered why))
-  of_build (Tree (Built b)) same a zero some =
-      let told : Answered child_limit n ws l (Tree (Built b)) before after =
+  of_build (Tree (Ok b)) same a zero some =
+      let told : Answered child_limit n ws l (Tree (Ok b)) before after =
       record {
         answer = same;
         nodes_are = a.nodes_are ∙ ap (λ (y : CompositeTree). kept y (nodes_written (child_entries n ws) 1) before.nodes) (sym same);

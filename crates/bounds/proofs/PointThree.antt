@@ -1,6 +1,7 @@
 -- Point 3 of the request at the C interface, from the contracts of `bounds_build_bvh` and `bounds_walk` alone. The answer with refusal 0 is that of a tree
 -- that was built; tree's PointThree says of its records and of the walk over them what is to be shown; and the positions handed out are the first
 -- places of the output.
+use Rattle.std.specs.Prelude.{Ok, Err}
 use Prim.Native.Nat.{ℕ}
 use native.Mathlib.Omega.{arith}
 use mathlib.Core.List.{List, Memᴰ}
@@ -9,12 +10,10 @@ use lib.ListN.{length, take, drop}
 use lib.Seq.{take-append_seam}
 use Rattle.base.specs.Lists.{over}
 use Rattle.math.specs.declared.aabb.Aabb.{Aabb}
-use Rattle.bvh.specs.declared.slices.Build.{Build}
-use Rattle.bvh.specs.declared.slices.Build.TheVariants.{Built, Refused}
 use Rattle.bvh.specs.declared.slices.BuiltTree.{BuiltTree}
 use Rattle.bvh.specs.declared.slices.Lengths.{Lengths}
 use Rattle.bvh.specs.declared.items.BvhItem.{BvhItem}
-use Rattle.bvh.specs.Build.{Entries, answer_of, kept, refusal_number, nodes_written, trees_written, order_written}
+use Rattle.bvh.specs.Build.{Build, Entries, answer_of, kept, refusal_number, nodes_written, trees_written, order_written}
 use Rattle.bvh.specs.Entry.{Outputs, Answered, entries_in, entries_of}
 use Rattle.walk.specs.Walks.{Outcome}
 use Rattle.tree.specs.Pair.{outcome_of, Delivered}
@@ -32,13 +31,13 @@ use Rattle.answers.specs.WalkAnswers.{counted, WalkAnswered}
 -- the tree that an answer with refusal 0 tells of
 record OfTree (e : Entries) (th : ℕ) (l : Lengths) (r : BuildAnswer) (before after : Outputs) : Type 0 where
   pub tree : BuiltTree
-  pub answered : Answered e th l (Built tree) before after
+  pub answered : Answered e th l (Ok tree) before after
   pub values : r ≡ tree_values tree
 
 of_tree : (e : Entries) (th : ℕ) (l : Lengths) (r : BuildAnswer) (before after : Outputs) (x : Build) → x ≡ answer_of e th l
     → Answers e th l r before after → r.refusal ≡ 0 → OfTree e th l r before after
 unfolding refused_by
-of_tree e th l r before after (Built b) same a zero =
+of_tree e th l r before after (Ok b) same a zero =
     record {
       tree = b;
       answered =
@@ -50,7 +49,7 @@ of_tree e th l r before after (Built b) same a zero =
           };
       values = a.answer ∙ ap build_answer (sym same);
     }
-of_tree e th l r before after (Refused why) same a zero =
+of_tree e th l r before after (Err why) same a zero =
     let n : r.refusal ≡ refusal_number why = ap (λ (x : BuildAnswer). x.refusal) (a.answer ∙ ap build_answer (sym same)) in
     absurd (omega (arith, n, zero, refusal_numbered why))
 

@@ -1,5 +1,5 @@
 -- A build over the words of some items is the build over the items: the words hold the same entries, or the build is refused before it reads one.
-use Rattle.std.specs.Prelude.{◌≡◌, ℕ, zero, suc, ◌+◌, ◌*◌, ◌<◌, ◌≤◌, Bool, true, false, cond, ◌&&◌, ◌||◌, ltb, leb, ◌⊎◌, List, [], ◌∷◌, ◌++◌, length, get_or, take, drop}
+use Rattle.std.specs.Prelude.{◌≡◌, ℕ, zero, suc, ◌+◌, ◌*◌, ◌<◌, ◌≤◌, Bool, true, false, cond, ◌&&◌, ◌||◌, ltb, leb, ◌⊎◌, List, [], ◌∷◌, ◌++◌, length, get_or, take, drop, Err}
 use native.Mathlib.Nat.{add_assoc}
 use native.Mathlib.Omega.{arith}
 use mathlib.Core.Path.{refl, sym, ap, ◌∙◌, subst}
@@ -9,12 +9,10 @@ use mathlib.Core.List.{append-nil}
 use lib.Ieee.{Float}
 use lib.Seq.{take_at, get_or-append-add}
 use borrow.Author.Tests.{lt-ltb, leb-true, leb-false}
-use Rattle.bvh.specs.declared.slices.Build.{Build}
-use Rattle.bvh.specs.declared.slices.Build.TheVariants.{Refused}
 use Rattle.bvh.specs.declared.slices.BuildRefusal.TheVariants.{TooManyEntries, ThresholdOutside, BufferTooShort}
 use Rattle.bvh.specs.declared.slices.Lengths.{Lengths}
 use Rattle.bvh.specs.declared.items.BvhItem.{BvhItem}
-use Rattle.bvh.specs.Build.{Entries, short, answer_by, kept, nodes_written, trees_written_by, order_written}
+use Rattle.bvh.specs.Build.{Build, Entries, short, answer_by, kept, nodes_written, trees_written_by, order_written}
 use Rattle.entries.specs.Boxes.{box_from}
 use Rattle.bvh.specs.Entry.{entries_of, entries_in, taken_of, Outputs, lent, lengths_of, AnsweredBy}
 use Rattle.bvh.specs.Items.{item_words, words_of, box_in, present, marked}
@@ -61,7 +59,7 @@ unread_answer limit e e' th l same (inr few) = rw (← same, short_words e.numbe
 
 -- a refusal that comes before the nodes are counted
 abbrev early : Bool → Bool → Build
-early many outside = cond many (Refused TooManyEntries) (cond outside (Refused ThresholdOutside) (Refused BufferTooShort))
+early many outside = cond many (Err TooManyEntries) (cond outside (Err ThresholdOutside) (Err BufferTooShort))
 
 early_keeps : (many outside : Bool) (w w' before : List ℕ) → kept (early many outside) w before ≡ kept (early many outside) w' before
 early_keeps true outside w w' before = refl

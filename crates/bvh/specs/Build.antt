@@ -1,11 +1,9 @@
 -- What a build answers, and what its output buffers then hold. Definitions only.
-use Rattle.std.specs.Prelude.{ℕ, ◌+◌, ◌-◌, ◌*◌, Bool, cond, ◌||◌, List, ◌++◌, length, nat_lt}
+use Rattle.std.specs.Prelude.{ℕ, ◌+◌, ◌-◌, ◌*◌, Bool, cond, ◌||◌, List, ◌++◌, length, nat_lt, Result, Ok, Err}
 use Rattle.base.specs.Lists.{over}
 use Rattle.entries.specs.declared.boxes.BoxWords.{BoxWords}
 use Rattle.records.specs.declared.scale.Scale.{Scale}
 use Rattle.records.specs.Scale.{scale_of_box}
-use Rattle.bvh.specs.declared.slices.Build.{Build}
-use Rattle.bvh.specs.declared.slices.Build.TheVariants.{Built, Refused}
 use Rattle.bvh.specs.declared.slices.BuildRefusal.{BuildRefusal}
 use Rattle.bvh.specs.declared.slices.BuildRefusal.TheVariants.{TooManyEntries, ThresholdOutside, BufferTooShort, TooManyNodes}
 use Rattle.bvh.specs.declared.slices.BuiltTree.{BuiltTree}
@@ -53,17 +51,21 @@ built_by limit e th t =
 abbrev pub built_of : Entries → ℕ → Node → BuiltTree
 built_of e th t = built_by range_limit e th t
 
+-- What a build answers: its tree's values, or why it is refused.
+abbrev pub Build : Type 0
+Build = Result BuiltTree BuildRefusal
+
 -- Rule B1 (01, Build): the checks in the order written, at a limit of nodes a range.
 unfoldable pub answer_by : ℕ → Entries → ℕ → Lengths → Build
 unfolding tree_of
 answer_by limit e th l =
     let n = e.number in
     let t = tree_of e th in
-    cond (nat_lt 32767 n) (Refused TooManyEntries)
-    (cond (nat_lt th 1 || nat_lt 32767 th) (Refused ThresholdOutside)
-    (cond (short n l) (Refused BufferTooShort)
-    (cond (nat_lt 32767 (size t)) (Refused TooManyNodes)
-    (Built (built_by limit e th t)))))
+    cond (nat_lt 32767 n) (Err TooManyEntries)
+    (cond (nat_lt th 1 || nat_lt 32767 th) (Err ThresholdOutside)
+    (cond (short n l) (Err BufferTooShort)
+    (cond (nat_lt 32767 (size t)) (Err TooManyNodes)
+    (Ok (built_by limit e th t)))))
 
 -- Rule B1, at the limit of a build.
 abbrev pub answer_of : Entries → ℕ → Lengths → Build
@@ -78,13 +80,13 @@ refusal_number TooManyNodes = 4
 
 -- 01's number for each answer, 0 where it is not refused
 abbrev pub number_of : Build → ℕ
-number_of (Built b) = 0
-number_of (Refused r) = refusal_number r
+number_of (Ok b) = 0
+number_of (Err r) = refusal_number r
 
 -- what a buffer holds at the end: on a refusal what it had
 abbrev pub kept : Build → List ℕ → List ℕ → List ℕ
-kept (Built b) written before = over written before
-kept (Refused r) written before = before
+kept (Ok b) written before = over written before
+kept (Err r) written before = before
 
 -- Rules R10 to R12: the node records and the padding.
 unfoldable pub nodes_written : Entries → ℕ → List ℕ

@@ -1,10 +1,9 @@
 -- What a build is of and what it leaves, as its entry point and its core say it. Definitions only.
 use Rattle.std.specs.Prelude.{◌≡◌, ℕ, ◌+◌, ◌*◌, cond, ◌&&◌, List, length, nat_le}
 use Rattle.std.specs.Prelude.{Float}
-use Rattle.bvh.specs.declared.slices.Build.{Build}
 use Rattle.bvh.specs.declared.items.BvhItem.{BvhItem}
 use Rattle.bvh.specs.declared.slices.Lengths.{Lengths}
-use Rattle.bvh.specs.Build.{Entries, answer_by, kept, nodes_written, trees_written_by, order_written}
+use Rattle.bvh.specs.Build.{Build, Entries, answer_by, kept, nodes_written, trees_written_by, order_written}
 use Rattle.entries.specs.Boxes.{box_from}
 use Rattle.bvh.specs.Items.{box_in, present, marked}
 use Rattle.rows.specs.Ranges.{range_limit}

@@ -5,7 +5,7 @@ ghost use Rattle.bvh.specs.Entry.{entries_of, taken_of, outputs, lent, lengths_o
 ghost use Rattle.bvh.specs.Items.{item_words};
 
 use crate::items::BvhItem;
-use crate::slices::Build;
+use crate::slices::{BuildRefusal, BuiltTree};
 use entries::boxes::BoxWords;
 use rows::ranges::RANGE_LIMIT;
 
@@ -45,7 +45,7 @@ pub fn build_bvh(
     stack: &mut [u32],
     rows: &mut [u32],
     centres: &mut [f32],
-) -> Build
+) -> Result<BuiltTree, BuildRefusal>
     ensures { Answered (entries_of items.now) threshold
         (lengths_of (outputs node_bytes.old tree_bytes.old order.old)
         (lent entries.old places.old temp.old stack.old rows.old centres.old)) result

@@ -32,12 +32,6 @@ pub enum BuildRefusal {
     TooManyNodes,
 }
 
-#[derive(Clone, Copy)]
-pub enum Build {
-    Built(BuiltTree),
-    Refused(BuildRefusal),
-}
-
 // The lengths of the lent buffers.
 #[derive(Clone, Copy)]
 pub struct Lengths {
@@ -218,7 +212,7 @@ pub fn build_core(
     stack: &mut [u32],
     rows: &mut [u32],
     centres: &mut [f32],
-) -> Build
+) -> Result<BuiltTree, BuildRefusal>
     requires { 0 < limit }
     ensures { AnsweredBy limit (entries_in n (take (7 * n) entries.now)) threshold
         (lengths_of (outputs node_bytes.old tree_bytes.old order.old)
@@ -227,13 +221,13 @@ pub fn build_core(
         (outputs node_bytes.new tree_bytes.new order.new) }
 {
     if 32767 < n {
-        return Build::Refused(BuildRefusal::TooManyEntries);
+        return Err(BuildRefusal::TooManyEntries);
     }
     if threshold < 1 {
-        return Build::Refused(BuildRefusal::ThresholdOutside);
+        return Err(BuildRefusal::ThresholdOutside);
     }
     if 32767 < threshold {
-        return Build::Refused(BuildRefusal::ThresholdOutside);
+        return Err(BuildRefusal::ThresholdOutside);
     }
     let lengths = Lengths {
         nodes: node_bytes.len(),
@@ -247,7 +241,7 @@ pub fn build_core(
         centres: centres.len(),
     };
     if too_short(n, lengths) {
-        return Build::Refused(BuildRefusal::BufferTooShort);
+        return Err(BuildRefusal::BufferTooShort);
     }
     let task = Task {
         n: n,
@@ -257,9 +251,9 @@ pub fn build_core(
     let listed = &entries[..7 * n];
     let planted = plant(listed, places, temp, stack, rows, centres, task);
     if 32767 < planted.nodes {
-        return Build::Refused(BuildRefusal::TooManyNodes);
+        return Err(BuildRefusal::TooManyNodes);
     }
-    Build::Built(write_tree(
+    Ok(write_tree(
         listed, node_bytes, tree_bytes, order, places, temp, rows, task, planted,
     ))
 }

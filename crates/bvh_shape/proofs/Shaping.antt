@@ -1,6 +1,6 @@
 -- What `shape_bvh` asks of its two calls and has of them, over plain lists. One edge pass, behind the rebuild, leaves what the source's two passes do
 -- (rebuild LinkTrace).
-use Rattle.std.specs.Prelude.{◌≡◌, ℕ, zero, suc, ◌*◌, ◌%◌, ◌≤◌, Bool, true, ◌&&◌, leb, List, ◌++◌, length, get_or, take, drop}
+use Rattle.std.specs.Prelude.{◌≡◌, ℕ, zero, suc, ◌*◌, ◌%◌, ◌≤◌, Bool, true, ◌&&◌, leb, List, ◌++◌, length, get_or, take, drop, Ok, Err}
 use native.Mathlib.Omega.{arith}
 use mathlib.Core.Path.{refl, sym, ap, ap₂, subst, ◌∙◌}
 use borrow.Author.Tests.{le-ltb}
@@ -8,10 +8,8 @@ use lib.ListN.{length-map, get_or-append}
 use lib.Seq.{take_at}
 use Rattle.base.proofs.NumberLaws.{below_wider}
 use Rattle.base.specs.Lists.{Below, over}
-use Rattle.bvh.specs.Build.{Entries, kept, nodes_written, trees_written_by, order_written}
+use Rattle.bvh.specs.Build.{Build, Entries, kept, nodes_written, trees_written_by, order_written}
 use Rattle.bvh.specs.Entry.{Outputs, Lent, lent, lengths_of}
-use Rattle.bvh.specs.declared.slices.Build.{Build}
-use Rattle.bvh.specs.declared.slices.Build.TheVariants.{Built, Refused}
 use Rattle.bvh.specs.declared.slices.BuiltTree.{BuiltTree}
 use Rattle.corners.specs.Corners.{kinds_known}
 use Rattle.edges.specs.Edges as E
@@ -89,10 +87,10 @@ module _ (p v : ℕ) (polygons numbers vertices out : List ℕ) (t : Outputs) (w
     abbrev at : List ℕ
     at = positions_of b.transform b.center vertices v
 
-    ordered : (x : BuiltTree) → r ≡ Built x → t'.order ≡ over (order_written e leaf_limit) t.order
+    ordered : (x : BuiltTree) → r ≡ Ok x → t'.order ≡ over (order_written e leaf_limit) t.order
     ordered x is = a.built.order_is ∙ ap (λ (y : Build). kept y (order_written e leaf_limit) t.order) is
 
-    in_leaf_order : (x : BuiltTree) → r ≡ Built x → take p t'.order ≡ order_written e leaf_limit
+    in_leaf_order : (x : BuiltTree) → r ≡ Ok x → take p t'.order ≡ order_written e leaf_limit
     in_leaf_order x is = order_taken p polygons at t.order t'.order room.for_order (ordered x is)
 
     abbrev moved : List ℕ
@@ -103,7 +101,7 @@ module _ (p v : ℕ) (polygons numbers vertices out : List ℕ) (t : Outputs) (w
 
     pub sortable : (entries places temp stack rows : List ℕ) → length out₁ ≡ length out → length entries ≡ length w.entries
         → length places ≡ length w.places → length temp ≡ length w.temp → length stack ≡ length w.stack
-        → length rows ≡ length w.rows → (x : BuiltTree) → r ≡ Built x → Sortable p numbers out₁ t'.order entries places temp stack rows w.sorted
+        → length rows ≡ length w.rows → (x : BuiltTree) → r ≡ Ok x → Sortable p numbers out₁ t'.order entries places temp stack rows w.sorted
     sortable entries places temp stack rows eo ee ep et es er x is =
         record {
           work =
@@ -129,14 +127,14 @@ module _ (p v : ℕ) (polygons numbers vertices out : List ℕ) (t : Outputs) (w
 
     records_are : (out₂ : List ℕ) (y : Build) → out₁ ≡ kept y moved out → out₂ ≡ linked_if y p out₁
         → out₂ ≡ kept y (polygons_of8 b p v polygons vertices) out
-    records_are out₂ (Built x) was is =
+    records_are out₂ (Ok x) was is =
         is
         ∙ ap (linked p) was
         ∙ linked_over p moved out moved_length
         ∙ ap (λ (l : List ℕ). over l out) (sym (polygons_given b p v polygons vertices room.records))
-    records_are out₂ (Refused why) was is = is ∙ was
+    records_are out₂ (Err why) was is = is ∙ was
 
-    numbers_are : (sorted : List ℕ) → sorted ≡ kept r (in_order (take p t'.order) numbers) w.sorted → (x : BuiltTree) → r ≡ Built x
+    numbers_are : (sorted : List ℕ) → sorted ≡ kept r (in_order (take p t'.order) numbers) w.sorted → (x : BuiltTree) → r ≡ Ok x
         → take p sorted ≡ in_order (order_of8 b p v polygons vertices) numbers
     numbers_are sorted q x is =
         let order = order_written e leaf_limit in

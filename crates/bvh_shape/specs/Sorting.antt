@@ -1,9 +1,7 @@
 -- What is asked and left where polygons that stand in the order of the leaves are linked, and their materials' numbers put in it. Definitions only.
-use Rattle.std.specs.Prelude.{◌≡◌, ℕ, ◌≤◌, true, List, length, take}
+use Rattle.std.specs.Prelude.{◌≡◌, ℕ, ◌≤◌, true, List, length, take, Ok, Err}
 use Rattle.base.specs.Lists.{Below}
-use Rattle.bvh.specs.Build.{kept}
-use Rattle.bvh.specs.declared.slices.Build.{Build}
-use Rattle.bvh.specs.declared.slices.Build.TheVariants.{Built, Refused}
+use Rattle.bvh.specs.Build.{Build, kept}
 use Rattle.corners.specs.Corners.{kinds_known}
 use Rattle.edges.specs.Edges.{linked}
 use Rattle.edges.specs.Steps.Work.{Work}
@@ -23,8 +21,8 @@ linked_in_order p order polygons = linked p (reordered_of p order polygons)
 
 -- Rule K7 (the second edge pass): the polygons with their links where there is a tree
 abbrev pub linked_if : Build → ℕ → List ℕ → List ℕ
-linked_if (Built t) p out = linked p out
-linked_if (Refused why) p out = out
+linked_if (Ok t) p out = linked p out
+linked_if (Err why) p out = out
 
 pub record Sorted (r : Build) (p : ℕ) (numbers order out out' sorted sorted' : List ℕ) : Type 0 where
   pub linked_are : out' ≡ linked_if r p out

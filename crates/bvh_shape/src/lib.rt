@@ -1,15 +1,14 @@
 // What kind 8 makes of the polygons of a mesh: their tree, the polygons in the order of its leaves, and the numbers of their materials in it.
 #![tactic(auto)]
 
-ghost use Rattle.std.specs.Prelude.{◌≡◌, ◌<◌};
+ghost use Rattle.std.specs.Prelude.{◌≡◌, ◌<◌, Ok};
 ghost use Rattle.bvh.specs.Entry.{outputs};
-ghost use Rattle.bvh.specs.declared.slices.Build.TheVariants.{Built};
 ghost use Rattle.bvh.specs.declared.slices.BuiltTree.{BuiltTree};
 ghost use Rattle.prepared.specs.Answers.{bvh_work};
 ghost use Rattle.prepared.specs.Steps.Shapes.{BvhRoom, BvhShapedBy};
 ghost use Rattle.bvh_shape.specs.Sorting.{Sortable, Sorted};
 
-use bvh::slices::Build;
+use bvh::slices::{BuildRefusal, BuiltTree};
 use edges::entry::update_edge_indices;
 use meshes::{Bound, Counts};
 use rebuild::rebuild_bvh;
@@ -18,7 +17,7 @@ use reorder::renumbering::reorder_bytes;
 // Links the polygons that stand in the order of the leaves, and puts the numbers of their materials in it; nothing where the tree is refused.
 // The links are never refused here.
 fn link_and_sort(
-    built: Build,
+    built: Result<BuiltTree, BuildRefusal>,
     p: usize,
     numbers: &[u8],
     polygons_out: &mut [u8],
@@ -30,12 +29,12 @@ fn link_and_sort(
     rows: &mut [u32],
     sorted: &mut [u8],
 )
-    requires { (t : BuiltTree) → built ≡ Built t → Sortable p numbers.now polygons_out.old order.now entries.old places.old temp.old
+    requires { (t : BuiltTree) → built ≡ Ok t → Sortable p numbers.now polygons_out.old order.now entries.old places.old temp.old
         stack.old rows.old sorted.old }
     ensures { Sorted built p numbers.now order.now polygons_out.old polygons_out.new
         sorted.old sorted.new }
 {
-    if let Build::Built(_) = built {
+    if let Ok(_) = built {
         update_edge_indices(polygons_out, p, entries, places, temp, stack, rows);
         reorder_bytes(numbers, order, p, sorted);
     }
@@ -63,7 +62,7 @@ pub fn shape_bvh(
     sorted: &mut [u8],
     centres: &mut [f32],
     limit: usize,
-) -> Build
+) -> Result<BuiltTree, BuildRefusal>
     requires { (BvhRoom counts.polygons counts.vertices polygons.now numbers.now vertices.now polygons_out.old
         (outputs node_bytes.old tree_bytes.old order.old)
         (bvh_work entries.old places.old temp.old stack.old rows.old points.old sorted.old centres.old)) × (0 < limit) × (0 < counts.polygons) }

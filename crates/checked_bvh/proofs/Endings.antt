@@ -1,8 +1,8 @@
 -- How the lists are left at the end, from what `finish` leaves and the values of frame and quantum.
-use Rattle.std.specs.Prelude.{◌≡◌, ℕ, List}
+use Rattle.bvh.specs.Build.{Build}
+use Rattle.std.specs.Prelude.{◌≡◌, ℕ, List, Ok, Err}
 use native.Mathlib.Omega.{arith}
 use mathlib.Core.Path.{refl, sym, ap, subst, ◌∙◌}
-use Rattle.bvh.specs.declared.slices.Build.{Build}
 use Rattle.bvh.specs.declared.slices.BuildRefusal.{BuildRefusal}
 use Rattle.bvh.specs.declared.slices.BuiltTree.{BuiltTree}
 use Rattle.finishing.specs.Steps.Finishing.{Stored, Listed}
@@ -18,12 +18,12 @@ use Rattle.vertices.specs.Vertices.{quantum_of_box}
 use Rattle.checked_bvh.specs.Steps.Ending.{values_in, Written, Ended}
 
 abbrev is_built : Build → ℕ
-is_built (Build.Built t) = 1
-is_built (Build.Refused why) = 0
+is_built (Ok t) = 1
+is_built (Err why) = 0
 
 abbrev tree_in : BuiltTree → Build → BuiltTree
-tree_in other (Build.Built t) = t
-tree_in other (Build.Refused why) = other
+tree_in other (Ok t) = t
+tree_in other (Err why) = other
 
 module _ (f f' : Frame) (ef : f ≡ f') (q : Vec3) (eq : q ≡ quantum_of_box (box_of f)) where
   quantum_is : q ≡ quantum_of_box (box_of f')
@@ -46,11 +46,11 @@ module _ (built : Build) (c : Counts) (mats sorted vertices list list' indices i
   abbrev used : List ℕ
   used = values_of c.materials mats c.polygons sorted
 
-  pub ended_built : (y : BuiltTree) → built ≡ Build.Built y → (f : Frame) → f ≡ frame_of y → (q : Vec3) → q ≡ quantum_of_box (box_of f) → (m : ℕ)
+  pub ended_built : (y : BuiltTree) → built ≡ Ok y → (f : Frame) → f ≡ frame_of y → (q : Vec3) → q ≡ quantum_of_box (box_of f) → (m : ℕ)
       → Listed used list list' indices indices' m → Stored q vertices c.vertices stored stored' floats floats'
       → Ended built c mats sorted vertices list list' indices indices' stored stored' floats floats' (Bvh (record { frame = f; quantum = q; materials = m }) y)
   ended_built y told f ef q eq m l s =
-      let same : (x : BuiltTree) → built ≡ Build.Built x → y ≡ x = λ x h. ap (tree_in y) (sym told ∙ h) in
+      let same : (x : BuiltTree) → built ≡ Ok x → y ≡ x = λ x h. ap (tree_in y) (sym told ∙ h) in
       record {
         tree =
             λ x h. (
@@ -61,7 +61,7 @@ module _ (built : Build) (c : Counts) (mats sorted vertices list list' indices i
         too_many = λ why h. absurd (omega (arith, ap is_built (sym told ∙ h)));
       }
 
-  pub ended_refused : (why : BuildRefusal) → built ≡ Build.Refused why → list' ≡ list → indices' ≡ indices → stored' ≡ stored → floats' ≡ floats
+  pub ended_refused : (why : BuildRefusal) → built ≡ Err why → list' ≡ list → indices' ≡ indices → stored' ≡ stored → floats' ≡ floats
       → Ended built c mats sorted vertices list list' indices indices' stored stored' floats floats' (Refused TooManyNodes)
   ended_refused why told el ei es ef =
       record {

@@ -1,8 +1,8 @@
 -- What the parts of `prepare_bvh` ask of a mesh that passes the checks, and what they answer together. From the contracts of the parts.
-use Rattle.std.specs.Prelude.{◌≡◌, ℕ, false, List, length}
+use Rattle.bvh.specs.Build.{Build}
+use Rattle.std.specs.Prelude.{◌≡◌, ℕ, false, List, length, Ok, Err}
 use mathlib.Core.Path.{refl, sym}
 use Rattle.bvh.specs.Entry.{Outputs}
-use Rattle.bvh.specs.declared.slices.Build.{Build}
 use Rattle.finishing.specs.Steps.Finishing.{StoreRoom, ListRoom}
 use Rattle.meshes.specs.declared.Check.TheVariants.{Passed}
 use Rattle.meshes.specs.declared.GeometryLengths.{GeometryLengths}
@@ -46,12 +46,12 @@ module _ (g : Mesh) (b : Lists) (t : Outputs) (w : BvhWork) (others : GeometryLe
       → BvhShaped g.bound g.counts.polygons g.counts.vertices g.polygons g.numbers g.vertices b.polygons out t t' sorted built
       → Ended built g.counts g.mats sorted g.vertices b.list list b.indices indices b.stored stored b.floats floats r
       → BvhAnswered g (bvh_lengths g b t w others) r b (lists list indices out stored floats) t t'
-  tree_answered some (Build.Built x) list indices out stored floats sorted t' r shaped ended =
+  tree_answered some (Ok x) list indices out stored floats sorted t' r shaped ended =
       let e = ended.tree x refl in
       rw e.0
       (bvh_done g (bvh_lengths g b t w others) eight passed some b (lists list indices out stored floats) t t' sorted x _ well.1.enough.for_numbers shaped
       e.1.listed e.1.kept)
-  tree_answered some (Build.Refused why) list indices out stored floats sorted t' r shaped ended =
+  tree_answered some (Err why) list indices out stored floats sorted t' r shaped ended =
       let e = ended.too_many why refl in
       rw e.0
       (bvh_too_many g (bvh_lengths g b t w others) eight passed some b (lists list indices out stored floats) t t' sorted why shaped

@@ -5,7 +5,7 @@ ghost use Rattle.finishing.specs.Steps.Finishing.{StoreRoom, ListRoom};
 ghost use Rattle.prepared.specs.declared.Prepare.TheVariants.{Empty};
 ghost use Rattle.checked_bvh.specs.Steps.Ending.{values_in, Written, Ended};
 
-use bvh::slices::Build;
+use bvh::slices::{BuildRefusal, BuiltTree};
 use finishing::finish;
 use meshes::{Bound, Counts, PrepareRefusal};
 use prepared::frames::{frame_of, quantum_of};
@@ -55,7 +55,7 @@ pub fn finish_empty(
 
 // With a tree, the lists in its frame, with the materials in the order of its leaves; nothing where it is refused.
 pub fn finish_tree(
-    built: Build,
+    built: Result<BuiltTree, BuildRefusal>,
     counts: Counts,
     mats: &[u32],
     vertices: &[u32],
@@ -71,7 +71,7 @@ pub fn finish_tree(
         list.old list.new indices.old indices.new
         stored.old stored.new floats.old floats.new result }
 {
-    let Build::Built(tree) = built else {
+    let Ok(tree) = built else {
         return Prepare::Refused(PrepareRefusal::TooManyNodes);
     };
     let frame = frame_of(tree);

@@ -1,6 +1,6 @@
 -- Point 3 of the request for a composite's tree, from the contracts of `composite_tree` and of a walk alone: a composite's tree is a build at threshold 1
 -- over its children's items, so tree's PointThree speaks of it, and a position is a child's place.
-use Rattle.std.specs.Prelude.{◌≡◌, ℕ, ◌*◌, ◌<◌, Bool, true, false, cond, ltb, List, [], ◌∷◌, length, take, drop}
+use Rattle.std.specs.Prelude.{◌≡◌, ℕ, ◌*◌, ◌<◌, Bool, true, false, cond, ltb, List, [], ◌∷◌, length, take, drop, Ok, Err}
 use native.Mathlib.Omega.{arith}
 use mathlib.Core.List.{Memᴰ}
 use mathlib.Core.Path.{refl, sym, ap, ap₂, ◌∙◌, subst}
@@ -9,10 +9,8 @@ use Rattle.base.specs.Lists.{occurrences, over}
 use Rattle.math.specs.declared.aabb.Aabb.{Aabb}
 use Rattle.bvh.specs.Build as B
 use Rattle.bvh.specs.Entry as E
-use Rattle.bvh.specs.Build.{refusal_number}
+use Rattle.bvh.specs.Build.{Build, refusal_number}
 use Rattle.bvh.specs.Entry.{Outputs, entries_of}
-use Rattle.bvh.specs.declared.slices.Build.{Build}
-use Rattle.bvh.specs.declared.slices.Build.TheVariants.{Built, Refused}
 use Rattle.bvh.specs.declared.slices.BuildRefusal.{BuildRefusal}
 use Rattle.bvh.specs.declared.slices.BuildRefusal.TheVariants.{TooManyEntries, BufferTooShort}
 use Rattle.bvh.specs.declared.slices.BuiltTree.{BuiltTree}
@@ -35,33 +33,33 @@ use Rattle.composite.proofs.ItemLaws.{length_items, present_listed, listed_prese
 
 -- ---- the build
 
-not_refused : (b : BuiltTree) (why : BuildRefusal) → Built b ≡ Refused why → ⊥
+not_refused : (b : BuiltTree) (why : BuildRefusal) → Ok b ≡ Err why → ⊥
 not_refused b why e = let n : 0 ≡ refusal_number why = ap B.number_of e in omega (arith, refusal_numbered why)
 
 -- a test that would refuse did not
-past : (t : Bool) (why : BuildRefusal) (rest : Build) (b : BuiltTree) → Built b ≡ cond t (Refused why) rest → Built b ≡ rest
+past : (t : Bool) (why : BuildRefusal) (rest : Build) (b : BuiltTree) → Ok b ≡ cond t (Err why) rest → Ok b ≡ rest
 past true why rest b e = absurd (not_refused b why e)
 past false why rest b e = e
 
 -- the build that an answer tells of; without a tree, one that is refused
 abbrev build_in : CompositeTree → Build
-build_in NoTree = Refused TooManyEntries
+build_in NoTree = Err TooManyEntries
 build_in (Tree x) = x
 
-has_tree : (t : Bool) (x : Build) (b : BuiltTree) → Tree (Built b) ≡ cond t (Tree x) NoTree → Built b ≡ x
+has_tree : (t : Bool) (x : Build) (b : BuiltTree) → Tree (Ok b) ≡ cond t (Tree x) NoTree → Ok b ≡ x
 has_tree true x b e = ap build_in e
 has_tree false x b e = absurd (not_refused b TooManyEntries (ap build_in e))
 
 module _ (limit n : ℕ) (ws : List ℕ) (l : Lengths) (before after : Outputs) (b : BuiltTree)
-    (a : Answered limit n ws l (Tree (Built b)) before after) where
-  built_is : Built b ≡ B.answer_of (child_entries n ws) 1 l
+    (a : Answered limit n ws l (Tree (Ok b)) before after) where
+  built_is : Ok b ≡ B.answer_of (child_entries n ws) 1 l
   unfolding tree_above_by build_by
   built_is =
       past (ltb (length ws) (24 * n)) BufferTooShort _ b
       (past (ltb 32767 n) TooManyEntries _ b (has_tree (ltb limit n) (build_by range_limit n ws l) b a.answer))
 
   -- the tree of a composite is a build's
-  pub as_build : E.Answered (child_entries n ws) 1 l (Built b) before after
+  pub as_build : E.Answered (child_entries n ws) 1 l (Ok b) before after
   as_build = record { answer = built_is; nodes_are = a.nodes_are; trees_are = a.trees_are; order_is = a.order_is }
 
 -- ---- positions are places
@@ -140,7 +138,7 @@ module _ (n : ℕ) (ws : List ℕ) where
 
 -- Whatever the limit of children: a composite that has a tree, and a walk over that tree's records.
 pub composite_delivers : (limit n : ℕ) (ws : List ℕ) (l : Lengths) (before after : Outputs) (b : BuiltTree)
-    → Answered limit n ws l (Tree (Built b)) before after
+    → Answered limit n ws l (Tree (Ok b)) before after
     → (query : Aabb) (out out' : List ℕ) (w : Walk) → WalkedOver n query b after out out' w
     → Delivers n ws query b after out out' w
 composite_delivers limit n ws l before after b a query out out' w p =

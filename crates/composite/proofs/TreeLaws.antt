@@ -1,13 +1,11 @@
 -- What `tree_above` answers, case by case. Where the children are put into words, the build over the words is the build over their items (bvh EntryWords).
-use Rattle.std.specs.Prelude.{◌≡◌, ℕ, ◌*◌, ◌<◌, ◌≤◌, List, length, take}
+use Rattle.std.specs.Prelude.{◌≡◌, ℕ, ◌*◌, ◌<◌, ◌≤◌, List, length, take, Err}
 use mathlib.Core.Path.{refl, sym, ap, ◌∙◌, subst}
 use borrow.Author.Tests.{lt-ltb, le-ltb}
 use lib.Ieee.{Float}
-use Rattle.bvh.specs.Build.{answer_by}
+use Rattle.bvh.specs.Build.{Build, answer_by}
 use Rattle.bvh.specs.Entry as E
 use Rattle.bvh.specs.Entry.{Outputs, entries_in, taken_of, lent, lengths_of}
-use Rattle.bvh.specs.declared.slices.Build.{Build}
-use Rattle.bvh.specs.declared.slices.Build.TheVariants.{Refused}
 use Rattle.bvh.specs.declared.slices.BuildRefusal.TheVariants.{TooManyEntries, BufferTooShort}
 use Rattle.bvh.specs.declared.slices.Lengths.{Lengths}
 use Rattle.bvh.specs.declared.items.BvhItem.{BvhItem}
@@ -31,18 +29,18 @@ module _ (range limit n : ℕ) (ws : List ℕ) (l : Lengths) where
   pub none : (o : Outputs) → n ≤ limit → AnsweredBy range limit n ws l NoTree o o
   none o h = record { answer = none_is h; nodes_are = refl; trees_are = refl; order_is = refl }
 
-  many_is : limit < n → 32767 < n → Tree (Refused TooManyEntries) ≡ tree_above_by range limit n ws l
+  many_is : limit < n → 32767 < n → Tree (Err TooManyEntries) ≡ tree_above_by range limit n ws l
   unfolding tree_above_by build_by
   many_is h many = rw (lt-ltb limit n h, lt-ltb 32767 n many)
 
-  pub too_many : (o : Outputs) → limit < n → 32767 < n → AnsweredBy range limit n ws l (Tree (Refused TooManyEntries)) o o
+  pub too_many : (o : Outputs) → limit < n → 32767 < n → AnsweredBy range limit n ws l (Tree (Err TooManyEntries)) o o
   too_many o h many = record { answer = many_is h many; nodes_are = refl; trees_are = refl; order_is = refl }
 
-  short_is : limit < n → n ≤ 32767 → length ws < 24 * n → Tree (Refused BufferTooShort) ≡ tree_above_by range limit n ws l
+  short_is : limit < n → n ≤ 32767 → length ws < 24 * n → Tree (Err BufferTooShort) ≡ tree_above_by range limit n ws l
   unfolding tree_above_by build_by
   short_is h few short = rw (lt-ltb limit n h, le-ltb 32767 n few, lt-ltb (length ws) (24 * n) short)
 
-  pub too_short : (o : Outputs) → limit < n → n ≤ 32767 → length ws < 24 * n → AnsweredBy range limit n ws l (Tree (Refused BufferTooShort)) o o
+  pub too_short : (o : Outputs) → limit < n → n ≤ 32767 → length ws < 24 * n → AnsweredBy range limit n ws l (Tree (Err BufferTooShort)) o o
   too_short o h few short = record { answer = short_is h few short; nodes_are = refl; trees_are = refl; order_is = refl }
 
   -- ---- built

@@ -1,12 +1,10 @@
 -- Rule C3: the tree of a composite over its children's computed boxes, and what `composite_tree` answers (01, composites; bounds.rs, Composite::build_bvh).
 -- Definitions only.
-use Rattle.std.specs.Prelude.{◌≡◌, ℕ, zero, suc, ◌+◌, ◌*◌, cond, List, [], ◌∷◌, length, nat_lt}
+use Rattle.std.specs.Prelude.{◌≡◌, ℕ, zero, suc, ◌+◌, ◌*◌, cond, List, [], ◌∷◌, length, nat_lt, Err}
 use Rattle.bvh.specs.Build as B
-use Rattle.bvh.specs.Build.{Entries, nodes_written, trees_written_by, order_written}
+use Rattle.bvh.specs.Build.{Build, Entries, nodes_written, trees_written_by, order_written}
 use Rattle.bvh.specs.Entry.{entries_of, Outputs}
 use Rattle.bvh.specs.Items.{absent}
-use Rattle.bvh.specs.declared.slices.Build.{Build}
-use Rattle.bvh.specs.declared.slices.Build.TheVariants.{Refused}
 use Rattle.bvh.specs.declared.slices.BuildRefusal.TheVariants.{TooManyEntries, BufferTooShort}
 use Rattle.bvh.specs.declared.slices.Lengths.{Lengths}
 use Rattle.bvh.specs.declared.items.BvhItem.{BvhItem}
@@ -39,8 +37,8 @@ child_entries n ws = entries_of (child_items ws 0 n)
 -- at a limit of nodes a range.
 unfoldable pub build_by : ℕ → ℕ → List ℕ → Lengths → Build
 build_by range n ws l =
-    cond (nat_lt 32767 n) (Refused TooManyEntries)
-    (cond (nat_lt (length ws) (24 * n)) (Refused BufferTooShort) (B.answer_by range (child_entries n ws) 1 l))
+    cond (nat_lt 32767 n) (Err TooManyEntries)
+    (cond (nat_lt (length ws) (24 * n)) (Err BufferTooShort) (B.answer_by range (child_entries n ws) 1 l))
 
 -- Rule C3: a tree above so many children, and else none, without a look at any buffer; at a limit of nodes a range, and at that of a build.
 unfoldable pub tree_above_by : ℕ → ℕ → ℕ → List ℕ → Lengths → CompositeTree

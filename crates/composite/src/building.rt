@@ -8,7 +8,7 @@ ghost use Rattle.composite.specs.Trees.{child_limit, child_item, child_items, An
 use crate::children::computed_box;
 use base::numbers::Place;
 use bvh::items::BvhItem;
-use bvh::slices::{Build, BuildRefusal};
+use bvh::slices::{BuildRefusal, BuiltTree};
 use math::words3::Words3;
 use rows::ranges::RANGE_LIMIT;
 
@@ -19,7 +19,7 @@ pub const CHILD_LIMIT: usize = 5;
 #[derive(Clone, Copy)]
 pub enum CompositeTree {
     NoTree,
-    Tree(Build),
+    Tree(Result<BuiltTree, BuildRefusal>),
 }
 
 fn absent() -> BvhItem
@@ -90,10 +90,10 @@ fn tree_above(
         return CompositeTree::NoTree;
     }
     if n > 32767 {
-        return CompositeTree::Tree(Build::Refused(BuildRefusal::TooManyEntries));
+        return CompositeTree::Tree(Err(BuildRefusal::TooManyEntries));
     }
     if children.len() < 24 * n {
-        return CompositeTree::Tree(Build::Refused(BuildRefusal::BufferTooShort));
+        return CompositeTree::Tree(Err(BuildRefusal::BufferTooShort));
     }
     put_items(children, n, bvh::entry::taken(n, entries.len()), entries);
     CompositeTree::Tree(bvh::slices::build_core(

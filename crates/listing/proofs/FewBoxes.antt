@@ -1,5 +1,5 @@
 -- A build of at most 256 child boxes at threshold 1 is not refused, and the lines of what it writes are the listing.
-use Rattle.std.specs.Prelude.{◌≡◌, ℕ, ◌+◌, ◌*◌, ◌/◌, ◌≤◌, false, List, ◌++◌, length}
+use Rattle.std.specs.Prelude.{◌≡◌, ℕ, ◌+◌, ◌*◌, ◌/◌, ◌≤◌, false, List, ◌++◌, length, Ok, Err}
 use native.Mathlib.Decide.{dec_le}
 use native.Mathlib.Omega.{arith}
 use mathlib.Core.Path.{sym, ap, ap₂, ◌∙◌, subst}
@@ -8,12 +8,10 @@ use Rattle.base.proofs.NumberLaws.{length_up, up_below}
 use Rattle.base.proofs.WithinLaws.{below_within, within_below}
 use Rattle.base.proofs.NumberLaws.{below_wider}
 use Rattle.base.specs.Lists.{over, Below}
-use Rattle.bvh.specs.declared.slices.Build.{Build}
-use Rattle.bvh.specs.declared.slices.Build.TheVariants.{Built, Refused}
 use Rattle.bvh.specs.declared.slices.BuildRefusal.{BuildRefusal}
 use Rattle.bvh.specs.declared.slices.BuiltTree.{BuiltTree}
 use Rattle.bvh.specs.declared.slices.Lengths.{Lengths}
-use Rattle.bvh.specs.Build.{Entries, tree_of, built_of, short, answer_of, answer_by, kept, nodes_written, trees_written}
+use Rattle.bvh.specs.Build.{Build, Entries, tree_of, built_of, short, answer_of, answer_by, kept, nodes_written, trees_written}
 use Rattle.rows.specs.Steps.Decode.{SmallRows}
 use Rattle.bvh.specs.Entry.{Answered, Outputs}
 use Rattle.rows.specs.Output.{capacity_of}
@@ -84,7 +82,7 @@ module _ (e : Entries) (f : FewEntries e) where
   entries_size : size (tree_of e 1) ≤ 513
   entries_size = omega (arith, size_few e, f.few, f.most)
 
-  not_refused : (l : Lengths) → Roomy l → answer_of e 1 l ≡ Built (built_of e 1 (tree_of e 1))
+  not_refused : (l : Lengths) → Roomy l → answer_of e 1 l ≡ Ok (built_of e 1 (tree_of e 1))
   unfolding answer_by tree_of
   not_refused l r =
       rw (le-ltb 32767 e.number (omega (arith, f.few)), not_short e.number l f.few r, le-ltb 32767 (size (tree_of e 1)) (omega (arith, entries_size)))
@@ -114,7 +112,7 @@ module _ (e : Entries) (f : FewEntries e) where
 -- It is not refused; its values, and the bytes of its records.
 pub record Made (e : Entries) (r : Build) (before after : Outputs) : Type 0 where
   pub few : FewEntries e
-  pub answer : r ≡ Built (built_of e 1 (tree_of e 1))
+  pub answer : r ≡ Ok (built_of e 1 (tree_of e 1))
   pub nodes_are : after.nodes ≡ over (nodes_written e 1) before.nodes
   pub trees_are : after.trees ≡ over (trees_written e 1) before.trees
 
@@ -134,14 +132,14 @@ made {d} {e} {l} {r} {before} {after} same few room a =
     made_by e few room (subst (λ (x : Entries). Answered x 1 l r before after) same a)
 
 module _ (e : Entries) {r : Build} {before after : Outputs} (m : Made e r before after) where
-  pub made_not : (w : BuildRefusal) → r ≡ Refused w → ⊥
+  pub made_not : (w : BuildRefusal) → r ≡ Err w → ⊥
   made_not w is =
       let z : ◌≡◌ {A = ℕ} 0 1 = cc m.answer in
       omega arith
 
-  module _ (b : BuiltTree) (is : r ≡ Built b) where
+  module _ (b : BuiltTree) (is : r ≡ Ok b) where
     tree_is : b ≡ built_of e 1 (tree_of e 1)
-    tree_is = let same : ◌≡◌ {A = Build} (Built b) (Built (built_of e 1 (tree_of e 1))) = sym is ∙ m.answer in cc
+    tree_is = let same : ◌≡◌ {A = Build} (Ok b) (Ok (built_of e 1 (tree_of e 1))) = sym is ∙ m.answer in cc
 
     pub nodes_few : b.nodes ≤ 513
     nodes_few = omega (arith, entries_size e m.few, ap (λ (t : BuiltTree). t.nodes) tree_is)

@@ -6,7 +6,6 @@ ghost use Rattle.listing.specs.Text.{Put};
 
 use crate::lines::{put_counts, put_node_lines, put_refusal, put_tree_lines};
 use crate::reading::read_children;
-use bvh::slices::Build;
 use rows::ranges::RANGE_LIMIT;
 
 // The lines of some node and tree records, after that of count and capacity.
@@ -59,7 +58,7 @@ fn put_children(out: &mut [u8], input: &[u8]) -> usize
         &mut centres,
     );
     // So few boxes are not refused.
-    let Build::Built(tree) = built else {
+    let Ok(tree) = built else {
         return 0;
     };
     put_records(

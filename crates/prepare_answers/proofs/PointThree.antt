@@ -1,6 +1,7 @@
 -- Point 3 of the request at the C interface for a prepared mesh, from the contracts of `bounds_prepare_bvh` and `bounds_walk` alone. An answer that is not
 -- refused, of a mesh with polygons, has a tree; an outcome of a walk is some walk's; and of these prepared_delivers speaks.
-use Rattle.std.specs.Prelude.{◌≡◌, ℕ, ◌<◌, Bool, true, false, cond, T, eqb, List, length, get_or, take}
+use Rattle.bvh.specs.Build.{Build}
+use Rattle.std.specs.Prelude.{◌≡◌, ℕ, ◌<◌, Bool, true, false, cond, T, eqb, List, length, get_or, take, Ok, Err}
 use native.Mathlib.Omega.{arith}
 use mathlib.Core.List.{Memᴰ}
 use mathlib.Core.Path.{refl, sym, ap, subst, ◌∙◌}
@@ -8,8 +9,6 @@ use borrow.Author.Tests.{ne_eqb}
 use Rattle.base.proofs.Truth.{cond_both}
 use Rattle.base.specs.Lists.{occurrences, over}
 use Rattle.bvh.specs.Entry.{Outputs}
-use Rattle.bvh.specs.declared.slices.Build.{Build}
-use Rattle.bvh.specs.declared.slices.Build.TheVariants as B
 use Rattle.bvh.specs.declared.slices.BuiltTree.{BuiltTree}
 use Rattle.math.specs.declared.aabb.Aabb.{Aabb}
 use Rattle.math.specs.declared.vec3.Vec3.{Vec3}
@@ -95,8 +94,8 @@ record Treed (s : Prepare) : Type 0 where
   is : s ≡ Bvh values tree
 
 with_tree_lem : (values : Values) (b : Build) → number_of (with_tree values b) ≡ 0 → Treed (with_tree values b)
-with_tree_lem values (B.Built t) zero = record { values = values; tree = t; is = refl }
-with_tree_lem values (B.Refused why) zero = absurd (some_number TooManyNodes zero)
+with_tree_lem values (Ok t) zero = record { values = values; tree = t; is = refl }
+with_tree_lem values (Err why) zero = absurd (some_number TooManyNodes zero)
 
 -- where neither test holds, the last is taken
 last_of : (s t : Bool) (x y z : Prepare) → s ≡ false → t ≡ false → (number_of z ≡ 0 → Treed z) → number_of (cond s x (cond t y z)) ≡ 0

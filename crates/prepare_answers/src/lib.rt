@@ -8,7 +8,6 @@ ghost use Rattle.octants.specs.Answers.{without};
 ghost use Rattle.prepare_answers.specs.Interface.{no_frame, with_values, refused_by, answer_in};
 
 use answers::trees::{BuildAnswer, build_answer, refused};
-use bvh::slices::Build;
 use math::vec3::Vec3;
 use math::words3::Words3;
 use meshes::{Frame, PrepareRefusal};
@@ -117,7 +116,7 @@ pub fn answer(p: Prepare) -> PrepareAnswer
         Prepare::Bvh(values, tree) => with_values(
             values,
             no_octants(),
-            build_answer(Build::Built(tree)),
+            build_answer(Ok(tree)),
         ),
         Prepare::Empty(values) => with_values(values, no_octants(), refused(0)),
         Prepare::Refused(why) => refused_by(refusal_number(why)),

@@ -1,14 +1,13 @@
 -- What `prepare_bvh` answers of a mesh that passes the checks: a tree, none where there are no polygons, or one that has too many nodes. From the contracts of
 -- its parts.
-use Rattle.std.specs.Prelude.{◌≡◌, ℕ, ◌≤◌, Bool, true, false, cond, eqb, ltb, List, map, length, take}
+use Rattle.std.specs.Prelude.{◌≡◌, ℕ, ◌≤◌, Bool, true, false, cond, eqb, ltb, List, map, length, take, Ok, Err}
 use native.Mathlib.Omega.{arith}
 use mathlib.Core.Path.{refl, sym, ap, subst, ◌∙◌}
 use borrow.Author.Tests.{eq-eqb, ne_eqb}
 use lib.Seq.{take-take}
 use Rattle.base.specs.Lists.{over}
-use Rattle.bvh.specs.Build.{Entries, tree_of, built_of}
+use Rattle.bvh.specs.Build.{Build, Entries, tree_of, built_of}
 use Rattle.bvh.specs.Entry.{Outputs}
-use Rattle.bvh.specs.declared.slices.Build.{Build}
 use Rattle.bvh.specs.declared.slices.BuildRefusal.{BuildRefusal}
 use Rattle.bvh.specs.declared.slices.BuildRefusal.TheVariants as Why
 use Rattle.bvh.specs.declared.slices.BuiltTree.{BuiltTree}
@@ -42,19 +41,19 @@ use Rattle.prepared.proofs.Answering.{bvh_decides}
 use Rattle.prepared.proofs.MaterialLaws.{order, order_long, order_within, second_pass_in_order}
 
 abbrev is_built : Build → ℕ
-is_built (Build.Built t) = 1
-is_built (Build.Refused why) = 0
+is_built (Ok t) = 1
+is_built (Err why) = 0
 
 abbrev tree_in : BuiltTree → Build → BuiltTree
-tree_in other (Build.Built t) = t
-tree_in other (Build.Refused why) = other
+tree_in other (Ok t) = t
+tree_in other (Err why) = other
 
-only_built : (s : Bool) (t x : BuiltTree) (why : BuildRefusal) → Build.Built t ≡ cond s (Build.Refused why) (Build.Built x) → t ≡ x
+only_built : (s : Bool) (t x : BuiltTree) (why : BuildRefusal) → Ok t ≡ cond s (Err why) (Ok x) → t ≡ x
 only_built true t x why h = absurd (omega (arith, ap is_built h))
 only_built false t x why h = ap (tree_in t) h
 
 -- a tree that is not refused is the definition's
-tree_built : (t : BuiltTree) (e : Entries) → Build.Built t ≡ tree_answer e → t ≡ built_of e leaf_limit (tree_of e leaf_limit)
+tree_built : (t : BuiltTree) (e : Entries) → Ok t ≡ tree_answer e → t ≡ built_of e leaf_limit (tree_of e leaf_limit)
 unfolding tree_answer_by
 tree_built t e h = only_built (ltb 32767 (size (tree_of e leaf_limit))) t (built_of e leaf_limit (tree_of e leaf_limit)) Why.TooManyNodes h
 
@@ -75,12 +74,12 @@ module _ (g : Mesh) (l : Lengths) (eight : g.bound.kind ≡ 8)
   abbrev e8 : Entries
   e8 = entries_of8 g.bound g.counts.polygons g.counts.vertices g.polygons g.vertices
 
-  tree_is : (x : BuiltTree) → Build.Built x ≡ tree_answer e8 → x ≡ tree_of8 g.bound g.counts.polygons g.counts.vertices g.polygons g.vertices
+  tree_is : (x : BuiltTree) → Ok x ≡ tree_answer e8 → x ≡ tree_of8 g.bound g.counts.polygons g.counts.vertices g.polygons g.vertices
   unfolding tree_of8
   tree_is x h = tree_built x e8 h
 
   -- what is stored in units of the tree's box
-  by_quantum : (f : Vec3 → List ℕ → ℕ → List ℕ) (before : List ℕ) (x : BuiltTree) → Build.Built x ≡ tree_answer e8
+  by_quantum : (f : Vec3 → List ℕ → ℕ → List ℕ) (before : List ℕ) (x : BuiltTree) → Ok x ≡ tree_answer e8
       → over (f (quantum_of_box (box_of (frame_of x))) g.vertices g.counts.vertices) before
       ≡ over (f (quantum_of_box (box_of (frame_of (tree_of8 g.bound g.counts.polygons g.counts.vertices g.polygons g.vertices)))) g.vertices
       g.counts.vertices) before
@@ -101,7 +100,7 @@ module _ (g : Mesh) (l : Lengths) (eight : g.bound.kind ≡ 8)
 
     pub bvh_too_many : (b b' : Lists) (t t' : Outputs) (sorted : List ℕ) (why : BuildRefusal)
         → BvhShaped g.bound g.counts.polygons g.counts.vertices g.polygons g.numbers g.vertices b.polygons b'.polygons t t' sorted
-        (Build.Refused why)
+        (Err why)
         → b'.list ≡ b.list → b'.indices ≡ b.indices → b'.stored ≡ b.stored → b'.floats ≡ b.floats
         → BvhAnswered g l (Refused TooManyNodes) b b' t t'
     bvh_too_many b b' t t' sorted why s el ei es ef =
@@ -118,7 +117,7 @@ module _ (g : Mesh) (l : Lengths) (eight : g.bound.kind ≡ 8)
 
     pub bvh_done : (b b' : Lists) (t t' : Outputs) (sorted : List ℕ) (x : BuiltTree) (m : ℕ) → g.counts.polygons ≤ length g.numbers
         → BvhShaped g.bound g.counts.polygons g.counts.vertices g.polygons g.numbers g.vertices b.polygons b'.polygons t t' sorted
-        (Build.Built x)
+        (Ok x)
         → Listed (values_of g.counts.materials g.mats g.counts.polygons sorted) b.list b'.list b.indices b'.indices m
         → Stored (quantum_of_box (box_of (frame_of x))) g.vertices g.counts.vertices b.stored b'.stored b.floats b'.floats
         → BvhAnswered g l (Bvh (record { frame = frame_of x; quantum = quantum_of_box (box_of (frame_of x)); materials = m }) x) b b' t t'
@@ -161,7 +160,7 @@ module _ (g : Mesh) (l : Lengths) (eight : g.bound.kind ≡ 8)
     pub bvh_by : (x : BuiltTree) (f : Frame) → f ≡ frame_of x → (q : Vec3) → q ≡ quantum_of_box (box_of f)
         → (b b' : Lists) (t t' : Outputs) (sorted : List ℕ) (m : ℕ) → g.counts.polygons ≤ length g.numbers
         → BvhShaped g.bound g.counts.polygons g.counts.vertices g.polygons g.numbers g.vertices b.polygons b'.polygons t t' sorted
-        (Build.Built x)
+        (Ok x)
         → Listed (values_of g.counts.materials g.mats g.counts.polygons sorted) b.list b'.list b.indices b'.indices m
         → Stored q g.vertices g.counts.vertices b.stored b'.stored b.floats b'.floats
         → BvhAnswered g l (Bvh (record { frame = f; quantum = q; materials = m }) x) b b' t t'

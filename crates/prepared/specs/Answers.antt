@@ -1,9 +1,9 @@
 -- What preparing a mesh answers, and what every buffer then holds (01, Prepare). Definitions only.
-use Rattle.std.specs.Prelude.{◌≡◌, ℕ, cond, List, length, ◌==◌}
+use Rattle.bvh.specs.Build.{Build}
+use Rattle.std.specs.Prelude.{◌≡◌, ℕ, cond, List, length, ◌==◌, Ok, Err}
 use Rattle.std.specs.Prelude.{Float}
 use Rattle.base.specs.Lists.{over}
 use Rattle.bvh.specs.Entry.{Outputs}
-use Rattle.bvh.specs.declared.slices.Build.{Build}
 use Rattle.meshes.specs.declared.BvhLengths.{BvhLengths}
 use Rattle.meshes.specs.declared.Check.{Check}
 use Rattle.meshes.specs.declared.Check.TheVariants.{Passed, Fails}
@@ -25,8 +25,8 @@ use Rattle.prepared.specs.Shrunk.{octants_left}
 
 -- Rule K4 (01, Prepare, 4): a tree of over 32,767 nodes is the last that is refused.
 abbrev pub with_tree : Values → Build → Prepare
-with_tree values (Build.Built t) = Bvh values t
-with_tree values (Build.Refused why) = Refused TooManyNodes
+with_tree values (Ok t) = Bvh values t
+with_tree values (Err why) = Refused TooManyNodes
 
 abbrev pub answer_after : Mesh → Check → Prepare
 answer_after g (Fails why) = Refused why

@@ -1,5 +1,6 @@
 -- Point 3 of the request for a prepared mesh with a tree, from the contracts of `shape_bvh` and of a walk alone: the tree is a build at threshold 4 over
 -- the polygons' boxes, so tree's PointThree speaks of it; a position is a polygon's number in the prepared list (Orders, Boxes).
+use Rattle.std.specs.Prelude.{Ok}
 use Prim.Native.Nat.{ℕ, ◌+◌, ◌*◌, ◌≤◌, ◌<◌}
 use native.Mathlib.Omega.{arith}
 use mathlib.Core.Bool.{Bool, true, false, cond}
@@ -12,7 +13,6 @@ use lib.Seq.{take-append_seam, take_at}
 use Rattle.base.specs.Lists.{occurrences, Among, over}
 use Rattle.bvh.specs.Build.{Entries, answer_of, answer_by, short, order_written, nodes_written, trees_written}
 use Rattle.bvh.specs.Entry.{Outputs, Answered, entries_in}
-use Rattle.bvh.specs.declared.slices.Build.TheVariants.{Built}
 use Rattle.bvh.specs.declared.slices.BuiltTree.{BuiltTree}
 use Rattle.bvh.specs.declared.slices.Lengths.{Lengths}
 use Rattle.bvh_shape.proofs.Given.{positions, given, leaves, entries_given}
@@ -77,7 +77,7 @@ module _ (b : Bound) (p v : ℕ) (polygons vertices : List ℕ) (few : p ≤ 327
   abbrev order : List ℕ
   order = leaves b p v polygons vertices
 
-  module _ (build : Answered e leaf_limit (enough p) (Built x) before after) (out₀ written : List ℕ)
+  module _ (build : Answered e leaf_limit (enough p) (Ok x) before after) (out₀ written : List ℕ)
       (prepared : written ≡ over (polygons_of8 b p v polygons vertices) out₀) (query : Aabb) (out out' : List ℕ) (w : Walk)
       (walk : WalkedOver p query x after out out' w) where
     abbrev o : Outcome
@@ -175,7 +175,7 @@ module _ (b : Bound) (p v : ℕ) (polygons vertices : List ℕ) (few : p ≤ 327
         }
 
   -- from what is known of the tree that a mesh was given, and of the buffer that its records were written to
-  pub of_tree : Built x ≡ tree_answer (entries_of8 b p v polygons vertices)
+  pub of_tree : Ok x ≡ tree_answer (entries_of8 b p v polygons vertices)
       → after.nodes ≡ over (nodes_written (entries_of8 b p v polygons vertices) leaf_limit) before.nodes
       → after.trees ≡ over (trees_written (entries_of8 b p v polygons vertices) leaf_limit) before.trees
       → after.order ≡ over (order_written (entries_of8 b p v polygons vertices) leaf_limit) before.order
@@ -197,7 +197,7 @@ module _ (b : Bound) (p v : ℕ) (polygons vertices : List ℕ) (few : p ≤ 327
 -- Of the polygons that `shape_bvh` shaped with a tree, and a walk over that tree's records. `polygons` are bytes.
 pub shape_delivers : (b : Bound) (p v : ℕ) (polygons numbers vertices out₀ out₁ : List ℕ) (before after : Outputs) (sorted : List ℕ) (x : BuiltTree)
     → p ≤ 32767 → 16 * p ≤ length polygons → ((i : ℕ) → get_or polygons i 0 < 256)
-    → BvhShaped b p v polygons numbers vertices out₀ out₁ before after sorted (Built x)
+    → BvhShaped b p v polygons numbers vertices out₀ out₁ before after sorted (Ok x)
     → (query : Aabb) (out out' : List ℕ) (w : Walk) → WalkedOver p query x after out out' w
     → Delivers b p v polygons vertices out₁ query x after out out' w
 shape_delivers b p v polygons numbers vertices out₀ out₁ before after sorted x few records each s =

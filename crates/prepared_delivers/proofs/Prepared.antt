@@ -1,5 +1,6 @@
 -- Point 3 of the request for a prepared mesh, from the contracts of `prepare_bvh` and of a walk alone: an answer with a tree tells of the checks that were
 -- passed and of the tree that was written, and of these Delivers speaks.
+use Rattle.std.specs.Prelude.{Ok, Err}
 use Prim.Native.Nat.{ℕ, ◌<◌}
 use native.Mathlib.Omega.{arith}
 use mathlib.Core.Bool.{Bool, true, false, cond, not, ◌||◌}
@@ -9,10 +10,8 @@ use lib.Dec.{eqb}
 use lib.ListN.{get_or}
 use Rattle.base.proofs.Truth.{both_yes}
 use Rattle.base.specs.Lists.{over, one_if}
-use Rattle.bvh.specs.Build.{nodes_written, trees_written, order_written}
+use Rattle.bvh.specs.Build.{Build, nodes_written, trees_written, order_written}
 use Rattle.bvh.specs.Entry.{Outputs}
-use Rattle.bvh.specs.declared.slices.Build.{Build}
-use Rattle.bvh.specs.declared.slices.Build.TheVariants as B
 use Rattle.bvh.specs.declared.slices.BuildRefusal.TheVariants.{TooManyNodes}
 use Rattle.bvh.specs.declared.slices.BuiltTree.{BuiltTree}
 use Rattle.math.specs.declared.aabb.Aabb.{Aabb}
@@ -45,10 +44,10 @@ trees (Empty values) = 0
 trees (Refused why) = 0
 
 abbrev build_in : Prepare → Build
-build_in (Geometry values counts) = B.Refused TooManyNodes
-build_in (Bvh values x) = B.Built x
-build_in (Empty values) = B.Refused TooManyNodes
-build_in (Refused why) = B.Refused TooManyNodes
+build_in (Geometry values counts) = Err TooManyNodes
+build_in (Bvh values x) = Ok x
+build_in (Empty values) = Err TooManyNodes
+build_in (Refused why) = Err TooManyNodes
 
 without_tree : (r : Prepare) (values : Values) (x : BuiltTree) → trees r ≡ 0 → Bvh values x ≡ r → ⊥
 without_tree r values x none e = let one : 1 ≡ trees r = ap trees e in omega (arith, none)
@@ -59,9 +58,9 @@ module _ (values : Values) (x : BuiltTree) where
   past true r rest none e = absurd (without_tree r values x none e)
   past false r rest none e = (refl, e)
 
-  of_built : (v : Values) (y : Build) → Bvh values x ≡ with_tree v y → B.Built x ≡ y
-  of_built v (B.Built t) e = ap build_in e
-  of_built v (B.Refused why) e = absurd (without_tree (with_tree v (B.Refused why)) values x refl e)
+  of_built : (v : Values) (y : Build) → Bvh values x ≡ with_tree v y → Ok x ≡ y
+  of_built v (Ok t) e = ap build_in e
+  of_built v (Err why) e = absurd (without_tree (with_tree v (Err why)) values x refl e)
 
   passed : (g : Mesh) (c : Check) → Bvh values x ≡ answer_after g c → c ≡ Passed
   passed g Passed e = refl
@@ -71,7 +70,7 @@ record Told (g : Mesh) (l : Lengths) (x : BuiltTree) : Type 0 where
   no_geometry : is_geometry g.bound.kind ≡ false
   checked : check_of g l ≡ Passed
   some : eqb g.counts.polygons 0 ≡ false
-  tree : B.Built x ≡ tree_answer (entries_of8 g.bound g.counts.polygons g.counts.vertices g.polygons g.vertices)
+  tree : Ok x ≡ tree_answer (entries_of8 g.bound g.counts.polygons g.counts.vertices g.polygons g.vertices)
 
 told : (g : Mesh) (l : Lengths) (values : Values) (x : BuiltTree) → Bvh values x ≡ bvh_answer g l → Told g l x
 unfolding answer_of

@@ -1,15 +1,13 @@
 -- What a rebuild answers: the build's answer over the boxes, which can only be a tree or that it has too many nodes, since no buffer is too short.
-use Rattle.std.specs.Prelude.{◌≡◌, ℕ, ◌+◌, ◌*◌, ◌≤◌, false, List, length, take, drop}
+use Rattle.std.specs.Prelude.{◌≡◌, ℕ, ◌+◌, ◌*◌, ◌≤◌, false, List, length, take, drop, Ok, Err}
 use native.Mathlib.Omega.{arith}
 use mathlib.Core.Path.{refl, sym, ap, subst, ◌∙◌}
 use borrow.Author.Tests.{le-ltb}
 use lib.Ieee.{Float}
 use lib.Seq.{take_at}
 use Rattle.base.specs.Lists.{over}
-use Rattle.bvh.specs.Build.{Entries, answer_by, short, kept, order_written}
+use Rattle.bvh.specs.Build.{Build, Entries, answer_by, short, kept, order_written}
 use Rattle.bvh.specs.Entry.{Outputs, Lent, lent, lengths_of, entries_in, AnsweredBy}
-use Rattle.bvh.specs.declared.slices.Build.{Build}
-use Rattle.bvh.specs.declared.slices.Build.TheVariants.{Built, Refused}
 use Rattle.bvh.specs.declared.slices.BuiltTree.{BuiltTree}
 use Rattle.bvh.specs.declared.slices.Lengths.{Lengths}
 use Rattle.corners.proofs.CornerLaws.{length_over}
@@ -66,7 +64,7 @@ module _ (limit p : ℕ) (bytes ws : List ℕ) (few : p ≤ 32767) where
   module _ (l : Lent) (r : Build) (o o' : Outputs) (b : BuildRoom p o l) (a : AnsweredBy limit e leaf_limit (lengths_of o l) r o o') where
     -- what is asked before the records are moved
     pub rebuildable : (temp polygons out : List ℕ) → p ≤ length temp → 16 * p ≤ length polygons → 16 * p ≤ length out
-        → (t : BuiltTree) → r ≡ Built t → Rebuildable p o'.order temp polygons out
+        → (t : BuiltTree) → r ≡ Ok t → Rebuildable p o'.order temp polygons out
     rebuildable temp polygons out ht hp ho t is =
         let order_is : o'.order ≡ over (order_written e leaf_limit) o.order =
         a.order_is ∙ ap (λ (x : Build). kept x (order_written e leaf_limit) o.order) is in
@@ -79,12 +77,12 @@ module _ (limit p : ℕ) (bytes ws : List ℕ) (few : p ≤ 32767) where
 
     records_are : (polygons out out' : List ℕ) (x : Build) → r ≡ x → out' ≡ kept x (rebuilt_of p (take p o'.order) polygons) out
         → out' ≡ kept x (rebuilt_of p (order_written e leaf_limit) polygons) out
-    records_are polygons out out' (Built t) is q =
+    records_are polygons out out' (Ok t) is q =
         let order_is : o'.order ≡ over (order_written e leaf_limit) o.order =
         a.order_is ∙ ap (λ (x : Build). kept x (order_written e leaf_limit) o.order) is in
         q
         ∙ ap (λ (order : List ℕ). over (rebuilt_of p order polygons) out) (order_taken p bytes ws o.order o'.order b.order_room order_is)
-    records_are polygons out out' (Refused why) is q = q
+    records_are polygons out out' (Err why) is q = q
 
     pub rebuilt : (polygons out out' : List ℕ) → out' ≡ kept r (rebuilt_of p (take p o'.order) polygons) out
         → Rebuilt limit e p polygons (lengths_of o l) r o o' out out'

@@ -1,9 +1,7 @@
 -- The tree over the polygons of a mesh, and the polygons in the order of its leaves (01, Polygons: `rebuild_bvh`). Definitions only.
-use Rattle.std.specs.Prelude.{◌≡◌, ℕ, cond, List, nat_lt}
-use Rattle.bvh.specs.Build.{Entries, tree_of, built_by, kept, order_written}
+use Rattle.std.specs.Prelude.{◌≡◌, ℕ, cond, List, nat_lt, Ok, Err}
+use Rattle.bvh.specs.Build.{Build, Entries, tree_of, built_by, kept, order_written}
 use Rattle.bvh.specs.Entry.{Outputs, entries_in, AnsweredBy}
-use Rattle.bvh.specs.declared.slices.Build.{Build}
-use Rattle.bvh.specs.declared.slices.Build.TheVariants.{Built, Refused}
 use Rattle.bvh.specs.declared.slices.BuildRefusal.TheVariants.{TooManyNodes}
 use Rattle.bvh.specs.declared.slices.Lengths.{Lengths}
 use Rattle.math.specs.declared.mat4.Mat4.{Mat4}
@@ -26,7 +24,7 @@ polygon_entries transform center p v bytes vertices = entries_in p (items_of p b
 unfoldable pub tree_answer_by : ℕ → Entries → Build
 tree_answer_by limit e =
     let t = tree_of e leaf_limit in
-    cond (nat_lt 32767 (size t)) (Refused TooManyNodes) (Built (built_by limit e leaf_limit t))
+    cond (nat_lt 32767 (size t)) (Err TooManyNodes) (Ok (built_by limit e leaf_limit t))
 
 abbrev pub tree_answer : Entries → Build
 tree_answer e = tree_answer_by range_limit e

@@ -1,11 +1,10 @@
 // The tree over the polygons of a mesh, and the polygons in the order of its leaves.
 #![tactic(auto)]
 
-ghost use Rattle.std.specs.Prelude.{◌≡◌, ◌*◌, ◌<◌, ◌≤◌, length, take};
+ghost use Rattle.std.specs.Prelude.{◌≡◌, ◌*◌, ◌<◌, ◌≤◌, length, take, Ok};
 ghost use Rattle.base.specs.Lists.{over};
 ghost use Rattle.bvh.specs.Build.{kept};
 ghost use Rattle.bvh.specs.Entry.{outputs, lent, lengths_of};
-ghost use Rattle.bvh.specs.declared.slices.Build.TheVariants.{Built};
 ghost use Rattle.bvh.specs.declared.slices.BuiltTree.{BuiltTree};
 ghost use Rattle.points.specs.Points.{positions_of};
 ghost use Rattle.polygon_items.specs.Items.{items_of};
@@ -14,7 +13,7 @@ ghost use Rattle.reorder.specs.Steps.Lent.{Rebuildable};
 ghost use Rattle.rebuild.specs.Rebuilding.{polygon_entries, Rebuilt};
 ghost use Rattle.rebuild.specs.Steps.Room.{Meshed, BuildRoom};
 
-use bvh::slices::Build;
+use bvh::slices::{BuildRefusal, BuiltTree};
 use math::mat4::Mat4;
 use math::vec3::Vec3;
 use points::put_positions;
@@ -47,17 +46,17 @@ fn put_entries(
 
 // The records in the order of the leaves; none where the build is refused. The words are to work in.
 fn put_records(
-    built: Build,
+    built: Result<BuiltTree, BuildRefusal>,
     polygons: &[u8],
     order: &[u16],
     p: usize,
     temp: &mut [u32],
     out: &mut [u8],
 )
-    requires { (b : BuiltTree) → built ≡ Built b → Rebuildable p order.now temp.old polygons.now out.old }
+    requires { (b : BuiltTree) → built ≡ Ok b → Rebuildable p order.now temp.old polygons.now out.old }
     ensures { out.new ≡ kept built (rebuilt_of p (take p order.now) polygons.now) out.old }
 {
-    if let Build::Built(_) = built {
+    if let Ok(_) = built {
         rebuild_records(polygons, order, p, temp, out);
     }
 }
@@ -84,7 +83,7 @@ pub fn rebuild_bvh(
     centres: &mut [f32],
     points: &mut [u32],
     limit: usize,
-) -> Build
+) -> Result<BuiltTree, BuildRefusal>
     requires { (Meshed p v polygons.now vertices.now out.old points.old)
         × (BuildRoom p (outputs node_bytes.old tree_bytes.old order.old)
         (lent entries.old places.old temp.old stack.old rows.old centres.old)) × (0 < limit) }

@@ -1,18 +1,16 @@
 -- What a build that answers Built was, by its definition: nothing refused it, and its values are the tree's. So it stands, as the walk over its records asks.
-use Rattle.std.specs.Prelude.{◌≡◌, ℕ, zero, suc, ◌+◌, ◌*◌, ◌<◌, ◌≤◌, Bool, true, false, cond, ◌||◌, ltb, List, [], ◌∷◌, ◌++◌, length, get_or}
+use Rattle.std.specs.Prelude.{◌≡◌, ℕ, zero, suc, ◌+◌, ◌*◌, ◌<◌, ◌≤◌, Bool, true, false, cond, ◌||◌, ltb, List, [], ◌∷◌, ◌++◌, length, get_or, Ok, Err}
 use native.Mathlib.Omega.{arith}
 use native.Mathlib.Nat.{zero-add}
 use mathlib.Core.Path.{refl, ap, subst}
 use borrow.Author.Tests.{ltb-false}
 use Rattle.base.specs.Lists.{Below, Rising}
 use Rattle.base.proofs.Truth.{neither}
-use Rattle.bvh.specs.declared.slices.Build.{Build}
-use Rattle.bvh.specs.declared.slices.Build.TheVariants.{Built, Refused}
 use Rattle.bvh.specs.declared.slices.BuildRefusal.{BuildRefusal}
 use Rattle.bvh.specs.declared.slices.BuildRefusal.TheVariants.{TooManyEntries, ThresholdOutside, BufferTooShort, TooManyNodes}
 use Rattle.bvh.specs.declared.slices.BuiltTree.{BuiltTree}
 use Rattle.bvh.specs.declared.slices.Lengths.{Lengths}
-use Rattle.bvh.specs.Build.{Entries, tree_of, built_of, refusal_number, number_of, short, answer_of, answer_by}
+use Rattle.bvh.specs.Build.{Build, Entries, tree_of, built_of, refusal_number, number_of, short, answer_of, answer_by}
 use Rattle.bvh.specs.declared.items.BvhItem.{BvhItem}
 use Rattle.bvh.specs.Entry.{entries_in, entries_of}
 use Rattle.bvh.specs.Items.{words_of, present, is_marked, marked}
@@ -22,8 +20,8 @@ use Rattle.tree.proofs.PairLaws.{Stands}
 
 -- the values of an answer, or these where it is refused
 abbrev values_or : BuiltTree → Build → BuiltTree
-values_or d (Built b) = b
-values_or d (Refused why) = d
+values_or d (Ok b) = b
+values_or d (Err why) = d
 
 pub refusal_numbered : (why : BuildRefusal) → 0 < refusal_number why
 refusal_numbered TooManyEntries = omega arith
@@ -32,7 +30,7 @@ refusal_numbered BufferTooShort = omega arith
 refusal_numbered TooManyNodes = omega arith
 
 -- a test that was passed: it does not hold, and the answer is that of the tests behind it
-passed : (q : Bool) (why : BuildRefusal) (rest : Build) (b : BuiltTree) → Built b ≡ cond q (Refused why) rest → (q ≡ false) × (Built b ≡ rest)
+passed : (q : Bool) (why : BuildRefusal) (rest : Build) (b : BuiltTree) → Ok b ≡ cond q (Err why) rest → (q ≡ false) × (Ok b ≡ rest)
 passed true why rest b e = absurd (let n : 0 ≡ refusal_number why = ap number_of e in omega (arith, refusal_numbered why))
 passed false why rest b e = (refl, e)
 
@@ -42,14 +40,14 @@ pub record Passed (e : Entries) (th : ℕ) (b : BuiltTree) : Type 0 where
   pub nodes_few : size (tree_of e th) ≤ 32767
   pub values : b ≡ built_of e th (tree_of e th)
 
-pub built_passed : (e : Entries) (th : ℕ) (l : Lengths) (b : BuiltTree) → Built b ≡ answer_of e th l → Passed e th b
+pub built_passed : (e : Entries) (th : ℕ) (l : Lengths) (b : BuiltTree) → Ok b ≡ answer_of e th l → Passed e th b
 unfolding answer_by
 built_passed e th l b a =
     let t = tree_of e th in
     let c₁ = passed (ltb 32767 e.number) TooManyEntries _ b a in
     let c₂ = passed (ltb th 1 || ltb 32767 th) ThresholdOutside _ b c₁.1 in
     let c₃ = passed (short e.number l) BufferTooShort _ b c₂.1 in
-    let c₄ = passed (ltb 32767 (size t)) TooManyNodes (Built (built_of e th t)) b c₃.1 in
+    let c₄ = passed (ltb 32767 (size t)) TooManyNodes (Ok (built_of e th t)) b c₃.1 in
     record {
       few = ltb-false _ _ c₁.0;
       threshold = ltb-false th 1 (neither (ltb th 1) (ltb 32767 th) c₂.0).0;

@@ -1,11 +1,10 @@
 -- Point 3 of the request, from the contract of a build alone: whatever answers a build that is not refused, by the definition and with its bytes,
 -- has well formed records, and the walk over them delivers. What a crate above needs; it holds for entries in words (`words_listed`)
 -- and for a list of items (`items_listed`).
-use Rattle.std.specs.Prelude.{◌≡◌, ℕ}
+use Rattle.std.specs.Prelude.{◌≡◌, ℕ, Ok}
 use mathlib.Core.Path.{sym, subst}
 use Rattle.base.specs.Lists.{over}
 use Rattle.math.specs.declared.aabb.Aabb.{Aabb}
-use Rattle.bvh.specs.declared.slices.Build.TheVariants.{Built}
 use Rattle.bvh.specs.declared.slices.BuiltTree.{BuiltTree}
 use Rattle.bvh.specs.declared.slices.Lengths.{Lengths}
 use Rattle.bvh.specs.Build.{Entries, tree_of, built_of, nodes_written, trees_written, order_written}
@@ -16,7 +15,7 @@ use Rattle.tree.proofs.AnswerLaws.{Passed, built_passed, Listed, stands}
 use Rattle.tree.proofs.RecordLaws.{formed, delivered}
 
 module _ (e : Entries) (listed : Listed e) (th : ℕ) (l : Lengths) (before after : Outputs) (b : BuiltTree)
-    (build : Answered e th l (Built b) before after) where
+    (build : Answered e th l (Ok b) before after) where
   passed : Passed e th b
   passed = built_passed e th l b build.answer
 

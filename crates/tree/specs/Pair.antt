@@ -1,5 +1,5 @@
 -- Point 3 of the request, as one statement about a build and the walk over its records. Definitions only.
-use Rattle.std.specs.Prelude.{◌≡◌, ℕ, ◌+◌, ◌<◌, ◌≤◌, true, cond, T, ◌⊎◌, List, length, nat_lt}
+use Rattle.std.specs.Prelude.{◌≡◌, ℕ, ◌+◌, ◌<◌, ◌≤◌, true, cond, T, ◌⊎◌, List, length, nat_lt, Ok, Err}
 use mathlib.Core.List.{Memᴰ}
 use Rattle.std.specs.Prelude.{Float}
 use Rattle.std.specs.Float.Ieee.{le, eq}
@@ -11,10 +11,8 @@ use Rattle.records.specs.Axis.{extent, largest, smallest, nought}
 use Rattle.entries.specs.Ends.{low, high, Proper, Bounded, Each}
 use Rattle.entries.specs.Folding.{fold_box}
 use Rattle.entries.specs.declared.boxes.BoxWords.{BoxWords}
-use Rattle.bvh.specs.declared.slices.Build.{Build}
-use Rattle.bvh.specs.declared.slices.Build.TheVariants.{Built, Refused}
 use Rattle.bvh.specs.declared.slices.BuiltTree.{BuiltTree}
-use Rattle.bvh.specs.Build.{Entries, refusal_number, answer_of}
+use Rattle.bvh.specs.Build.{Build, Entries, refusal_number, answer_of}
 use Rattle.bvh.specs.Entry.{Outputs, Lent, lengths_of, Answered}
 use Rattle.walk_steps.specs.Boxes.{query_of, meets_box}
 use Rattle.walk.specs.Walks.{Outcome, walk_of, number_of, Promise}
@@ -72,8 +70,8 @@ pub record Delivered (e : Entries) (th : ℕ) (query : Aabb) (b : BuiltTree) (af
 
 -- the build that an answer tells of
 abbrev pub build_in : Found → Build
-build_in (Unbuilt why) = Refused why
-build_in (Walked b w) = Built b
+build_in (Unbuilt why) = Err why
+build_in (Walked b w) = Ok b
 
 -- 01's number of each answer, 0 where nothing is refused: the build's refusal, or the walk's number.
 abbrev pub found_number : Found → ℕ
@@ -82,8 +80,8 @@ found_number (Walked b w) = number_of w
 
 -- Rule P5: the number of a pair by its build. A walk over what was built is refused where the output, of so many places, is shorter than the item count, and never else.
 abbrev pub pair_number : ℕ → ℕ → ℕ → Build → ℕ
-pair_number th entries room (Refused why) = refusal_number why
-pair_number th entries room (Built b) = cond (nat_lt room (count_for th entries b.present)) 2 0
+pair_number th entries room (Err why) = refusal_number why
+pair_number th entries room (Ok b) = cond (nat_lt room (count_for th entries b.present)) 2 0
 
 -- Rule P5: a refused build is not walked, and the output keeps what it had; any other is walked, which comes to `outcome_of`.
 abbrev pub WalkAfter : Entries → ℕ → Aabb → Outputs → List ℕ → List ℕ → Found → Type 0
@@ -96,5 +94,5 @@ pub record Paired (e : Entries) (th : ℕ) (query : Aabb) (given : Lent) (before
   pub number_is : found_number r ≡ pair_number th e.number (length out) (answer_of e th (lengths_of before given))
   pub build_is : Answered e th (lengths_of before given) (build_in r) before after
   pub walk_is : WalkAfter e th query after out out' r
-  pub well_formed : (b : BuiltTree) → build_in r ≡ Built b → WellFormed e th b after
-  pub delivers : (b : BuiltTree) → build_in r ≡ Built b → Delivered e th query b after (length out) (outcome_of e th query b after (length out))
+  pub well_formed : (b : BuiltTree) → build_in r ≡ Ok b → WellFormed e th b after
+  pub delivers : (b : BuiltTree) → build_in r ≡ Ok b → Delivered e th query b after (length out) (outcome_of e th query b after (length out))

@@ -6,7 +6,7 @@ ghost use Rattle.tree.specs.Pair.{Paired};
 ghost use Rattle.tree.specs.WellFormed.{count_for};
 
 use base::numbers::{Place, Position};
-use bvh::slices::{Build, BuildRefusal, BuiltTree};
+use bvh::slices::{BuildRefusal, BuiltTree};
 use math::aabb::Aabb;
 use rows::ranges::RANGE_LIMIT;
 use walk::slices::Walk;
@@ -83,8 +83,8 @@ pub fn build_and_walk(
         centres,
     );
     match built {
-        Build::Refused(why) => Found::Unbuilt(why),
-        Build::Built(tree) => {
+        Err(why) => Found::Unbuilt(why),
+        Ok(tree) => {
             let sizes = Sizes {
                 nodes: tree.nodes,
                 trees: tree.trees,

@@ -3,7 +3,7 @@ ghost use Rattle.std.specs.Prelude.{[], ◌∷◌};
 ghost use Rattle.bvh.specs.Entry.{entries_of, outputs, lent, lengths_of, Answered};
 
 use bvh::items::BvhItem;
-use bvh::slices::{Build, BuiltTree};
+use bvh::slices::{BuildRefusal, BuiltTree};
 use math::words3::Words3;
 
 // The tree of two items.
@@ -19,7 +19,7 @@ fn build_two(
     stack: &mut [u32],
     rows: &mut [u32],
     centres: &mut [f32],
-) -> Build
+) -> Result<BuiltTree, BuildRefusal>
     ensures { Answered (entries_of (a ∷ b ∷ [])) 1
         (lengths_of (outputs node_bytes.old tree_bytes.old order.old)
         (lent entries.old places.old temp.old stack.old rows.old centres.old)) result
@@ -106,7 +106,7 @@ pub fn run(to: i32) {
         &mut rows,
         &mut centres,
     );
-    let Build::Built(tree) = built else {
+    let Ok(tree) = built else {
         io::write_all(to, b"refused\n");
         return;
     };

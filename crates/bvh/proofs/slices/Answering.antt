@@ -1,20 +1,18 @@
 -- The answers of `slices::build_core`: which test refuses, and that a build which passes all of them is the definition's.
-use Rattle.std.specs.Prelude.{◌≡◌, ℕ, ◌+◌, ◌*◌, ◌<◌, ◌≤◌, true, false, ltb, List, length, take}
+use Rattle.std.specs.Prelude.{◌≡◌, ℕ, ◌+◌, ◌*◌, ◌<◌, ◌≤◌, true, false, ltb, List, length, take, Ok, Err}
 use native.Mathlib.Omega.{arith}
 use mathlib.Core.Path.{refl, ap, ◌∙◌}
 use borrow.Author.Tests.{lt-ltb, le-ltb, ltb-false}
 use lib.Seq.{length-take-le}
 use Rattle.entries.specs.Boxes.{box_at}
 use Rattle.base.proofs.Truth.{neither}
-use Rattle.bvh.specs.declared.slices.Build.{Build}
-use Rattle.bvh.specs.declared.slices.Build.TheVariants.{Built, Refused}
 use Rattle.bvh.specs.declared.slices.BuildRefusal.{BuildRefusal}
 use Rattle.bvh.specs.declared.slices.BuildRefusal.TheVariants.{TooManyEntries, ThresholdOutside, BufferTooShort, TooManyNodes}
 use Rattle.bvh.specs.declared.slices.BuiltTree.{BuiltTree}
 use Rattle.bvh.specs.declared.slices.Lengths.{Lengths}
 use Rattle.bvh.specs.declared.slices.Planted.{Planted}
 use Rattle.bvh.specs.declared.slices.Task.{Task}
-use Rattle.bvh.specs.Build.{Entries, short, answer_by, tree_of}
+use Rattle.bvh.specs.Build.{Build, Entries, short, answer_by, tree_of}
 use Rattle.bvh.specs.Entry.{Outputs, Lent, lent, entries_in, lengths_of, AnsweredBy}
 use Rattle.bvh.specs.Items.{marked}
 use Rattle.growth.specs.Grow.{builder, grow}
@@ -102,27 +100,27 @@ module _ (n th limit : ℕ) (o : Outputs) (l : Lent) (few : n ≤ 32767) (some :
 -- ---- the answers
 
 -- a refusal leaves the outputs
-refusal : (limit : ℕ) (e : Entries) (th : ℕ) (l : Lengths) (o : Outputs) (r : BuildRefusal) → Refused r ≡ answer_by limit e th l
-    → AnsweredBy limit e th l (Refused r) o o
+refusal : (limit : ℕ) (e : Entries) (th : ℕ) (l : Lengths) (o : Outputs) (r : BuildRefusal) → Err r ≡ answer_by limit e th l
+    → AnsweredBy limit e th l (Err r) o o
 refusal limit e th l o r is = record { answer = is; nodes_are = refl; trees_are = refl; order_is = refl }
 
 module _ (limit n th : ℕ) (ws : List ℕ) (l : Lengths) (o : Outputs) where
   abbrev e : Entries
   e = entries_in n ws
 
-  pub too_many_entries : 32767 < n → AnsweredBy limit e th l (Refused TooManyEntries) o o
+  pub too_many_entries : 32767 < n → AnsweredBy limit e th l (Err TooManyEntries) o o
   unfolding entries_in answer_by
   too_many_entries h = refusal limit e th l o TooManyEntries (rw (lt-ltb 32767 n h))
 
-  pub threshold_below : n ≤ 32767 → th < 1 → AnsweredBy limit e th l (Refused ThresholdOutside) o o
+  pub threshold_below : n ≤ 32767 → th < 1 → AnsweredBy limit e th l (Err ThresholdOutside) o o
   unfolding entries_in answer_by
   threshold_below few h = refusal limit e th l o ThresholdOutside (rw (le-ltb 32767 n few, lt-ltb th 1 h))
 
-  pub threshold_above : n ≤ 32767 → 1 ≤ th → 32767 < th → AnsweredBy limit e th l (Refused ThresholdOutside) o o
+  pub threshold_above : n ≤ 32767 → 1 ≤ th → 32767 < th → AnsweredBy limit e th l (Err ThresholdOutside) o o
   unfolding entries_in answer_by
   threshold_above few some h = refusal limit e th l o ThresholdOutside (rw (le-ltb 32767 n few, le-ltb th 1 some, lt-ltb 32767 th h))
 
-  pub buffer_too_short : n ≤ 32767 → 1 ≤ th → th ≤ 32767 → short n l ≡ true → AnsweredBy limit e th l (Refused BufferTooShort) o o
+  pub buffer_too_short : n ≤ 32767 → 1 ≤ th → th ≤ 32767 → short n l ≡ true → AnsweredBy limit e th l (Err BufferTooShort) o o
   unfolding entries_in answer_by
   buffer_too_short few some most h = refusal limit e th l o BufferTooShort (rw (le-ltb 32767 n few, le-ltb th 1 some, le-ltb 32767 th most, h))
 
@@ -130,17 +128,17 @@ module _ (limit n th : ℕ) (ws : List ℕ) (l : Lengths) (o : Outputs) where
     abbrev nodes : ℕ
     nodes = size (grow (builder (box_at ws)) th (marked 0 n ws))
 
-    pub too_many_nodes : 32767 < nodes → AnsweredBy limit e th l (Refused TooManyNodes) o o
+    pub too_many_nodes : 32767 < nodes → AnsweredBy limit e th l (Err TooManyNodes) o o
     unfolding entries_in answer_by tree_of
     too_many_nodes h =
         refusal limit e th l o TooManyNodes (rw (le-ltb 32767 n few, le-ltb th 1 some, le-ltb 32767 th most, enough, lt-ltb 32767 nodes h))
 
-    pub built : nodes ≤ 32767 → (b : BuiltTree) (o' : Outputs) → Written limit e th b o o' → AnsweredBy limit e th l (Built b) o o'
+    pub built : nodes ≤ 32767 → (b : BuiltTree) (o' : Outputs) → Written limit e th b o o' → AnsweredBy limit e th l (Ok b) o o'
     unfolding entries_in answer_by tree_of
     built h b o' w =
         record {
           answer =
-              ap {B = Build} (λ (x : BuiltTree). Built x) w.built
+              ap {B = Build} (λ (x : BuiltTree). Ok x) w.built
               ∙ rw (le-ltb 32767 n few, le-ltb th 1 some, le-ltb 32767 th most, enough, le-ltb 32767 nodes h);
           nodes_are = w.nodes_are;
           trees_are = w.trees_are;

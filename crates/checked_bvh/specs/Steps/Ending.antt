@@ -1,7 +1,7 @@
 -- What is asked where a mesh of kind 8 has passed the checks, and what is left where its lists are written at the end. Definitions only.
-use Rattle.std.specs.Prelude.{◌≡◌, ℕ, List, length}
+use Rattle.bvh.specs.Build.{Build}
+use Rattle.std.specs.Prelude.{◌≡◌, ℕ, List, length, Ok, Err}
 use Rattle.bvh.specs.Entry.{Outputs}
-use Rattle.bvh.specs.declared.slices.Build.{Build}
 use Rattle.bvh.specs.declared.slices.BuildRefusal.{BuildRefusal}
 use Rattle.bvh.specs.declared.slices.BuiltTree.{BuiltTree}
 use Rattle.finishing.specs.Steps.Finishing.{Stored, Listed}
@@ -44,9 +44,9 @@ pub record Untouched (list list' indices indices' stored stored' floats floats' 
 -- With a tree the lists are written in its frame; where it is refused nothing is.
 pub record Ended (built : Build) (c : Counts) (mats sorted vertices list list' indices indices' stored stored' floats floats' : List ℕ)
     (r : Prepare) : Type 0 where
-  pub tree : (x : BuiltTree) → built ≡ Build.Built x
+  pub tree : (x : BuiltTree) → built ≡ Ok x
       → (r ≡ Bvh (values_in (frame_of x) (values_of c.materials mats c.polygons sorted)) x)
       × Written (frame_of x) (values_of c.materials mats c.polygons sorted) vertices c.vertices
       list list' indices indices' stored stored' floats floats'
-  pub too_many : (why : BuildRefusal) → built ≡ Build.Refused why
+  pub too_many : (why : BuildRefusal) → built ≡ Err why
       → (r ≡ Refused TooManyNodes) × Untouched list list' indices indices' stored stored' floats floats'

@@ -1,11 +1,9 @@
 -- What the shaping of each kind asks of the slices that it is lent, and what it leaves. Definitions only.
-use Rattle.std.specs.Prelude.{◌≡◌, ℕ, ◌+◌, ◌*◌, ◌≤◌, true, List, length, take}
+use Rattle.std.specs.Prelude.{◌≡◌, ℕ, ◌+◌, ◌*◌, ◌≤◌, true, List, length, take, Ok}
 use Rattle.base.specs.Lists.{over}
 use Rattle.bvh.specs.Build as B
-use Rattle.bvh.specs.Build.{nodes_written, trees_written_by, order_written}
+use Rattle.bvh.specs.Build.{Build, nodes_written, trees_written_by, order_written}
 use Rattle.bvh.specs.Entry.{Outputs}
-use Rattle.bvh.specs.declared.slices.Build.{Build}
-use Rattle.bvh.specs.declared.slices.Build.TheVariants.{Built}
 use Rattle.bvh.specs.declared.slices.BuiltTree.{BuiltTree}
 use Rattle.corners.specs.Corners.{kinds_known}
 use Rattle.edges.specs.Edges.{linked}
@@ -84,7 +82,7 @@ pub record BvhShapedBy (limit : ℕ) (b : Bound) (p v : ℕ) (polygons numbers v
   pub nodes_are : t'.nodes ≡ B.kept r (nodes_written (entries_of8 b p v polygons vertices) leaf_limit) t.nodes
   pub trees_are : t'.trees ≡ B.kept r (trees_written_by limit (entries_of8 b p v polygons vertices) leaf_limit) t.trees
   pub order_is : t'.order ≡ B.kept r (order_written (entries_of8 b p v polygons vertices) leaf_limit) t.order
-  pub numbers_are : (x : BuiltTree) → r ≡ Built x → take p sorted ≡ in_order (order_of8 b p v polygons vertices) numbers
+  pub numbers_are : (x : BuiltTree) → r ≡ Ok x → take p sorted ≡ in_order (order_of8 b p v polygons vertices) numbers
 
 -- the same at the limit of a build
 abbrev pub BvhShaped : Bound → ℕ → ℕ → List ℕ → List ℕ → List ℕ → List ℕ → List ℕ → Outputs → Outputs → List ℕ → Build → Type 0

@@ -1,13 +1,11 @@
 -- What `pair::build_and_walk` promises, from what the build and the walk do.
-use Rattle.std.specs.Prelude.{◌≡◌, ℕ, List, length}
+use Rattle.std.specs.Prelude.{◌≡◌, ℕ, List, length, Ok, Err}
 use native.Mathlib.Omega.{arith}
 use mathlib.Core.Path.{refl, ap, subst, ◌∙◌}
 use Rattle.math.specs.declared.aabb.Aabb.{Aabb}
-use Rattle.bvh.specs.declared.slices.Build.{Build}
-use Rattle.bvh.specs.declared.slices.Build.TheVariants.{Built, Refused}
 use Rattle.bvh.specs.declared.slices.BuildRefusal.{BuildRefusal}
 use Rattle.bvh.specs.declared.slices.BuiltTree.{BuiltTree}
-use Rattle.bvh.specs.Build.{Entries, refusal_number, number_of}
+use Rattle.bvh.specs.Build.{Build, Entries, refusal_number, number_of}
 use Rattle.bvh.specs.Entry.{entries_in, Outputs, Lent, lengths_of, Answered}
 use Rattle.walk.specs.Walks.{Outcome, walk_of, Promise}
 use Rattle.walk.specs.declared.slices.Walk.{Walk}
@@ -26,15 +24,15 @@ module _ (n th : ℕ) (ws : List ℕ) (query : Aabb) (given : Lent) (before afte
   ran items =
       walk_of query b.scale.cen b.scale.inverse (record { nodes = b.nodes; trees = b.trees; items = items }) after.nodes after.trees (length out)
 
-  walked : Answered e th (lengths_of before given) (Built b) before after → Promise (ran (count_for th n b.present)) out out' w
+  walked : Answered e th (lengths_of before given) (Ok b) before after → Promise (ran (count_for th n b.present)) out out' w
       → Paired e th query given before after out out' (Walked b w)
   unfolding entries_in outcome_of
   walked build walk =
       let l = lengths_of before given in
       let listed = words_listed n ws in
-      let answer : (v : BuiltTree) → Built b ≡ Built v → Answered e th l (Built v) before after =
+      let answer : (v : BuiltTree) → Ok b ≡ Ok v → Answered e th l (Ok v) before after =
       λ v same. subst (λ (x : Build). Answered e th l x before after) same build in
-      let delivered : (v : BuiltTree) → Built b ≡ Built v → Delivered e th query v after (length out) (outcome_of e th query v after (length out)) =
+      let delivered : (v : BuiltTree) → Ok b ≡ Ok v → Delivered e th query v after (length out) (outcome_of e th query v after (length out)) =
       λ v same. walk_delivers e listed th l before after v (answer v same) query (length out) in
       record {
         number_is = walk.number_is ∙ (delivered b refl).refused_exactly ∙ ap (pair_number th n (length out)) build.answer;
@@ -44,18 +42,18 @@ module _ (n th : ℕ) (ws : List ℕ) (query : Aabb) (given : Lent) (before afte
         delivers = delivered;
       }
 
-  pub paired : (r : Build) (items : ℕ) → Answered e th (lengths_of before given) r before after → r ≡ Built b → items ≡ count_for th n b.present
+  pub paired : (r : Build) (items : ℕ) → Answered e th (lengths_of before given) r before after → r ≡ Ok b → items ≡ count_for th n b.present
       → Promise (ran items) out out' w → Paired e th query given before after out out' (Walked b w)
   paired r items a built few walk =
       walked (subst (λ (x : Build). Answered e th (lengths_of before given) x before after) built a)
       (subst (λ (k : ℕ). Promise (ran k) out out' w) few walk)
 
-unbuilt : (why : BuildRefusal) (b : BuiltTree) → Refused why ≡ Built b → ⊥
+unbuilt : (why : BuildRefusal) (b : BuiltTree) → Err why ≡ Ok b → ⊥
 unbuilt why b same = let n : refusal_number why ≡ 0 = ap number_of same in omega (arith, refusal_numbered why)
 
 -- a refused build is not walked
 pub unpaired : (e : Entries) (th : ℕ) (query : Aabb) (given : Lent) (before after : Outputs) (out : List ℕ) (r : Build) (why : BuildRefusal)
-    → Answered e th (lengths_of before given) r before after → r ≡ Refused why → Paired e th query given before after out out (Unbuilt why)
+    → Answered e th (lengths_of before given) r before after → r ≡ Err why → Paired e th query given before after out out (Unbuilt why)
 unpaired e th query given before after out r why a refused =
     let build = subst (λ (x : Build). Answered e th (lengths_of before given) x before after) refused a in
     record {

@@ -1,4 +1,5 @@
 -- `finish_tree` meets its contract: with a tree what is written at the end in its frame, else nothing.
+use Rattle.std.specs.Prelude.{Ok}
 use mathlib.Core.Path.{refl}
 use Rattle.checked_bvh.proofs.Endings.{ended_built, ended_refused}
 use Rattle.checked_bvh.proofs.ending.finish_tree.Goals as goal
@@ -13,5 +14,5 @@ finish-materials-requires c =
 pub returns : goal.returns
 returns c =
     let f = c.finish-materials.ensures in
-    let built = c.in-Built.is in
+    let built = c.in-Ok.is in
     ended_built _ _ _ _ _ _ _ _ _ _ _ _ _ _ built _ c.frame_of-frame.ensures _ c.quantum_of-unit.ensures _ f.0 f.1

@@ -60,7 +60,7 @@ put_records-requires c =
     let e = children_of c.args.input.now in
     let m = left in
     let kept = c.build_core-built.auto in
-    let tree = c.in-Built in
+    let tree = c.in-Ok in
     let nodes = nodes_few e m tree.tree tree.is in
     let capacity = capacity_few e m tree.tree tree.is in
     let trees = trees_few e m tree.tree tree.is in
@@ -89,6 +89,6 @@ returns c =
       centres_room = omega arith;
     })
     c.build_core-built.ensures in
-    let tree = c.in-Built in
+    let tree = c.in-Ok in
     let text = made_listed (children_of c.args.input.now) left tree.tree tree.is in
     put_as text (omega arith) c.put_records.ensures
