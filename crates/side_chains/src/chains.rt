@@ -44,14 +44,14 @@ fn lower(a: u32, b: u32) -> u32
     requires { (a < 32768) × (b < 32768) }
     ensures { result ≡ pair_of a b / 32768 }
 {
-    if a < b { a } else { b }
+    a.min(b)
 }
 
 fn higher(a: u32, b: u32) -> u32
     requires { (a < 32768) × (b < 32768) }
     ensures { result ≡ pair_of a b % 32768 }
 {
-    if a < b { b } else { a }
+    a.max(b)
 }
 
 // Puts the side before those behind it that have its lower corner, if it is there. It leads to the corner `to`.
