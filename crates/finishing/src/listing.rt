@@ -6,17 +6,17 @@ ghost use Rattle.finishing.specs.Steps.Finishing.{ListRoom, Listed};
 
 use materials::listing::{dedupe, put_list};
 
+// A list has at least so many materials.
+const LEAST: usize = 4;
+
 // Fills the first `count` of a list to four with (0,0); how many they then are.
 fn fill(list: &mut [u64], count: usize) -> usize
     requires { (length list.old ≡ 256) × (count ≤ 256) }
     ensures { (take result list.new ≡ filled (take count list.old)) × (result ≤ 256) }
 {
-    let mut at = count;
-    while at < 4 {
-        list[at] = 0;
-        at += 1;
-    }
-    at
+    let all = count.max(LEAST);
+    list[count..all].fill(0);
+    all
 }
 
 // Writes the list of the materials of p polygons, filled, and their indices; how many it has before it is filled.

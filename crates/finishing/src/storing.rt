@@ -36,9 +36,7 @@ pub fn put_stored(words: &[u32], v: usize, quantum: Vec3, stored: &mut [u8], flo
     requires { StoreRoom v words.now stored.old floats.old }
     ensures { Stored quantum words.now v stored.old stored.new floats.old floats.new }
 {
-    let mut i = 0;
-    while i < v {
+    for i in 0..v {
         put_one(words, i, quantum, stored, floats);
-        i += 1;
     }
 }

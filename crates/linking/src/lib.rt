@@ -16,10 +16,8 @@ pub fn put_written(polygons: &[u8], n: usize, out: &mut [u8])
     requires { (n ≤ 32767) × (16 * n ≤ length polygons.now) × (16 * n ≤ length out.old) }
     ensures { out.new ≡ over (written_of n polygons.now) out.old }
 {
-    let mut i = 0;
-    while i < n {
+    for i in 0..n {
         put_polygon(out, 16 * i, polygon_at(polygons, 16 * i));
-        i += 1;
     }
 }
 

@@ -1,5 +1,5 @@
 // The list of materials, each where it comes first, and each polygon's index in it. A material is its eight bytes as one number.
-ghost use Rattle.std.specs.Prelude.{◌≡◌, ◌+◌, ◌*◌, ◌≤◌, ◌<◌, length, take, get_or};
+ghost use Rattle.std.specs.Prelude.{◌≡◌, ◌+◌, ◌*◌, ◌≤◌, ◌<◌, length, take, get_or, position, ◌==◌, MatchOption};
 ghost use Rattle.base.specs.Lists.{over};
 ghost use Rattle.materials.specs.Materials.{value_at, values_of, place_in, list_of, materials_bytes};
 ghost use Rattle.materials.specs.Steps.Listing.{Placed, Fits, bucket_of, Marked, Entered, Given, Countable, Empty, Indexed};
@@ -37,19 +37,11 @@ fn value_at(mats: &[u32], m: usize, number: usize) -> u64
     0
 }
 
-// Where the material stands first among `count` of the list; `count` where it does not.
-fn place_in(list: &[u64], count: usize, x: u64) -> usize
-    requires { count ≤ length list.now }
-    ensures { result ≡ place_in (take count list.now) x }
+// Where the material stands first in the list, if it does.
+fn place_in(list: &[u64], x: u64) -> Option<usize>
+    ensures { result ≡ position (λ y. y == x) list.now }
 {
-    let mut i = 0;
-    while i < count {
-        if list[i] == x {
-            return i;
-        }
-        i += 1;
-    }
-    count
+    list.iter().position(|y| *y == x)
 }
 
 // A mark for materials that leave the same remainder.
@@ -60,14 +52,14 @@ fn bucket(x: u64) -> usize
 }
 
 // The same as `place_in`: without a search where no material of the list has x's mark.
-fn place_by(table: &[u32], list: &[u64], count: usize, x: u64) -> usize
-    requires { (length table.now ≡ 1280) × (count ≤ length list.now) × (Marked table.now (take count list.now)) }
-    ensures { result ≡ place_in (take count list.now) x }
+fn place_by(table: &[u32], list: &[u64], x: u64) -> Option<usize>
+    requires { (length table.now ≡ 1280) × (Marked table.now list.now) }
+    ensures { MatchOption result (place_in list.now x ≡ length list.now) (λ at. (at ≡ place_in list.now x) × (at < length list.now)) }
 {
     if table[256 + bucket(x)] == 0 {
-        return count;
+        return None;
     }
-    place_in(list, count, x)
+    place_in(list, x)
 }
 
 // Sees to it that the table has the place of number b's material, which is x, and the list the material. How many the list then has.
@@ -79,14 +71,14 @@ fn enter(table: &mut [u32], b: usize, x: u64, list: &mut [u64], count: usize) ->
     if table[b] != 0 {
         return count;
     }
-    let at = place_by(table, list, count, x);
+    let Some(at) = place_by(table, &list[..count], x) else {
+        table[b] = count as u32 + 1;
+        table[256 + bucket(x)] = 1;
+        list[count] = x;
+        return count + 1;
+    };
     table[b] = at as u32 + 1;
-    if at < count {
-        return count;
-    }
-    table[256 + bucket(x)] = 1;
-    list[at] = x;
-    count + 1
+    count
 }
 
 // The list of the materials of n polygons, and their indices in it; how many it has. The table begins with nothing.
@@ -103,12 +95,10 @@ fn index_all(
     ensures { Indexed (values_of m mats.now n numbers.now) list.new indices.old indices.new result }
 {
     let mut count = 0;
-    let mut p = 0;
-    while p < n {
+    for p in 0..n {
         let b = wide(numbers[p]);
         count = enter(table, b, value_at(mats, m, b), list, count);
         indices[p] = narrow(table[b] - 1);
-        p += 1;
     }
     count
 }
@@ -142,11 +132,9 @@ fn count_all(
     ensures { result ≡ length (list_of (values_of m mats.now n numbers.now)) }
 {
     let mut count = 0;
-    let mut p = 0;
-    while p < n {
+    for p in 0..n {
         let b = wide(numbers[p]);
         count = enter(table, b, value_at(mats, m, b), list, count);
-        p += 1;
     }
     count
 }
@@ -166,9 +154,7 @@ pub fn put_list(out: &mut [u8], list: &[u64], count: usize)
     requires { (count ≤ length list.now) × (8 * count ≤ length out.old) × (count ≤ 256) }
     ensures { out.new ≡ over (materials_bytes (take count list.now)) out.old }
 {
-    let mut i = 0;
-    while i < count {
+    for i in 0..count {
         put_le(out, 8 * i, 8, list[i]);
-        i += 1;
     }
 }

@@ -59,9 +59,7 @@ pub fn put_positions(vertices: &[u32], v: usize, center: Vec3, transform: Mat4, 
     requires { (3 * v ≤ length vertices.now) × (3 * v ≤ length points.old) }
     ensures { points.new ≡ over (positions_of transform center vertices.now v) points.old }
 {
-    let mut i = 0;
-    while i < v {
+    for i in 0..v {
         put_point(points, i, vertex_pos(vertices, i, center, transform));
-        i += 1;
     }
 }

@@ -31,11 +31,9 @@ pub fn fill_lookup(order: &[u16], n: usize, lookup: &mut [u32])
     requires { (Numbering n order.now) × (n ≤ length lookup.old) }
     ensures { take n lookup.new ≡ lookup_of n (take n order.now) }
 {
-    let mut i = 0;
-    while i < n {
+    for i in 0..n {
         let new = Position(i as u32);
         put_position(lookup, place_at(order, new), new);
-        i += 1;
     }
 }
 

@@ -127,11 +127,9 @@ pub fn reorder(polygons: &[u8], order: &[u16], n: usize, lookup: &[u32], out: &m
     ensures { out.new ≡ over (rebuilt_records n (take n order.now) lookup.now polygons.now)
         out.old }
 {
-    let mut i = 0;
-    while i < n {
+    for i in 0..n {
         let new = Position(i as u32);
         move_record(polygons, place_at(order, new), lookup, out, new);
-        i += 1;
     }
 }
 
@@ -156,9 +154,7 @@ pub fn reorder_bytes(numbers: &[u8], order: &[u16], n: usize, out: &mut [u8])
     requires { (n ≤ 32767) × (n ≤ length order.now) × (n ≤ length out.old) × (Below (length numbers.now) (take n order.now)) }
     ensures { out.new ≡ over (in_order (take n order.now) numbers.now) out.old }
 {
-    let mut i = 0;
-    while i < n {
+    for i in 0..n {
         out[i] = number_at(numbers, place_at(order, Position(i as u32)));
-        i += 1;
     }
 }

@@ -27,10 +27,8 @@ pub fn past_corners(corners: &[u32]) -> u32
     ensures { (result ≤ 32768) × (CornersBelow result corners.now) }
 {
     let mut past = 0;
-    let mut s = 0;
-    while s < corners.len() {
-        past = past_corner(past, corners[s]);
-        s += 1;
+    for corner in corners {
+        past = past_corner(past, *corner);
     }
     past
 }
@@ -39,25 +37,21 @@ pub fn past_corners(corners: &[u32]) -> u32
 pub fn clear(words: &mut [u32])
     ensures { (b : ℕ) → b < length words.old → get_or words.new b 0 ≡ 0 }
 {
-    let mut b = 0;
-    while b < words.len() {
-        words[b] = 0;
-        b += 1;
-    }
+    words.fill(0);
 }
 
 fn lower(a: u32, b: u32) -> u32
     requires { (a < 32768) × (b < 32768) }
     ensures { result ≡ pair_of a b / 32768 }
 {
-    if a < b { a } else { b }
+    a.min(b)
 }
 
 fn higher(a: u32, b: u32) -> u32
     requires { (a < 32768) × (b < 32768) }
     ensures { result ≡ pair_of a b % 32768 }
 {
-    if a < b { b } else { a }
+    a.max(b)
 }
 
 // Puts the side before those behind it that have its lower corner, if it is there. It leads to the corner `to`.
@@ -81,9 +75,8 @@ pub fn enter_sides(corners: &[u32], heads: &mut [u32], nexts: &mut [u32])
     requires { (Enterable corners.now heads.old nexts.old) × ((b : ℕ) → b < length heads.old → get_or heads.old b 0 ≡ 0) }
     ensures { Chained (key_of corners.now) (sides_from corners.now 0) heads.new nexts.new }
 {
-    let mut s = corners.len();
-    while s > 0 {
-        s -= 3;
+    for p in (0..corners.len() / 3).rev() {
+        let s = 3 * p;
         enter_side(corners, Side(s as u32 + 2), s, heads, nexts);
         enter_side(corners, Side(s as u32 + 1), s + 2, heads, nexts);
         enter_side(corners, Side(s as u32), s + 1, heads, nexts);

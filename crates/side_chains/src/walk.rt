@@ -47,9 +47,7 @@ pub fn link_chains(heads: &[u32], nexts: &[u32], firsts: &mut [u32], links: &mut
     ensures { (key : ℕ → ℕ) (ss : List ℕ) → Chained key ss heads.now nexts.now
         → Every (λ s. low_of key s < length heads.now) ss → Linked key ss links.old links.new }
 {
-    let mut a = 0;
-    while a < heads.len() {
-        link_chain(nexts, heads[a], a as u32 * 131072, firsts, links);
-        a += 1;
+    for (a, head) in heads.iter().enumerate() {
+        link_chain(nexts, *head, a as u32 * 131072, firsts, links);
     }
 }

@@ -56,16 +56,6 @@ pub key_below : (cs : List ℕ) → Corners cs → (s : ℕ) → s < length cs �
 unfolding key_of
 key_below cs c s h t = pair_below (get_or cs s 0) (get_or cs (next_of s) 0) (c.small s h t).0 (c.small s h t).1
 
--- ---- one more is stored
-
-pub stored_one : (f : ℕ → ℕ) (l : List ℕ) (s v : ℕ) → s < length l → v ≡ f s → ((t : ℕ) → t < s → get_or l t 0 ≡ f t) → (t : ℕ) → t < s + 1
-    → get_or (set l s v) t 0 ≡ f t
-stored_one f l s v h e g t k = go (eqb t s) refl
-  where
-    go : (b : Bool) → eqb t s ≡ b → get_or (set l s v) t 0 ≡ f t
-    go true q = let p : t ≡ s = eqb-true t s q in rw p (get_or-set_same l s v 0 h ∙ e)
-    go false q = let ne : t ≡ s → ⊥ = eqb-false t s q in get_or-set_other l s t v 0 ne ∙ g t (omega arith)
-
 module _ (cs sides : List ℕ) (k s : ℕ) (e : take k sides ≡ sift (there cs) (up_from 0 s)) where
   one_more : sift (there cs) (up_from 0 (s + 1)) ≡ take k sides ++ sift (there cs) (s ∷ [])
   one_more =

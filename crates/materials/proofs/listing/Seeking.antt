@@ -1,40 +1,22 @@
--- The loop of `place_in`: the material is not among those before i, so its place is i and its place among the rest.
-use Prim.Native.Nat.{ℕ, ◌+◌, ◌≤◌, ◌<◌}
-use native.Mathlib.Omega.{arith}
-use mathlib.Core.Path.{◌≡◌, ap, ◌∙◌}
-use mathlib.Core.List.{List, ◌∷◌}
-use lib.ListN.{length, get_or, take, drop, drop_of_length-le}
-use lib.Seq.{length-take-le, get_or-take}
-use borrow.Author.Tests.{eq-eqb, ne_eqb}
-use Rattle.base.proofs.StoreLaws.{rest_one}
+-- Where a material stands first, by the place of the first that equals it.
+use Rattle.std.proofs.Common.{◌≡◌, ℕ, ◌+◌, ◌<◌, Bool, true, false, not, cond, refl, ap, List, [], ◌∷◌, length, eqb, position, ◌==◌, MatchOption, arith}
+use Rattle.std.specs.List.{position_or_len}
+use native.Mathlib.Decide.{dec_lt}
+use borrow.Author.Tests.{lt-ltb, le-ltb}
 use Rattle.materials.specs.Materials.{place_in}
+use Rattle.materials.proofs.ListLaws.{place_most}
 
-pub record Seeking (list : List ℕ) (count x i : ℕ) : Type 0 where
-  pub inside : i ≤ count
-  pub room : count ≤ length list
-  pub so_far : i + place_in (drop i (take count list)) x ≡ place_in (take count list) x
+same : (xs : List ℕ) (x : ℕ) → position_or_len (λ y. y == x) xs ≡ place_in xs x
+same [] x = refl
+same (y ∷ ys) x = go (same ys x) (eqb y x)
+  where
+    go : position_or_len (λ z. z == x) ys ≡ place_in ys x → (b : Bool) → cond (not b) (1 + position_or_len (λ z. z == x) ys) 0 ≡ cond b 0 (1 + place_in ys x)
+    go e true = refl
+    go e false = ap (λ (n : ℕ). 1 + n) e
 
-pub start : (list : List ℕ) (count x : ℕ) → count ≤ length list → Seeking list count x 0
-start list count x h = record { inside = omega arith; room = h; so_far = omega arith }
-
-module _ (list : List ℕ) (count x i : ℕ) (g : Seeking list count x i) where
-  next : i < count → drop i (take count list) ≡ get_or list i 0 ∷ drop (i + 1) (take count list)
-  next h =
-      rest_one (take count list) i (omega (arith, length-take-le count list g.room))
-      ∙ ap (λ (y : ℕ). y ∷ drop (i + 1) (take count list)) (get_or-take count list i 0 h)
-
-  pub found : i < count → get_or list i 0 ≡ x → i ≡ place_in (take count list) x
-  found h e =
-      let z : place_in (drop i (take count list)) x ≡ 0 = rw (next h, eq-eqb (get_or list i 0) x e) in
-      omega (arith, g.so_far, z)
-
-  pub passed : i < count → (get_or list i 0 ≡ x → ⊥) → Seeking list count x (i + 1)
-  passed h e =
-      let z : place_in (drop i (take count list)) x ≡ 1 + place_in (drop (i + 1) (take count list)) x = rw (next h, ne_eqb (get_or list i 0) x e) in
-      record { inside = omega arith; room = g.room; so_far = omega (arith, g.so_far, z) }
-
-  pub missing : count ≤ i → count ≡ place_in (take count list) x
-  missing h =
-      let long = length-take-le count list g.room in
-      let z : place_in (drop i (take count list)) x ≡ 0 = rw (drop_of_length-le (take count list) {i = i} (omega (arith, long))) in
-      omega (arith, g.so_far, z, g.inside)
+pub placed : (xs : List ℕ) (x : ℕ) → MatchOption (position (λ y. y == x) xs) (place_in xs x ≡ length xs) (λ at. (at ≡ place_in xs x) × (at < length xs))
+placed xs x = go (dec_lt (place_in xs x) (length xs))
+  where
+    go : Dec (place_in xs x < length xs) → MatchOption (position (λ y. y == x) xs) (place_in xs x ≡ length xs) (λ at. (at ≡ place_in xs x) × (at < length xs))
+    go (yes k) = rw (same xs x, lt-ltb (place_in xs x) (length xs) k) (refl, k)
+    go (no k) = rw (same xs x, le-ltb (place_in xs x) (length xs) (omega arith)) (omega (arith, place_most xs x))

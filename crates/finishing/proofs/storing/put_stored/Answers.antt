@@ -1,11 +1,9 @@
 -- `put_stored` meets its contract. The loop's invariant: the vertices before i are stored and read back, and nothing else is changed.
 use Prim.Native.Nat.{ℕ, ◌*◌}
 use native.Mathlib.Omega.{arith}
-use mathlib.Core.Path.{◌≡◌, refl, ap, ◌∙◌}
+use mathlib.Core.Path.{refl, ap, ◌∙◌}
 use mathlib.Core.List.{List}
 use lib.Seq.{sets}
-use Rattle.base.specs.Lists.{over}
-use Rattle.corners.specs.Corners.{in_turn}
 use Rattle.points.specs.Points.{words_of}
 use Rattle.points.proofs.PointLaws.{points_next}
 use Rattle.records.specs.Records.{vertex_bytes}
@@ -14,28 +12,20 @@ use Rattle.finishing.proofs.StoredLaws.{stored_next}
 use Rattle.finishing.proofs.storing.put_stored.Goals as goal
 
 pub loop-i-init : goal.loop-i-init
-loop-i-init c = record { upto = omega arith; stored_long = refl; floats-long = refl; stored_are = refl; floats_are = refl }
+unfolding stored_bytes floats_of
+loop-i-init c = record { stored_are = refl; floats_are = refl }
 
 pub put_one-requires : goal.put_one-requires
 put_one-requires c =
-    let l = c.loop-i in
     let q = c.requires in
-    let more = c.loop-i-test.true in
-    record {
-      given = omega (arith, q.given);
-      for_stored = omega (arith, q.for_stored, l.invariant.stored_long);
-      for_floats = omega (arith, q.for_floats, l.invariant.floats-long);
-    }
+    record { given = omega (arith, q.given); for_stored = omega (arith, q.for_stored); for_floats = omega (arith, q.for_floats) }
 
 pub loop-i-preserved : goal.loop-i-preserved
+unfolding stored_bytes floats_of
 loop-i-preserved c =
     let l = c.loop-i in
     let a = c.args in
-    let more = c.loop-i-test.true in
     record {
-      upto = omega arith;
-      stored_long = c.put_one.auto.stored ∙ l.invariant.stored_long;
-      floats-long = c.put_one.auto.floats ∙ l.invariant.floats-long;
       stored_are =
           c.put_one.ensures.0
           ∙ ap (λ (bytes : List ℕ). sets bytes (6 * l.i) (vertex_bytes (stored_at a.quantum a.words.now l.i))) l.invariant.stored_are
@@ -44,17 +34,4 @@ loop-i-preserved c =
           c.put_one.ensures.1
           ∙ ap (λ (ws : List ℕ). sets ws (3 * l.i) (words_of (back_at a.quantum a.words.now l.i))) l.invariant.floats_are
           ∙ points_next (back_at a.quantum a.words.now) a.floats.now l.i (omega (arith, c.requires.for_floats));
-    }
-
-pub returns : goal.returns
-unfolding stored_bytes floats_of
-returns c =
-    let l = c.loop-i in
-    let a = c.args in
-    let end : l.i ≡ a.v = omega (arith, l.invariant.upto) in
-    record {
-      stored_are =
-          l.invariant.stored_are
-          ∙ ap (λ (n : ℕ). over (in_turn n (λ k. vertex_bytes (stored_at a.quantum a.words.now k))) a.stored.now) end;
-      floats_are = l.invariant.floats_are ∙ ap (λ (n : ℕ). over (in_turn n (λ k. words_of (back_at a.quantum a.words.now k))) a.floats.now) end;
     }

@@ -11,15 +11,12 @@ use Rattle.materials.proofs.listing.count_all.Goals as goal
 pub loop-p-init : goal.loop-p-init
 loop-p-init c =
     let q = c.requires in
-    (count_start _ _ _ _ _ q.1 q.0.for_list, omega arith)
+    count_start _ _ _ _ _ q.1 q.0.for_list
 
 pub bounds-numbers-p : goal.bounds-numbers-p
 bounds-numbers-p c =
-    let in-numbers : c.loop-p.p < length c.args.numbers.now = omega (arith, c.requires.0.numbered, c.loop-p-test.true) in
+    let in-numbers : c.loop-p.p < length c.args.numbers.now = omega (arith, c.requires.0.numbered) in
     omega (arith, in-numbers)
-
-pub wide-b-requires : goal.wide-b-requires
-wide-b-requires c = tt
 
 pub value_at-requires : goal.value_at-requires
 value_at-requires c =
@@ -28,9 +25,9 @@ value_at-requires c =
 
 pub enter-count-requires : goal.enter-count-requires
 enter-count-requires c =
-    let in-numbers : c.loop-p.p < length c.args.numbers.now = omega (arith, c.requires.0.numbered, c.loop-p-test.true) in
+    let in-numbers : c.loop-p.p < length c.args.numbers.now = omega (arith, c.requires.0.numbered) in
     let l = c.loop-p in
-    let g = l.invariant.0.indexing in
+    let g = l.invariant.indexing in
     let w = c.wide-b.ensures in
     let f = fits _ _ _ _ _ _ _ _ g in-numbers _ w.0 w.1 in
     let p = entry _ _ _ _ _ _ _ _ g in-numbers _ w.0 w.1 in
@@ -41,18 +38,15 @@ pub loop-p-preserved : goal.loop-p-preserved
 loop-p-preserved c =
     let number : ℕ = c.wide-b.result in
     let entered : Entered number (value_at c.args.m c.args.mats.now number) c.loop-p.table c.enter-count.new.table (take c.loop-p.count c.loop-p.list) c.enter-count.new.list c.enter-count.result = rw c.value_at.ensures at c.enter-count.ensures in
-    let in-numbers : c.loop-p.p < length c.args.numbers.now = omega (arith, c.requires.0.numbered, c.loop-p-test.true) in
+    let in-numbers : c.loop-p.p < length c.args.numbers.now = omega (arith, c.requires.0.numbered) in
     let l = c.loop-p in
     let w = c.wide-b.ensures in
-    let n = c.enter-count in (
-      count_more_lem _ _ _ _ _ _ _ l.invariant.0 in-numbers _ w.0 w.1 _ _ _ n.auto.table n.auto.list entered
-          c.loop-p-test.true,
-      omega arith,
-    )
+    let n = c.enter-count in
+    count_more_lem _ _ _ _ _ _ _ l.invariant in-numbers _ w.0 w.1 _ _ _ n.auto.table n.auto.list entered (omega arith)
 
 pub returns : goal.returns
 returns c =
     let a = c.args in
     let l = c.loop-p in
     let end : l.p ≡ a.n = omega arith in
-    l.invariant.0.indexing.counted ∙ ap (λ (k : ℕ). length (list_of (values_of a.m a.mats.now k a.numbers.now))) end
+    l.invariant.indexing.counted ∙ ap (λ (k : ℕ). length (list_of (values_of a.m a.mats.now k a.numbers.now))) end

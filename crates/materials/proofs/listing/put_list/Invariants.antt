@@ -1,10 +1,6 @@
 -- `put_list`, by the invariant `Putting`.
-use Prim.Native.Nat.{◌-◌, ◌≤◌}
 use Rattle.materials.proofs.listing.Putting.{Putting}
 use Rattle.materials.proofs.listing.put_list.Given as goal
 
 abbrev pub invariant-loop-i : goal.invariant-loop-i
-invariant-loop-i l = (Putting l.list l.initial.out l.out l.i) × (l.i ≤ l.count)
-
-abbrev pub decreases-loop-i : goal.decreases-loop-i
-decreases-loop-i l = l.count - l.i
+invariant-loop-i l = Putting l.list l.initial.out l.out l.i

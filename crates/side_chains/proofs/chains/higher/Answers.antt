@@ -1,10 +1,16 @@
--- `higher`: the second corner where the first is less, else the first.
+-- `higher`: by which of the two corners is less.
+use Rattle.std.proofs.Common.{◌≡◌, ℕ, ◌%◌, ◌<◌, max, arith}
+use native.Mathlib.Decide.{dec_lt}
+use Rattle.sides.specs.Sides.{pair_of}
 use Rattle.sides.proofs.SideLaws.{pair_up, pair_down}
-use native.Mathlib.Omega.{arith}
 use Rattle.side_chains.proofs.chains.higher.Goals as goal
 
-pub returns-then-a-b : goal.returns-then-a-b
-returns-then-a-b c = omega (arith, pair_up _ _ c.if-a-b.true, c.requires.1)
+higher_is : (a b r : ℕ) → a < 32768 → b < 32768 → r ≡ max a b → r ≡ pair_of a b % 32768
+higher_is a b r p q e = go (dec_lt a b)
+  where
+    go : Dec (a < b) → r ≡ pair_of a b % 32768
+    go (yes k) = omega (arith, pair_up a b k)
+    go (no k) = let h = pair_down a b (omega arith) in omega arith
 
-pub returns-else-a-b : goal.returns-else-a-b
-returns-else-a-b c = omega (arith, pair_down _ _ c.if-a-b.false, c.requires.0)
+pub returns : goal.returns
+returns c = higher_is _ _ _ c.requires.0 c.requires.1 c.max.ensures

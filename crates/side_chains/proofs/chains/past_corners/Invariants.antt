@@ -1,14 +1,10 @@
--- `past_corners`: the corners before s are below `past`.
-use Prim.Native.Nat.{ℕ, ◌-◌, ◌≤◌, ◌<◌}
+-- `past_corners`: the corners before the next are below `past`.
+use Prim.Native.Nat.{ℕ, ◌≤◌, ◌<◌}
 use mathlib.Core.Path.{◌≡◌}
 use mathlib.Core.Bool.{true}
-use lib.ListN.{length, get_or}
-use Rattle.corners.specs.Corners.{there, Corners}
+use lib.ListN.{get_or}
+use Rattle.corners.specs.Corners.{there}
 use Rattle.side_chains.proofs.chains.past_corners.Given as goal
 
-abbrev pub invariant-loop-s : goal.invariant-loop-s
-invariant-loop-s l = (l.s ≤ length l.corners) × (l.past ≤ 32768) × ((t : ℕ) → t < l.s → there l.corners t ≡ true → get_or l.corners t 0 < l.past) ×
-    (Corners l.corners)
-
-abbrev pub decreases-loop-s : goal.decreases-loop-s
-decreases-loop-s l = length l.corners - l.s
+abbrev pub invariant-loop-corner : goal.invariant-loop-corner
+invariant-loop-corner l = (l.past ≤ 32768) × ((t : ℕ) → t < l.corner-index → there l.corners t ≡ true → get_or l.corners t 0 < l.past)
