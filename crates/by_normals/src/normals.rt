@@ -4,25 +4,18 @@ ghost use Rattle.by_normals.specs.Normals.{facing, is_origin, vertex_normal};
 
 use math::vec3::Vec3;
 
+// Rule S2's normal of the corners the other way round.
 pub fn facing(a: Vec3, b: Vec3, c: Vec3) -> Vec3
     ensures { result ≡ facing a b c }
 {
-    math::vec3::norm(a.sub(b).cross(c.sub(b)))
+    rings::normals::normal(c, b, a)
 }
 
 // -0 is zero, a NaN is not.
 fn is_origin(p: Vec3) -> bool
     ensures { result ≡ is_origin p }
 {
-    let x = p.x == 0.0;
-    if !x {
-        return false;
-    }
-    let y = p.y == 0.0;
-    if !y {
-        return false;
-    }
-    p.z == 0.0
+    p.x == 0.0 && p.y == 0.0 && p.z == 0.0
 }
 
 // The sum, normed, unless it is zero.

@@ -1,10 +1,11 @@
 -- |x| < 1e-6 by two comparisons: x < 1e-6 and -1e-6 < x, of which a NaN passes neither.
-use Prim.Native.Nat.{ℕ, ◌+◌, ◌*◌}
+use Prim.Native.Nat.{ℕ, ◌+◌, ◌*◌, ◌≤◌}
 use native.Mathlib.Omega.{arith}
-use mathlib.Core.Path.{◌≡◌, refl, sym}
+use mathlib.Core.Path.{◌≡◌, refl, sym, ap, ◌∙◌}
 use mathlib.Core.Bool.{Bool, true, false, not, ◌&&◌}
-use lib.Dec.{ltb}
+use lib.Dec.{ltb, eqb}
 use lib.IntN.{ℤ}
+use Rattle.std.specs.Int.{from_bool}
 use lib.Ieee.{Float, nan, inf, fin, of_bits, lt, neg, up, down}
 use Rattle.float32.specs.Signs.{abs_of}
 use Rattle.math.specs.Vec3s.{tolerance}
@@ -44,13 +45,24 @@ pub flat_by_two : (x : Float) → lt (abs_of x) tolerance ≡ lt x tolerance && 
 unfolding of_bits
 flat_by_two x = abs_below x _ _
 
--- Two tests that both fail, and two of which one passes.
-pub both_failed : (a b : Bool) {r s : ℕ} → Failed 1 (not a) r → Failed 1 (not b) s → r + s ≡ 2 → false ≡ not (a && b)
+-- Two tests that both fail, two of which one passes, and the test whether both fail.
+both_failed : (a b : Bool) {r s : ℕ} → Failed 1 (not a) r → Failed 1 (not b) s → r + s ≡ 2 → false ≡ not (a && b)
 both_failed true true f g e = refl
 both_failed true false {r} {s} f g e = absurd (omega (arith, eqb-true s 0 g.none, f.few))
 both_failed false b {r} {s} f g e = absurd (omega (arith, eqb-true r 0 f.none, g.few))
 
-pub one_passed : (a b : Bool) {r s : ℕ} → Failed 1 (not a) r → Failed 1 (not b) s → (r + s ≡ 2 → ⊥) → true ≡ not (a && b)
+one_passed : (a b : Bool) {r s : ℕ} → Failed 1 (not a) r → Failed 1 (not b) s → (r + s ≡ 2 → ⊥) → true ≡ not (a && b)
 one_passed true true {r} {s} f g e = absurd (e (omega (arith, eqb-false r 0 f.none, eqb-false s 0 g.none, f.few, g.few)))
 one_passed true false f g e = refl
 one_passed false b f g e = refl
+
+pub both_fail : (a b : Bool) {r s : ℕ} → Failed 1 (not a) r → Failed 1 (not b) s → (n : ℕ) → n ≡ from_bool (eqb (r + s) 2) → Failed 1 (not (a && b)) n
+both_fail a b {r} {s} f g n e = go (eqb (r + s) 2) refl
+  where
+    go : (t : Bool) → eqb (r + s) 2 ≡ t → Failed 1 (not (a && b)) n
+    go true h =
+        let one : n ≡ 1 = e ∙ ap from_bool h in
+        record { none = ap (λ (k : ℕ). eqb k 0) one ∙ both_failed a b f g (eqb-true (r + s) 2 h); few = omega arith }
+    go false h =
+        let zero : n ≡ 0 = e ∙ ap from_bool h in
+        record { none = ap (λ (k : ℕ). eqb k 0) zero ∙ one_passed a b f g (eqb-false (r + s) 2 h); few = omega arith }

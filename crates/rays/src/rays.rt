@@ -52,14 +52,14 @@ fn meet(f: Facet, ray: Ray) -> Meeting
 fn not_below(a: f32, b: f32) -> u32
     ensures { Failed 1 (not (lt a b)) result }
 {
-    if a < b { 1 } else { 0 }
+    u32::from(a < b)
 }
 
 // Fails unless a is at most b: a NaN does.
 fn at_most(a: f32, b: f32) -> u32
     ensures { Failed 1 (le a b) result }
 {
-    if a <= b { 0 } else { 1 }
+    u32::from(!(a <= b))
 }
 
 // Fails where |det| is below 1e-6, by two comparisons.
@@ -68,7 +68,7 @@ fn not_flat(det: f32) -> u32
 {
     let low = not_below(det, 0.000001);
     let high = not_below(-0.000001, det);
-    if low + high == 2 { 1 } else { 0 }
+    u32::from(low + high == 2)
 }
 
 fn within(u: f32) -> u32

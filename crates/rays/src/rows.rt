@@ -34,7 +34,7 @@ fn facet_at(rows: &[f32], t: usize, k: usize) -> Facet
 fn differ(a: u32, b: u32) -> u32
     ensures { Failed 1 (not (eqb a b)) result }
 {
-    if a == b { 1 } else { 0 }
+    u32::from(a == b)
 }
 
 // Fails where i is among the three.
@@ -47,7 +47,7 @@ fn none_of(a: u32, b: u32, c: u32, i: u32) -> u32
 fn one_if_none(failed: u32) -> u32
     ensures { result ≡ one_if (eqb failed 0) }
 {
-    if failed == 0 { 1 } else { 0 }
+    u32::from(failed == 0)
 }
 
 // How many of the t triangles that do not have the vertex i the ray hits.

@@ -8,7 +8,7 @@ ghost use Rattle.rays.specs.Steps.Rows.{put_triangle, Layable, Laid};
 fn one_if_there(corner: u32) -> usize
     ensures { result ≡ one_if (not (eqb corner none)) }
 {
-    if corner == 65535 { 0 } else { 1 }
+    usize::from(corner != 65535)
 }
 
 // How many of the n polygons are triangles.

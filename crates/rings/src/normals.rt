@@ -6,7 +6,7 @@ ghost use Rattle.rings.specs.Steps.Stored.{put_normal, Normals};
 use math::vec3::Vec3;
 use points::vertex_at;
 
-fn normal(a: Vec3, b: Vec3, c: Vec3) -> Vec3
+pub fn normal(a: Vec3, b: Vec3, c: Vec3) -> Vec3
     ensures { result ≡ normal_of a b c }
 {
     math::vec3::norm(c.sub(b).cross(a.sub(b)))

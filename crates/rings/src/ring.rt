@@ -1,6 +1,7 @@
 // The polygons around a vertex, walked from one to the next over their links.
-ghost use Rattle.std.specs.Prelude.{◌+◌, ◌*◌, ◌/◌, ◌≤◌, ◌<◌, length, ◌≡◌};
+ghost use Rattle.std.specs.Prelude.{MatchOption, ◌+◌, ◌*◌, ◌/◌, ◌≤◌, ◌<◌, length, ◌≡◌};
 ghost use Rattle.corners.specs.Corners.{next_of};
+ghost use Rattle.rings.specs.Firsts.{no_side};
 ghost use Rattle.rings.specs.Rings.{side_to, other_link, arrived, onward, first_link, ring_of};
 ghost use Rattle.rings.specs.Steps.Stored.{Linked, Begins};
 
@@ -18,22 +19,22 @@ fn next_side(s: usize) -> usize
     if s % 3 == 2 { s - 2 } else { s + 1 }
 }
 
-// The first side of polygon p that leads to the vertex, or 0xffff_ffff.
-fn side_to(corners: &[u32], p: usize, v: u32) -> usize
+// The first side of polygon p that leads to the vertex.
+fn side_to(corners: &[u32], p: usize, v: u32) -> Option<usize>
     requires { (3 * p + 3 ≤ length corners.now) × (p < 32768) }
-    ensures { result ≡ side_to corners.now p v }
+    ensures { MatchOption result (side_to corners.now p v ≡ no_side) (λ s. (s ≡ side_to corners.now p v) × (s / 3 ≡ p)) }
 {
     let at = 3 * p;
     if corners[at + 1] == v {
-        return at;
+        return Some(at);
     }
     if corners[at + 2] == v {
-        return at + 1;
+        return Some(at + 1);
     }
     if corners[at] == v {
-        return at + 2;
+        return Some(at + 2);
     }
-    0xffff_ffff
+    None
 }
 
 // The link that does not lead back.
@@ -67,10 +68,9 @@ fn onward(corners: &[u32], links: &[u32], n: usize, v: u32, poly: u32, w: Walker
     requires { (Linked corners.now links.now n) × (w.at < n) }
     ensures { result ≡ onward corners.now links.now v poly w }
 {
-    let s = side_to(corners, w.at as usize, v);
-    if s == 0xffff_ffff {
+    let Some(s) = side_to(corners, w.at as usize, v) else {
         return w;
-    }
+    };
     arrived(poly, w.at, other_link(links, s, w.prev))
 }
 

@@ -1,9 +1,8 @@
--- `normals::facing` meets its contract: what the operators on points ensure, put together.
-use mathlib.Core.Path.{ap, ap₂, ◌∙◌}
-use Rattle.math.specs.Vec3s.{cross_of, norm_of}
+-- `normals::facing` meets its contract: rule S2's normal, of the corners in the other order.
 use Rattle.by_normals.specs.Normals.{facing}
+use Rattle.rings.specs.Normals.{normal_of}
 use Rattle.by_normals.proofs.normals.facing.Goals as goal
 
 pub returns : goal.returns
-unfolding facing
-returns c = c.norm.ensures ∙ ap norm_of (c.cross.ensures ∙ ap₂ cross_of c.sub.ensures c.sub-2.ensures)
+unfolding facing normal_of
+returns c = c.normal.ensures
