@@ -29,8 +29,7 @@ pub fn first_margin(
 {
     let mut margin = start;
     let mut hint = 0;
-    let mut left: u32 = 148;
-    while left > 0 {
+    for _turn in 0..148u32 {
         let above = margin > 0.000001;
         if !above {
             return None;
@@ -39,12 +38,11 @@ pub fn first_margin(
             bad, hint, tri, t, corners, links, n, vertices, v, firsts, normals, margin, olds, ring,
             ns, news, points,
         );
-        if tried.passed {
+        let Err(failed) = tried else {
             return Some(margin);
-        }
-        hint = tried.failed;
+        };
+        hint = failed;
         margin = margin * 0.5;
-        left -= 1;
     }
     None
 }

@@ -1,6 +1,6 @@
 -- `search::first_margin` meets its contract. The loop's invariant: the turns that are left, from the present margin on, answer what all 148 do.
 use mathlib.Core.Path.{◌≡◌}
-use Prim.Native.Nat.{ℕ}
+use Prim.Native.Nat.{ℕ, ◌-◌}
 use mathlib.Core.List.{List}
 use lib.ListN.{length}
 use lib.Ieee.{Float}
@@ -18,8 +18,5 @@ pub record Going (mesh : Mesh) (start : Float) (ring₀ : List ℕ) (ns₀ news�
   pub points-length : length points ≡ length points₀
   pub rest : passing (passes_at mesh) left margin ≡ margin_of mesh start
 
-abbrev pub invariant-loop-left : goal.invariant-loop-left
-invariant-loop-left l = Going (mesh_of l.corners l.links l.n l.vertices l.v) l.start l.initial.ring l.initial.ns l.initial.news l.initial.points l.ring l.ns l.news l.points l.margin l.left
-
-abbrev pub decreases-loop-left : goal.decreases-loop-left
-decreases-loop-left l = l.left
+abbrev pub invariant-loop-turn : goal.invariant-loop-turn
+invariant-loop-turn l = Going (mesh_of l.corners l.links l.n l.vertices l.v) l.start l.initial.ring l.initial.ns l.initial.news l.initial.points l.ring l.ns l.news l.points l.margin (148 - l._turn)
