@@ -14,7 +14,7 @@ use borrow.Author.Tests.{eq-eqb, eqb-true}
 use Rattle.std.specs.Prelude.{Option, None, Some}
 use Rattle.std.specs.declared.cmp.Ordering.{Ordering}
 use Rattle.std.specs.declared.cmp.Ordering.TheVariants.{Less, Equal, Greater}
-use Rattle.std.specs.Ordering.{is_some_and, ordering_reverse, float_partial_cmp}
+use Rattle.std.specs.Ordering.{is_some_and, ordering_reverse}
 use Rattle.std.specs.Ordering as O
 use Rattle.std.specs.Option.{option_map}
 use Rattle.float32.specs.Comparison.{Meaning, none, lowest, highest, ratio, meaning, Apart, Related, of_ordering, relate, relation_of}
@@ -279,17 +279,6 @@ yes_less None e = absurd (subst T (sym e) tt)
 pub less_if : (x y : Float) → lt x y ≡ true → Some Less ≡ relation_of x y
 less_if x y e = yes_less (relation_of x y) (sym (lt_says x y) ∙ e)
 
--- std's order of floats is the relation.
-pub partial_says : (x y : Float) → float_partial_cmp x y ≡ relation_of x y
-partial_says x y = rw (lt_says x y, eq_says x y, gt_says x y) (go (relation_of x y))
-  where
-    go : (r : Option Ordering)
-        → cond (is_some_and O.is_lt r) (Some Less) (cond (is_some_and O.is_eq r) (Some Equal) (cond (is_some_and O.is_gt r) (Some Greater) None)) ≡ r
-    go (Some Less) = refl
-    go (Some Equal) = refl
-    go (Some Greater) = refl
-    go None = refl
-
 some : Meaning → Bool
 some none = false
 some lowest = true
@@ -310,6 +299,35 @@ unordered_nan x y e = go (subst (λ (r : Option Ordering). Related r (meaning x)
     go : Apart (meaning x) (meaning y) → (is_nan x ≡ true) ⊎ (is_nan y ≡ true)
     go (inl h) = inl (only_nan x h)
     go (inr h) = inr (only_nan y h)
+
+nan_unordered : (x y : Float) → (is_nan x || is_nan y) ≡ true → relation_of x y ≡ None
+unfolding relation_of is_nan
+nan_unordered nan y e = refl
+nan_unordered (inf s) nan e = sym (to_none (meaning (inf s)))
+nan_unordered (inf s) (inf t) e = absurd (subst T (sym e) tt)
+nan_unordered (inf s) (fin t n d) e = absurd (subst T (sym e) tt)
+nan_unordered (fin s m d) nan e = sym (to_none (meaning (fin s m d)))
+nan_unordered (fin s m d) (inf t) e = absurd (subst T (sym e) tt)
+nan_unordered (fin s m d) (fin t n k) e = absurd (subst T (sym e) tt)
+
+pub by_tests : (x y : Float)
+    → relation_of x y ≡ cond (is_nan x || is_nan y) None (cond (lt x y) (Some Less) (cond (eq x y) (Some Equal) (Some Greater)))
+by_tests x y =
+    rw (lt_says x y, eq_says x y)
+    (go (relation_of x y) (is_nan x || is_nan y) (λ e. either (is_nan x) (is_nan y) (unordered_nan x y e)) (nan_unordered x y))
+  where
+    either : (a b : Bool) → (a ≡ true) ⊎ (b ≡ true) → (a || b) ≡ true
+    either true b h = refl
+    either false b (inl e) = absurd (subst T (sym e) tt)
+    either false b (inr e) = e
+
+    go : (r : Option Ordering) (b : Bool) → (r ≡ None → b ≡ true) → (b ≡ true → r ≡ None)
+        → r ≡ cond b None (cond (is_some_and O.is_lt r) (Some Less) (cond (is_some_and O.is_eq r) (Some Equal) (Some Greater)))
+    go None b h k = rw (h refl) refl
+    go (Some o) true h k = k refl
+    go (Some Less) false h k = refl
+    go (Some Equal) false h k = refl
+    go (Some Greater) false h k = refl
 
 -- ---- worked examples
 

@@ -36,7 +36,7 @@ pub fn vmax_word(a: u32, b: u32) -> u32
     }
 }
 
-// Rust's `f32::min`: the number where the other is a NaN.
+// Rust's `f32::min`: the number where the other is a NaN. std's own leaves open which of 0 and -0 it answers, and rule F5 says which.
 pub fn min_number(a: f32, b: f32) -> f32
     ensures { result ≡ min_number_of a b }
 {
@@ -49,7 +49,7 @@ pub fn min_number(a: f32, b: f32) -> f32
     }
 }
 
-// Rust's `f32::max`: the number where the other is a NaN.
+// Rust's `f32::max`: the number where the other is a NaN. std's own leaves open which of 0 and -0 it answers, and rule F5 says which.
 pub fn max_number(a: f32, b: f32) -> f32
     ensures { result ≡ max_number_of a b }
 {
