@@ -6,13 +6,8 @@ use Rattle.math.specs.Vec3s.{◌⊘◌, scale_of}
 use Rattle.math.specs.Transform.{half}
 use Rattle.math.specs.declared.vec3.Vec3.{Vec3}
 use Rattle.entries.specs.Average.{average_of}
-use Rattle.entries.specs.Steps.Totals.{low_of, sum_of, high_of}
+use Rattle.entries.specs.Steps.Totals.{sum_of}
 use Rattle.entries.proofs.average.measure.Goals as goal
-
-pub fold_by_value-requires : goal.fold_by_value-requires
-fold_by_value-requires c =
-    let e = c.gather-g.ensures.0 in
-    (c.requires.0, c.low_of.ensures ∙ ap low_of e, c.high_of.ensures ∙ ap high_of e, c.requires.2)
 
 pub returns : goal.returns
 unfolding average_of

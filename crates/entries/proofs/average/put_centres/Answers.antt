@@ -2,16 +2,13 @@
 use Prim.Native.Nat.{◌+◌}
 use mathlib.Core.List.{List}
 use lib.Ieee.{Float}
-use mathlib.Core.Path.{refl, subst, sym, ap, ◌∙◌}
+use mathlib.Core.Path.{subst, sym, ap, ◌∙◌}
 use native.Mathlib.Omega.{arith}
 use Rattle.math.specs.Vec3s.{add_of, scale_of}
 use Rattle.math.specs.Transform.{half}
 use Rattle.entries.specs.declared.boxes.Corners.{Corners}
-use Rattle.entries.proofs.CentreLaws.{in_a_row, Storing, one_more, all_stored}
+use Rattle.entries.proofs.CentreLaws.{in_a_row, Storing, one_more}
 use Rattle.entries.proofs.average.put_centres.Goals as goal
-
-pub loop-i-init : goal.loop-i-init
-loop-i-init c = record { upto = omega arith; same = refl; done = λ p h. absurd (omega arith) }
 
 pub loop-i-preserved : goal.loop-i-preserved
 loop-i-preserved c =
@@ -22,8 +19,3 @@ loop-i-preserved c =
     let e = in_a_row l.centres l.i v ∙ sym c.put_centre.ensures in
     subst (λ (cs : List Float). Storing ws c.args.centres.now cs (l.i + 1)) e
     (one_more ws c.args.centres.now l.centres l.i l.invariant c.requires.0 v (omega arith) is)
-
-pub returns : goal.returns
-returns c =
-    let l = c.loop-i in
-    all_stored c.args.entries.now c.args.centres.now l.centres l.i l.invariant c.requires.0 (omega arith)

@@ -1,9 +1,6 @@
 -- `fold::fold_by_value` meets its contract: by the fold of the words where there is a NaN, else by the law that a number has one word.
 use native.Mathlib.Omega.{arith}
-use mathlib.Core.Path.{◌≡◌, sym, ◌∙◌}
-use mathlib.Core.Bool.{false}
-use Rattle.base.proofs.Truth.{neither}
-use Rattle.entries.specs.Steps.Totals.{any_nan}
+use mathlib.Core.Path.{sym, ◌∙◌}
 use Rattle.entries.proofs.TotalLaws.{none_nan, by_value}
 use Rattle.entries.proofs.fold.fold_by_value.Goals as goal
 
@@ -11,16 +8,6 @@ pub has_nan-requires : goal.has_nan-requires
 has_nan-requires c =
     let a = c.args in
     λ e. none_nan a.entries.now (c.requires.3.numbers e) a.places.now a.low a.high c.requires.1 c.requires.2
-
-pub number_words-requires : goal.number_words-requires
-number_words-requires c =
-    let numbers : c.has_nan.result ≡ false → (any_nan c.args.low ≡ false) × (any_nan c.args.high ≡ false) = λ e. neither (any_nan c.args.low) (any_nan c.args.high) (sym c.has_nan.ensures ∙ e) in
-    (numbers c.if-has_nan.false).0
-
-pub number_words-requires-2 : goal.number_words-requires-2
-number_words-requires-2 c =
-    let numbers : c.has_nan.result ≡ false → (any_nan c.args.low ≡ false) × (any_nan c.args.high ≡ false) = λ e. neither (any_nan c.args.low) (any_nan c.args.high) (sym c.has_nan.ensures ∙ e) in
-    (numbers c.if-has_nan.false).1
 
 pub returns : goal.returns
 returns c =

@@ -22,6 +22,3 @@ number_word-requires-2 c = (none c.args.v c.requires).1
 
 pub number_word-requires-3 : goal.number_word-requires-3
 number_word-requires-3 c = (none c.args.v c.requires).2
-
-pub returns : goal.returns
-returns c = λ i. record { x = c.number_word.ensures i; y = c.number_word-2.ensures i; z = c.number_word-3.ensures i }

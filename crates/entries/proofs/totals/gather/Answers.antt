@@ -5,7 +5,6 @@ use mathlib.Core.Path.{◌≡◌, ap, ◌∙◌}
 use mathlib.Core.List.{List}
 use lib.ListN.{length, take, drop, length-drop}
 use lib.Seq.{take_all}
-use Rattle.base.proofs.WithinLaws.{within_take, within_drop}
 use Rattle.entries.specs.Boxes.{box_at}
 use Rattle.entries.specs.Steps.Totals.{totals_from}
 use Rattle.entries.proofs.TotalLaws.{go_on}
@@ -15,13 +14,6 @@ pub returns-then-n-lt256 : goal.returns-then-n-lt256
 returns-then-n-lt256 c =
     let none = c.no_longer.ensures in
     (c.total.ensures, record { within = omega arith; kept = λ h. absurd (omega arith) })
-
-pub total_on-requires : goal.total_on-requires
-total_on-requires c =
-    let size : ℕ = length c.args.entries.now in
-    let ps : List ℕ = c.args.places.now in
-    let k : ℕ = c.begin-b.result.count in
-    (within_take size (length ps - k) (drop k ps) (within_drop size k ps c.requires.0), c.requires.1)
 
 pub returns : goal.returns
 returns c =

@@ -10,20 +10,10 @@ use Rattle.entries.specs.declared.average.Lanes.{Lanes}
 use Rattle.entries.specs.Boxes.{box_at}
 use Rattle.split.specs.Rule.{below, above}
 use Rattle.split.specs.Steps.Groups.{count_more}
-use Rattle.entries.proofs.Places.{begin, taken, finished, next_within}
+use Rattle.entries.proofs.Places.{taken, finished, next_within}
 use Rattle.split.proofs.LaneLaws.{lane_above}
-use Rattle.split.proofs.Counting.{onto, none, onto_more, onto_none, none_onto, small}
+use Rattle.split.proofs.Counting.{onto, onto_more, onto_none, none_onto, small}
 use Rattle.split.proofs.groups.count_below.Goals as goal
-
-pub loop-p-init : goal.loop-p-init
-loop-p-init c =
-    let at = box_at c.args.entries.now in
-    begin (onto at c.args.avg) _ c.args.places.now (none at c.args.avg) c.requires.0
-
-pub centre_at-c-requires : goal.centre_at-c-requires
-centre_at-c-requires c =
-    let l = c.loop-p in
-    omega (arith, next_within _ _ c.args.places.now _ l.counts l.p-index l.invariant (omega arith), c.requires.2.room)
 
 pub overflow_add-counts : goal.overflow_add-counts
 overflow_add-counts c =

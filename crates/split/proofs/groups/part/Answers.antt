@@ -4,7 +4,7 @@ use Prim.Native.Nat.{ℕ}
 use mathlib.Core.Bool.{Bool, not}
 use mathlib.Core.List.{List}
 use Rattle.base.specs.Lists.{sift}
-use Rattle.base.proofs.ListLaws.{length_sift, length_both}
+use Rattle.base.proofs.ListLaws.{length_both}
 use Rattle.entries.specs.Boxes.{box_at}
 use Rattle.split.specs.Rule.{above}
 use Rattle.split.proofs.Steps.{none_same, parted_united, parted_same, nowhere_united}
@@ -15,21 +15,6 @@ returns-then-seen_none_above c =
     let test_of : ℕ → Bool = above (box_at c.args.entries.now) c.args.avg c.args.axis in (
       nowhere_united _ c.args.places.now test_of c.requires.0 (c.seen_none_above.ensures c.if-seen_none_above.true),
       none_same c.args.places.now _ _,
-    )
-
-pub overflow_sub-m : goal.overflow_sub-m
-overflow_sub-m c =
-    let test_of : ℕ → Bool = above (box_at c.args.entries.now) c.args.avg c.args.axis in
-    let p = c.partition-k in
-    omega (arith, p.auto.places, p.ensures.count, length_sift test_of c.args.places.now)
-
-pub unite-requires : goal.unite-requires
-unite-requires c =
-    let test_of : ℕ → Bool = above (box_at c.args.entries.now) c.args.avg c.args.axis in
-    let p = c.partition-k in
-    let few = length_sift test_of c.args.places.now in (
-      omega (arith, p.auto.places, p.auto.temp, c.requires.1),
-      omega (arith, p.auto.places, p.ensures.count, few),
     )
 
 pub returns : goal.returns

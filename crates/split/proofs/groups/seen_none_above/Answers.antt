@@ -1,7 +1,6 @@
 -- `groups::seen_none_above` meets its contract: on x by the count, else it says so only where `none_above` does.
 use borrow.Author.Tests.{eqb-true}
 use mathlib.Core.Path.{ap, sym, ◌∙◌}
-use mathlib.Core.Bool.{false≢true}
 use lib.ListN.{length}
 use Rattle.base.specs.Lists.{sift}
 use Rattle.math.specs.declared.axis.Axis.{Axis}
@@ -19,6 +18,3 @@ returns-then-step_of-eq0 c =
     let x = step_zero a.axis (sym step.ensures ∙ c.if-step_of-eq0.true) in
     let e = ap (λ (b : Axis). length (sift (above at a.avg b) a.places.now)) x ∙ sym (ap (λ (n : Counts). n.over) c.requires.2) in
     λ t. none_counted (above at a.avg a.axis) a.places.now (e ∙ eqb-true _ _ t)
-
-pub returns-then-counts-places : goal.returns-then-counts-places
-returns-then-counts-places c = λ t. absurd (false≢true t)
