@@ -70,7 +70,7 @@ pub fn computed_box(children: &[u32], child: Place) -> Aabb
     math::aabb::transform_box(b, matrix_at(children, 24 * (child.0 as usize) + 8))
 }
 
-// A child's computed box, where it is present.
+// A child's computed box, where it is present. C reads it from `bounds_computed_box`, so that a mark stands in the place of an `Option`.
 #[repr(C)]
 #[derive(Clone, Copy)]
 pub struct ChildBox {

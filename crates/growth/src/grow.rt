@@ -81,7 +81,7 @@ fn push_two(stack: &mut [u32], sp: usize, a: usize, b: usize)
 }
 
 // Rows in preorder, without their numbers of nodes. The stack holds the lengths of the segments that wait, which lie one after the other
-// from `lo` on.
+// from `lo` on. It is a lent slice with its top in `sp`, not a `Vec`: the library has fixed memory and no heap.
 pub fn grow(
     places: &mut [u32],
     temp: &mut [u32],

@@ -1,10 +1,9 @@
 -- What is put part after part is put as one.
-use Rattle.std.specs.Prelude.{◌≡◌, ℕ, ◌+◌, ◌-◌, ◌<◌, ◌≤◌, List, [], ◌∷◌, ◌++◌, length, get_or, take, set}
+use Rattle.std.specs.Prelude.{◌≡◌, ℕ, ◌+◌, ◌-◌, ◌≤◌, List, [], ◌++◌, length, take}
 use native.Mathlib.Omega.{arith}
-use native.Mathlib.Numerals.{add-one}
 use mathlib.Core.Path.{refl, sym, ap, ◌∙◌}
-use lib.ListN.{length-append, length-set}
-use lib.Seq.{sets, length-sets, length-take-le, take-suc, take_all}
+use lib.ListN.{length-append}
+use lib.Seq.{sets, length-sets}
 use borrow.Rule.Slice.PartMut.{put_mid, Post-is}
 use Rattle.base.proofs.StoreLaws.{store_next, stores_leave}
 use Rattle.listing.specs.Text.{Put}

@@ -1,4 +1,5 @@
 // Text in a lent buffer. Each function puts its text from `at` on and answers where it ends.
+// `write!` would be no plainer: `Put` says each byte, so that a sink of `fmt` would have to say it over again.
 ghost use Rattle.std.specs.Prelude.{◌+◌, ◌<◌, ◌≤◌, [], ◌∷◌, length};
 ghost use Rattle.listing.specs.Text.{Put, decimal, signed, field};
 

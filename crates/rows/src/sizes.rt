@@ -26,13 +26,10 @@ pub fn fill_sizes(rows: &mut [u32], m: usize)
     requires { (8 * m ≤ length rows.old) × (m < 65536) }
     ensures { take (8 * m) rows.new ≡ table_of (sized (rows_in m rows.old)) }
 {
-    let mut i = m;
-    while 0 < i {
-        let j = i;
-        i -= 1;
+    for i in (0..m).rev() {
         if row_count(rows, i) == 0 {
-            let l = node_size(rows, m, j);
-            let r = node_size(rows, m, j + l);
+            let l = node_size(rows, m, i + 1);
+            let r = node_size(rows, m, i + 1 + l);
             set_head(rows, i, 1 + l + r);
         }
     }

@@ -1,5 +1,5 @@
 -- The loop of `fill_sizes`: the rows before i are as they were, those from i on are sized.
-use Prim.Native.Nat.{ℕ, zero, suc, ◌+◌, ◌*◌, ◌≤◌, ◌<◌}
+use Prim.Native.Nat.{ℕ, zero, suc, ◌+◌, ◌-◌, ◌*◌, ◌≤◌, ◌<◌}
 use native.Mathlib.Omega.{arith}
 use native.Mathlib.Nat.{add-zero}
 use mathlib.Core.List.{List, [], ◌∷◌, ◌++◌, append_assoc, append-nil}
@@ -122,3 +122,17 @@ module _ (rs : List Row) (rest table : List ℕ) (i m : ℕ) (many : length rs �
               ∙ ap (λ (x : Row). table_of (take q rs ++ (x ∷ behind)) ++ rest) same
               ∙ ap (λ (l : List Row). table_of l ++ rest) (sym next);
         }
+
+-- What a turn of the loop reads at the row before i: the sizes of the two trees behind it, of which the first ends within the table.
+module _ (m : ℕ) (initial rest table : List ℕ) (i l : ℕ) (some : 0 < i) (g : Filling (rows_in m initial) rest table i)
+    (first : l ≡ size_at (rows_in m table) (i - 1 + 1)) where
+  behind_it : i - 1 + 1 ≡ i
+  behind_it = omega arith
+
+  pub turn_first : i + l ≤ m
+  turn_first = first_ends (rows_in m initial) rest table i m (length_rows_in m initial) g l (first ∙ ap (size_at (rows_in m table)) behind_it)
+
+  pub turn_read : (r : ℕ) → r ≡ size_at (rows_in m table) (i - 1 + 1 + l) → Read (rows_in m initial) i l r
+  turn_read r second =
+      read (rows_in m initial) rest table i m (length_rows_in m initial) g l r (first ∙ ap (size_at (rows_in m table)) behind_it)
+      (second ∙ ap (λ (k : ℕ). size_at (rows_in m table) (k + l)) behind_it)

@@ -1,5 +1,4 @@
 -- `items::gather` meets its contract. The loop's invariant, `Gathering`: the places so far, followed by those still to be marked, are all.
-use Rattle.std.specs.Prelude.{◌-◌}
 use Rattle.bvh.proofs.items.Gathering.{Gathering}
 use Rattle.bvh.proofs.items.gather.Given as goal
 

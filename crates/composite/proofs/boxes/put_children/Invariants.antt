@@ -1,5 +1,5 @@
 -- `put_children`, by the invariant `Putting`.
-use Rattle.std.specs.Prelude.{◌-◌, ◌≤◌}
+use Rattle.std.specs.Prelude.{◌≤◌}
 use Rattle.composite.proofs.BoxLaws.{Putting}
 use Rattle.composite.proofs.boxes.put_children.Given as goal
 

@@ -1,5 +1,5 @@
 -- `put_items`, by the invariant `Making`.
-use Rattle.std.specs.Prelude.{◌-◌, ◌≤◌}
+use Rattle.std.specs.Prelude.{◌≤◌}
 use Rattle.composite.specs.Trees.{child_items}
 use Rattle.composite.proofs.ItemLaws.{Making}
 use Rattle.composite.proofs.building.put_items.Given as goal

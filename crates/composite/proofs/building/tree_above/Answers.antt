@@ -1,7 +1,6 @@
 -- `tree_above` meets its contract: no tree, a refusal, or the build over the items' words (TreeLaws).
 use Rattle.std.proofs.Common.{◌≡◌, Err, ◌≤◌, ◌<◌, ◌*◌, arith, length, rules}
 use mathlib.Core.Path.{refl}
-use Rattle.composite.specs.Trees.{with_tree}
 use Rattle.composite.proofs.TreeLaws.{fits, none, too_many, too_short, by_build, over_items}
 use Rattle.composite.proofs.building.tree_above.Goals as goal
 

@@ -1,5 +1,5 @@
 -- `lines::put_node_lines` meets its contract: the lines of the first i records are put.
-use Rattle.std.specs.Prelude.{◌-◌, ◌*◌}
+use Rattle.std.specs.Prelude.{◌*◌}
 use Rattle.records.specs.Records.{node_at}
 use Rattle.listing.specs.Lines.{node_line}
 use Rattle.listing.proofs.Lining.{Lined}

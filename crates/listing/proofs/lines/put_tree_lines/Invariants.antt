@@ -1,5 +1,5 @@
 -- `lines::put_tree_lines` meets its contract: the lines of the first i records are put.
-use Rattle.std.specs.Prelude.{◌-◌, ◌*◌}
+use Rattle.std.specs.Prelude.{◌*◌}
 use Rattle.records.specs.Records.{tree_at}
 use Rattle.listing.specs.Lines.{tree_line}
 use Rattle.listing.proofs.Lining.{Lined}

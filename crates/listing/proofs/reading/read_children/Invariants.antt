@@ -1,5 +1,4 @@
 -- `reading::read_children` meets its contract: the first i records are read.
-use Rattle.std.specs.Prelude.{◌-◌}
 use Rattle.listing.proofs.Children.{Children}
 use Rattle.listing.proofs.reading.read_children.Given as goal
 
