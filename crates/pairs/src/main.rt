@@ -47,7 +47,7 @@ fn verdict(
         reads,
         missed: met.missed,
         twice,
-        failures: if failed { 1 } else { 0 },
+        failures: failed as u64,
     }
 }
 
