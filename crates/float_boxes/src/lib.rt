@@ -133,20 +133,12 @@ pub fn not_told() -> FloatBox
     }
 }
 
-fn higher(a: usize, b: usize) -> usize
-    ensures { (a ≤ result) × (b ≤ result) × ((result ≡ a) ⊎ (result ≡ b)) }
-{
-    if a > b { a } else { b }
-}
-
 // Whether all four are vertices of a list of so many floats, with a float behind each.
 pub fn within(i: u32, j: u32, k: u32, l: u32, floats: usize) -> bool
     ensures { (result ≡ true → (3 * i + 4 ≤ floats) × (3 * j + 4 ≤ floats) × (3 * k + 4 ≤ floats) × (3 * l + 4 ≤ floats))
         × (result ≡ false → ((floats < 3 * i + 4) ⊎ (floats < 3 * j + 4)) ⊎ ((floats < 3 * k + 4) ⊎ (floats < 3 * l + 4))) }
 {
-    let first = higher(3 * (i as usize), 3 * (j as usize));
-    let last = higher(3 * (k as usize), 3 * (l as usize));
-    higher(first, last) + 4 <= floats
+    3 * (i.max(j).max(k.max(l)) as usize) + 4 <= floats
 }
 
 pub fn vertices_at(vertices: &[f32], i: u32, j: u32, k: u32, l: u32) -> Vertices4

@@ -55,23 +55,23 @@ fn polygon_of(h: Halves) -> Polygon
     if kind == 1 {
         return Polygon::Sphere {
             index: h.at2,
-            radius: radius,
-            nan: nan,
+            radius,
+            nan,
         };
     }
     if kind == 2 {
         return Polygon::Capsule {
             i1: h.at2,
             i2: h.at8,
-            radius: radius,
-            nan: nan,
+            radius,
+            nan,
         };
     }
     Polygon::Cylinder {
         i1: h.at2,
         i2: h.at8,
-        radius: radius,
-        nan: nan,
+        radius,
+        nan,
     }
 }
 

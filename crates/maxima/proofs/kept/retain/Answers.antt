@@ -24,10 +24,10 @@ pub loop-k-preserved : goal.loop-k-preserved
 loop-k-preserved c =
     let l = c.loop-k in
     elim c.if-not-shadowed.branch [
-      then-not-shadowed w ↦
-        rw (w.kept-is, w.left-is) (left_in _ _ _ _ _ l.invariant (omega (arith, l.invariant.len)) (ap not (sym c.shadowed.ensures ∙ w.if-not-shadowed.true)))
+      | then-not-shadowed w ↦
+          rw (w.kept-is, w.left-is) (left_in _ _ _ _ _ l.invariant (omega (arith, l.invariant.len)) (ap not (sym c.shadowed.ensures ∙ w.if-not-shadowed.true)))
       | else-not-shadowed w ↦
-        rw (w.kept-is, w.left-is) (taken_out _ _ _ _ _ l.invariant (omega (arith, l.invariant.len)) (ap not (sym c.shadowed.ensures ∙ w.if-not-shadowed.false)))
+          rw (w.kept-is, w.left-is) (taken_out _ _ _ _ _ l.invariant (omega (arith, l.invariant.len)) (ap not (sym c.shadowed.ensures ∙ w.if-not-shadowed.false)))
     ]
 
 pub returns : goal.returns

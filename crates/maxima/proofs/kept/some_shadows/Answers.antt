@@ -17,9 +17,9 @@ any-requires-clause-callable c =
     let a = c.args in
     serves_from_places (YieldsList-from_slice a.kept.now cc) (λ x q k. search rules)
     (λ x k h e.
-      let w = every_at (λ p. p < a.n) a.kept.now k c.requires.below h in
-      let below : x.now < a.n = omega (arith, get_or_default_zero a.kept.now k x.now h) in
-      search rules)
+    let w = every_at (λ p. p < a.n) a.kept.now k c.requires.below h in
+    let below : x.now < a.n = omega (arith, get_or_default_zero a.kept.now k x.now h) in
+    search rules)
 
 pub returns : goal.returns
 returns c =

@@ -15,8 +15,8 @@ pub loop-i-preserved : goal.loop-i-preserved
 loop-i-preserved c =
     let l = c.loop-i in
     elim c.if-marks-i-eq0.branch [
-      then-marks-i-eq0 w ↦
-        rw (w.list-is, w.count-is) (write _ _ _ _ _ _ l.invariant (omega arith) c.requires.1 (eq-eqb _ 0 w.if-marks-i-eq0.true))
+      | then-marks-i-eq0 w ↦
+          rw (w.list-is, w.count-is) (write _ _ _ _ _ _ l.invariant (omega arith) c.requires.1 (eq-eqb _ 0 w.if-marks-i-eq0.true))
       | else-marks-i-eq0 w ↦
-        rw (w.list-is, w.count-is) (skip _ _ _ _ _ _ l.invariant (omega arith) c.requires.1 (ne_eqb _ 0 w.if-marks-i-eq0.false))
+          rw (w.list-is, w.count-is) (skip _ _ _ _ _ _ l.invariant (omega arith) c.requires.1 (ne_eqb _ 0 w.if-marks-i-eq0.false))
     ]
