@@ -119,7 +119,8 @@ pub fn dedupe(
     index_all(numbers, n, mats, m, &mut table, list, indices)
 }
 
-// How many materials n polygons use, each counted once. The table begins with nothing.
+// How many materials n polygons use, each counted once. The table begins with nothing. The loop is that of `index_all` without its indices: one function
+// for both would take as a closure what to do with each place, which is longer than the two lines that are alike.
 fn count_all(
     numbers: &[u8],
     n: usize,

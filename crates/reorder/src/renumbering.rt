@@ -14,7 +14,7 @@ use polygon::halves::{half_of, short_of};
 use polygon::reading::polygon_at;
 use polygon::writing::put_polygon;
 
-// The new number of a link; none where it leads past the polygons.
+// The new number of a link; none where it leads past the polygons: 65535 and no Option, since rule K3 (`renumbered`) writes it into the record.
 fn renumbered(lookup: &[u32], old: u16) -> u16
     requires { Below 65536 lookup.now }
     ensures { result ≡ renumbered lookup.now old }

@@ -1,5 +1,6 @@
 // Sides as chains, one for each lower corner: `heads` leads to the first side of each, and `nexts` has for a side its higher corner and what
-// leads to the next one. What leads to a side is its number and 1; 0 is the end.
+// leads to the next one. What leads to a side is its number and 1; 0 is the end. No Option: the words are lent by C (`bounds_update_edge_indices`),
+// and a word of `nexts` has the corner beside it.
 ghost use Rattle.std.specs.Prelude.{◌≡◌, ℕ, ◌+◌, ◌/◌, ◌%◌, ◌≤◌, ◌<◌, length, get_or};
 ghost use Rattle.corners.specs.Corners.{next_of, Corners};
 ghost use Rattle.sides.specs.Sides.{pair_of, key_of};

@@ -19,7 +19,8 @@ fn link_later(links: &mut [u32], first: Side, later: Side)
     }
 }
 
-// Links the sides of a chain. `firsts` has for a higher corner `base` and what leads to the first side with it; less, as long as there is none.
+// Links the sides of a chain. `firsts` has for a higher corner `base` and what leads to the first side with it; less, as long as there is none:
+// no Option, since a word that an earlier chain left stands for none too, and is not cleared between chains.
 fn link_chain(nexts: &[u32], head: u32, base: u32, firsts: &mut [u32], links: &mut [u32])
     requires { Walkable nexts.now head base firsts.old links.old }
     ensures { Walked nexts.now head base firsts.new links.old links.new }

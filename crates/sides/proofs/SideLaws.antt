@@ -8,8 +8,8 @@ use mathlib.Core.Bool.{Bool, true, false, not, cond}
 use mathlib.Core.List.{List, [], ◌∷◌, ◌++◌, append-nil}
 use lib.Dec.{eqb, ltb}
 use lib.ListN.{length, get_or, set, take}
-use lib.Seq.{take-suc-set, get_or-set_same, get_or-set_other}
-use borrow.Author.Tests.{eqb-true, eqb-false, eq-eqb, ne_eqb, lt-ltb, le-ltb}
+use lib.Seq.{take-suc-set}
+use borrow.Author.Tests.{eqb-false, eq-eqb, ne_eqb, lt-ltb, le-ltb}
 use Rattle.base.specs.Lists.{sift, up_from}
 use Rattle.corners.specs.Corners.{none, next_of, there, Corners}
 use Rattle.sides.specs.Sides.{pair_of, key_of}

@@ -1,6 +1,5 @@
 -- `enter_sides`: the sides of the polygons from p on are entered.
-use Prim.Native.Nat.{ℕ, ◌-◌, ◌*◌, ◌%◌, ◌<◌}
-use mathlib.Core.Path.{◌≡◌, ◌∙◌}
+use mathlib.Core.Path.{◌∙◌}
 use Rattle.side_chains.proofs.chains.Entering.{still_enterable, third_leads, second_leads, first_leads, from_as}
 use native.Mathlib.Omega.{arith}
 use Rattle.side_chains.proofs.chains.enter_sides.Goals as goal
