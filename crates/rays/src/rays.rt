@@ -1,4 +1,4 @@
-// A ray against a triangle, with no branch: each test that fails counts one, so that the loop over triangles compiles to vector code.
+// A ray against a triangle, with no branch: each test counts one if it fails, and answers no bool, so that the loop over triangles compiles to vector code.
 ghost use Rattle.std.specs.Prelude.{◌≡◌, not};
 ghost use Rattle.std.specs.Float.Ieee.{lt, le};
 ghost use Rattle.float32.specs.Signs.{abs_of};

@@ -5,7 +5,7 @@ ghost use Rattle.rings.specs.Firsts.{no_side};
 ghost use Rattle.rings.specs.Rings.{side_to, other_link, arrived, onward, first_link, ring_of};
 ghost use Rattle.rings.specs.Steps.Stored.{Linked, Begins};
 
-// The polygon that the walk came from, and the one where it is; 65535 where it has ended.
+// The polygon that the walk came from, and the one where it is. A walk that has ended is at 65535, the links' own word, which `onward` of specs/Rings compares.
 #[derive(Clone, Copy)]
 pub struct Walker {
     pub prev: u32,

@@ -38,6 +38,7 @@ pub fn shrunk_at(
     ensures { result ≡ shrunk_at (mesh_of corners.now links.now n vertices.now v) by i }
 {
     let from = vertex_at(vertices, i);
+    // A vertex without a side has the word 0xffff_ffff in the lent buffer, which has no room for an Option (fixed memory).
     let side = wide(firsts[i]);
     if side == 0xffff_ffff {
         return from;

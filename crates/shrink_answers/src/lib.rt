@@ -26,6 +26,7 @@ fn without(refusal: u32, by: u32) -> ShrinkAnswer
     }
 }
 
+// The C interface tells a refusal by 01's number.
 fn refusal_number(why: ShrinkRefusal) -> u32
     ensures { result ≡ refusal_number why }
 {

@@ -25,7 +25,7 @@ pub enum Shrunk {
     NoVertices,
 }
 
-// The lengths of the lent buffers.
+// The lengths of the lent buffers, by which the contract of `bounds_calculate_verts_shrunk` says when one is too short.
 #[derive(Clone, Copy)]
 pub struct Lengths {
     pub polygons: usize,

@@ -1,6 +1,6 @@
 -- `sums::put_sums` meets its contract. The loop's invariant: the points hold the sums of the polygons before p.
 use mathlib.Core.Path.{◌≡◌}
-use Prim.Native.Nat.{ℕ, ◌-◌, ◌*◌, ◌≤◌}
+use Prim.Native.Nat.{ℕ, ◌*◌, ◌≤◌}
 use mathlib.Core.List.{List}
 use lib.ListN.{length}
 use Rattle.by_normals.specs.Normals.{Placed, placed_of}

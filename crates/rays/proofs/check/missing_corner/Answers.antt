@@ -19,7 +19,7 @@ use Rattle.rays.proofs.check.missing_corner.Goals as goal
 -- by what `any` says of the corners
 by_corners : (tri : List ℕ) (t v : ℕ) → 3 * t ≤ length tri → (r : Bool)
     → MatchBool r ((k : ℕ) × (k < length (take (3 * t) tri)) × HoldsAt (λ x. v ≤ x) (take (3 * t) tri) k)
-      (AllWithin (λ x. x < v) (take (3 * t) tri) 0 (length (take (3 * t) tri)))
+    (AllWithin (λ x. x < v) (take (3 * t) tri) 0 (length (take (3 * t) tri)))
     → r ≡ missing_in tri t v
 by_corners tri t v room true h =
     let long : length (take (3 * t) tri) ≡ 3 * t = length-take-le (3 * t) tri room in

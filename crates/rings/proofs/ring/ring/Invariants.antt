@@ -1,5 +1,5 @@
 -- `ring::ring` meets its contract. The loop's invariant: what is written, followed by the ring from the walker on, is the whole ring.
-use Prim.Native.Nat.{◌-◌, ◌/◌}
+use Prim.Native.Nat.{◌/◌}
 use Rattle.rings.specs.Rings.{ring_of}
 use Rattle.rings.proofs.RingLaws.{Ringing}
 use Rattle.rings.proofs.ring.ring.Given as goal
