@@ -3,7 +3,7 @@ use Rattle.std.proofs.Common.{◌≡◌, ℕ, zero, suc, ◌+◌, ◌*◌, ◌<�
 use lib.Seq.{drop-nil, take-length}
 use Rattle.io.specs.Digits.{last_digits}
 use Rattle.replay.specs.Lines.{field, fields_of, Spells}
-use Rattle.replay.specs.declared.line.Spelled.TheVariants as S
+use Rattle.std.specs.Prelude.{Some, None}
 use Rattle.replay.proofs.Spelling.{length_digits, spelt_in, none_in}
 
 length_field : (w : ℕ) → length (field w) ≡ 9
@@ -91,11 +91,11 @@ read_whole text words n r e = sym (take-length text) ∙ ap (λ (k : ℕ). take 
 part_length : (text : List ℕ) (at k : ℕ) → k ≡ 8 → at + 8 ≤ length text → length (take k (drop at text)) ≡ 8
 part_length text at k e h = length-take-le k (drop at text) (simp length-drop (omega arith)) ∙ e
 
-pub part_digits : (text : List ℕ) (at k w : ℕ) → k ≡ 8 → at + 8 ≤ length text → Spells (take k (drop at text)) (S.Number w)
+pub part_digits : (text : List ℕ) (at k w : ℕ) → k ≡ 8 → at + 8 ≤ length text → Spells (take k (drop at text)) (Some w)
     → take 8 (drop at text) ≡ last_digits 16 8 w
 part_digits text at k w e h s =
     ap (λ (m : ℕ). take m (drop at text)) (sym e) ∙ (spelt_in (take k (drop at text)) 8 w (part_length text at k e h) s).0
 
-pub no_part : (text : List ℕ) (at k w : ℕ) → k ≡ 8 → at + 8 ≤ length text → Spells (take k (drop at text)) S.Nothing → take 8 (drop at text) ≡ last_digits 16 8 w → ⊥
+pub no_part : (text : List ℕ) (at k w : ℕ) → k ≡ 8 → at + 8 ≤ length text → Spells (take k (drop at text)) None → take 8 (drop at text) ≡ last_digits 16 8 w → ⊥
 no_part text at k w e h s d =
     none_in (take k (drop at text)) 8 w (part_length text at k e h) s (ap (λ (m : ℕ). take m (drop at text)) e ∙ d)

@@ -6,7 +6,7 @@ use lib.ListN.{get_or-append}
 use lib.Seq.{take-length, get_or_at}
 use Rattle.io.specs.Digits.{hex_digit_ascii, last_digits}
 use Rattle.replay.specs.Lines.{digit_of, Spells}
-use Rattle.replay.specs.declared.line.Spelled.TheVariants as S
+use Rattle.std.specs.Prelude.{Some, None}
 
 -- ---- one digit
 
@@ -109,7 +109,7 @@ fits {text} {i} {n} s h d l =
     let b : 16 ^ i ≤ 16 ^ 7 = pow-le-pow_right {n = 16} (omega arith) {i = i} {j = 7} (omega arith) in
     omega (arith, s.bound)
 
-pub whole : {text : List ℕ} {i n : ℕ} → Spelling text i n → i ≡ length text → Spells text (S.Number n)
+pub whole : {text : List ℕ} {i n : ℕ} → Spelling text i n → i ≡ length text → Spells text (Some n)
 whole {text} {i} {n} s e = (
   sym (take-length text) ∙ subst (λ (k : ℕ). take k text ≡ last_digits 16 k n) e s.spelt,
   subst (λ (k : ℕ). n < 16 ^ k) e s.bound,
@@ -117,10 +117,10 @@ whole {text} {i} {n} s e = (
 
 -- ---- what is read of a text of k bytes
 
-pub spelt_in : (text : List ℕ) (k n : ℕ) → length text ≡ k → Spells text (S.Number n) → (text ≡ last_digits 16 k n) × (n < 16 ^ k)
+pub spelt_in : (text : List ℕ) (k n : ℕ) → length text ≡ k → Spells text (Some n) → (text ≡ last_digits 16 k n) × (n < 16 ^ k)
 spelt_in text k n e s = subst (λ (j : ℕ). (text ≡ last_digits 16 j n) × (n < 16 ^ j)) e s
 
-pub none_in : (text : List ℕ) (k n : ℕ) → length text ≡ k → Spells text S.Nothing → text ≡ last_digits 16 k n → ⊥
+pub none_in : (text : List ℕ) (k n : ℕ) → length text ≡ k → Spells text None → text ≡ last_digits 16 k n → ⊥
 none_in text k n e s = subst (λ (j : ℕ). text ≡ last_digits 16 j n → ⊥) e (s n)
 
 -- Two numbers below 16 ^ k that have the same digits are the same.

@@ -3,10 +3,7 @@ use Rattle.std.specs.Prelude.{◌≡◌, ℕ, ◌-◌, ◌^◌, ◌<◌, Bool, t
 use Rattle.io.specs.Digits.{last_digits}
 use Rattle.replay.specs.Operations.{number_of, count_of}
 use Rattle.replay.specs.declared.operation.Operation.{Operation}
-use Rattle.replay.specs.declared.line.Spelled.{Spelled}
-use Rattle.replay.specs.declared.line.Spelled.TheVariants as S
-use Rattle.replay.specs.declared.line.Parsed.{Parsed}
-use Rattle.replay.specs.declared.line.Parsed.TheVariants as P
+use Rattle.std.specs.Prelude.{Option, Some, None}
 
 -- A word: a space, and eight hexadecimal digits.
 unfoldable pub field : ℕ → List ℕ
@@ -26,9 +23,9 @@ digit_of c =
     cond (nat_lt c 48) 16 (cond (nat_lt c 58) (c - 48) (cond (nat_lt c 97) 16 (cond (nat_lt c 103) (c - 87) 16)))
 
 -- The number that hexadecimal digits spell; nothing where the text has another byte.
-abbrev pub Spells : List ℕ → Spelled → Type 0
-Spells s (S.Number n) = (s ≡ last_digits 16 (length s) n) × (n < 16 ^ length s)
-Spells s S.Nothing = (n : ℕ) → s ≢ last_digits 16 (length s) n
+abbrev pub Spells : List ℕ → Option ℕ → Type 0
+Spells s (Some n) = (s ≡ last_digits 16 (length s) n) × (n < 16 ^ length s)
+Spells s None = (n : ℕ) → s ≢ last_digits 16 (length s) n
 
 -- Whether a text is that of n words, and of which.
 abbrev pub Fields : List ℕ → ℕ → List ℕ → Bool → Type 0
@@ -41,7 +38,7 @@ pub record Says (n : ℕ) (line ws : List ℕ) : Type 0 where
   pub named : n ≡ number_of op
   pub same : line ≡ line_of op (take (count_of op) ws)
 
--- What a line says: the number of its operation, with its words, or Bad where it is the line of none.
-abbrev pub Parses : List ℕ → List ℕ → Parsed → Type 0
-Parses line ws (P.Case n) = Says n line ws
-Parses line ws P.Bad = (op : Operation) (vs : List ℕ) → length vs ≡ count_of op → line ≢ line_of op vs
+-- What a line says: the number of its operation, with its words, or None where it is the line of none.
+abbrev pub Parses : List ℕ → List ℕ → Option ℕ → Type 0
+Parses line ws (Some n) = Says n line ws
+Parses line ws None = (op : Operation) (vs : List ℕ) → length vs ≡ count_of op → line ≢ line_of op vs

@@ -19,28 +19,20 @@ fn digit(c: u8) -> u32
     }
 }
 
-#[derive(Clone, Copy)]
-pub enum Spelled {
-    Number(u32),
-    Nothing,
-}
-
-// The number that up to eight digits spell.
-fn number(text: &[u8]) -> Spelled
+// The number that up to eight digits spell; None where a byte is no digit.
+fn number(text: &[u8]) -> Option<u32>
     requires { length text.now ≤ 8 }
     ensures { Spells text.now result }
 {
     let mut n: u32 = 0;
-    let mut i = 0;
-    while i < text.len() {
+    for i in 0..text.len() {
         let d = digit(text[i]);
         if d == 16 {
-            return Spelled::Nothing;
+            return None;
         }
         n = n * 16 + d;
-        i += 1;
     }
-    Spelled::Number(n)
+    Some(n)
 }
 
 // Puts the words of a text, each after a space, at the start of `words`, and answers whether it is such a text.
@@ -48,52 +40,44 @@ fn fields(text: &[u8], words: &mut [u32], count: usize) -> bool
     requires { (length text.now ≡ 9 * count) × (count ≤ length words.old) }
     ensures { Fields text.now count (take count words.new) result }
 {
-    let mut i = 0;
-    while i < count {
+    for i in 0..count {
         let at = 9 * i;
         if text[at] != b' ' {
             return false;
         }
-        let Spelled::Number(word) = number(&text[at + 1..at + 9]) else {
+        let Some(word) = number(&text[at + 1..at + 9]) else {
             return false;
         };
         words[i] = word;
-        i += 1;
     }
     true
 }
 
-#[derive(Clone, Copy)]
-pub enum Parsed {
-    Case(u32),
-    Bad,
-}
-
-// The number of the line's operation, whose words are put at the start of `words`.
-pub fn parse(line: &[u8], words: &mut [u32]) -> Parsed
+// The number of the line's operation, whose words are put at the start of `words`; None where the line is no case.
+pub fn parse(line: &[u8], words: &mut [u32]) -> Option<u32>
     requires { 28 ≤ length words.old }
     ensures { Parses line.now words.new result }
 {
     if line.len() < 2 {
-        return Parsed::Bad;
+        return None;
     }
-    let Spelled::Number(n) = number(&line[..2]) else {
-        return Parsed::Bad;
+    let Some(n) = number(&line[..2]) else {
+        return None;
     };
     // The operations' numbers are those from 1 to 35.
     if n < 1 {
-        return Parsed::Bad;
+        return None;
     }
     if n > 35 {
-        return Parsed::Bad;
+        return None;
     }
     let count = crate::operation::count(n);
     if line.len() != 2 + 9 * count {
-        return Parsed::Bad;
+        return None;
     }
     if fields(&line[2..], words, count) {
-        Parsed::Case(n)
+        Some(n)
     } else {
-        Parsed::Bad
+        None
     }
 }

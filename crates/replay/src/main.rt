@@ -80,10 +80,8 @@ fn print_total(cases: u64, misses: u64, bad: u64) {
 fn report(cases: &[u64], misses: &[u64])
     requires { (36 ≤ length cases.now) × (36 ≤ length misses.now) }
 {
-    let mut i = 1;
-    while i < 36 {
+    for i in 1..36 {
         print_operation(i, cases[i], misses[i]);
-        i += 1;
     }
     print_total(tally::total(cases), tally::total(misses), cases[0]);
 }

@@ -5,7 +5,6 @@ ghost use Rattle.replay.specs.Operations.{inputs_of, count_of};
 ghost use Rattle.replay.specs.Outcomes.{Holds, Words, Agrees, Judged};
 
 use crate::answer::Answer;
-use crate::line::Parsed;
 use crate::operation::Operation;
 
 #[derive(Clone, Copy)]
@@ -22,12 +21,10 @@ fn same(a: &[u32], b: &[u32]) -> bool
     if a.len() != b.len() {
         return false;
     }
-    let mut i = 0;
-    while i < a.len() {
+    for i in 0..a.len() {
         if a[i] != b[i] {
             return false;
         }
-        i += 1;
     }
     true
 }
@@ -58,8 +55,8 @@ pub fn of(line: &[u8]) -> Outcome
 {
     let mut words = [0u32; 28];
     match crate::line::parse(line, &mut words) {
-        Parsed::Bad => Outcome::Bad,
-        Parsed::Case(n) => {
+        None => Outcome::Bad,
+        Some(n) => {
             let op = crate::operation::of_number(n);
             let count = crate::operation::count(n);
             let taken = crate::operation::inputs(n);

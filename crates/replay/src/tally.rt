@@ -59,10 +59,8 @@ pub fn feed(text: &[u8], line: &mut [u8], at: usize, cases: &mut [u64], misses: 
         (state_of (take result line.new) cases.new misses.new) }
 {
     let mut length = at;
-    let mut i = 0;
-    while i < text.len() {
+    for i in 0..text.len() {
         length = step(line, length, text[i], cases, misses);
-        i += 1;
     }
     length
 }
@@ -82,10 +80,8 @@ pub fn total(counts: &[u64]) -> u64
     ensures { result ≡ total_from 0 counts.now }
 {
     let mut sum: u64 = 0;
-    let mut i = 0;
-    while i < counts.len() {
+    for i in 0..counts.len() {
         sum = std::num::wrapping_add_u64(sum, counts[i]);
-        i += 1;
     }
     sum
 }

@@ -1,10 +1,6 @@
 -- `line::number` meets its contract: the bytes before i are digits and spell n. A byte that is no digit stands in no spelling.
-use Rattle.std.proofs.Common.{◌-◌, ◌≤◌, length}
 use Rattle.replay.proofs.Spelling.{Spelling}
 use Rattle.replay.proofs.line.number.Given as goal
 
 abbrev pub invariant-loop-i : goal.invariant-loop-i
-invariant-loop-i l = (l.i ≤ length l.text) × Spelling l.text l.i l.n
-
-abbrev pub decreases-loop-i : goal.decreases-loop-i
-decreases-loop-i l = length l.text - l.i
+invariant-loop-i l = Spelling l.text l.i l.n

@@ -3,7 +3,7 @@ use Rattle.std.proofs.Common.{◌≡◌, ℕ, ◌-◌, ◌^◌, ◌<◌, ◌≤�
 use Rattle.io.specs.Digits.{last_digits}
 use Rattle.replay.specs.Lines.{fields_of, line_of, Spells, Fields}
 use Rattle.replay.specs.Operations.{number_of, count_of}
-use Rattle.replay.specs.declared.line.Spelled.TheVariants as S
+use Rattle.std.specs.Prelude.{None}
 use Rattle.replay.specs.declared.operation.Operation.{Operation}
 use Rattle.replay.proofs.LineLaws.{line_length, line_number, line_fields, line_made, line_names}
 use Rattle.replay.proofs.Numbering.{numbered, has}
@@ -27,28 +27,28 @@ pub returns-in_default : goal.returns-in_default
 returns-in_default c =
     λ op vs n e.
     let line = c.args.line.now in
-    let none : Spells (take 2 line) S.Nothing = subst (Spells (take 2 line)) c.in_default.is c.number.ensures in
+    let none : Spells (take 2 line) None = subst (Spells (take 2 line)) c.in_default.is c.number.ensures in
     none_in (take 2 line) 2 (number_of op) (length-take-le 2 line c.if-line-lt2.false) none (ap (take 2) e ∙ line_number op vs)
 
 pub returns-then-n-lt1 : goal.returns-then-n-lt1
 returns-then-n-lt1 c =
     let line_at : List ℕ = c.args.line.now in
-    let number_at : ℕ = c.in-Number.n in
+    let number_at : ℕ = c.in-Some.n in
     let digits-read : (take 2 line_at ≡ last_digits 16 2 number_at) × (number_at < 16 ^ 2) =
     let two = take 2 line_at in
     let long = length-take-le 2 line_at c.if-line-lt2.false in
-    spelt_in two 2 number_at long (subst (Spells two) c.in-Number.is c.number.ensures) in
+    spelt_in two 2 number_at long (subst (Spells two) c.in-Some.is c.number.ensures) in
     let named : (op : Operation) (vs : List ℕ) → line_at ≡ line_of op vs → number_at ≡ number_of op = λ op vs e. line_names line_at number_at op vs digits-read.0 digits-read.1 e in
     λ op vs n e. omega (arith, c.if-n-lt1.true, named op vs e, (numbered op).least)
 
 pub returns-then-n-gt35 : goal.returns-then-n-gt35
 returns-then-n-gt35 c =
     let line_at : List ℕ = c.args.line.now in
-    let number_at : ℕ = c.in-Number.n in
+    let number_at : ℕ = c.in-Some.n in
     let digits-read : (take 2 line_at ≡ last_digits 16 2 number_at) × (number_at < 16 ^ 2) =
     let two = take 2 line_at in
     let long = length-take-le 2 line_at c.if-line-lt2.false in
-    spelt_in two 2 number_at long (subst (Spells two) c.in-Number.is c.number.ensures) in
+    spelt_in two 2 number_at long (subst (Spells two) c.in-Some.is c.number.ensures) in
     let named : (op : Operation) (vs : List ℕ) → line_at ≡ line_of op vs → number_at ≡ number_of op = λ op vs e. line_names line_at number_at op vs digits-read.0 digits-read.1 e in
     λ op vs n e. omega (arith, c.if-n-gt35.true, named op vs e, (numbered op).most)
 
@@ -70,12 +70,12 @@ overflow_add-count c =
 pub returns-then-line-count : goal.returns-then-line-count
 returns-then-line-count c =
     let line_at : List ℕ = c.args.line.now in
-    let number_at : ℕ = c.in-Number.n in
+    let number_at : ℕ = c.in-Some.n in
     let count_at : ℕ = c.count-count.result in
     let digits-read : (take 2 line_at ≡ last_digits 16 2 number_at) × (number_at < 16 ^ 2) =
     let two = take 2 line_at in
     let long = length-take-le 2 line_at c.if-line-lt2.false in
-    spelt_in two 2 number_at long (subst (Spells two) c.in-Number.is c.number.ensures) in
+    spelt_in two 2 number_at long (subst (Spells two) c.in-Some.is c.number.ensures) in
     let named : (op : Operation) (vs : List ℕ) → line_at ≡ line_of op vs → number_at ≡ number_of op = λ op vs e. line_names line_at number_at op vs digits-read.0 digits-read.1 e in
     let same_count : (op : Operation) (vs : List ℕ) → length vs ≡ count_of op → line_at ≡ line_of op vs → length vs ≡ count_at = λ op vs n e. n ∙ sym (c.count-count.ensures.counts op (named op vs e)) in
     λ op vs n e. c.if-line-count.true (omega (arith, ap length e, line_length op vs, same_count op vs n e))
@@ -91,12 +91,12 @@ fields-requires c =
 pub returns-then-fields : goal.returns-then-fields
 returns-then-fields c =
     let line_at : List ℕ = c.args.line.now in
-    let number_at : ℕ = c.in-Number.n in
+    let number_at : ℕ = c.in-Some.n in
     let count_at : ℕ = c.count-count.result in
     let digits-read : (take 2 line_at ≡ last_digits 16 2 number_at) × (number_at < 16 ^ 2) =
     let two = take 2 line_at in
     let long = length-take-le 2 line_at c.if-line-lt2.false in
-    spelt_in two 2 number_at long (subst (Spells two) c.in-Number.is c.number.ensures) in
+    spelt_in two 2 number_at long (subst (Spells two) c.in-Some.is c.number.ensures) in
     let named : (op : Operation) (vs : List ℕ) → line_at ≡ line_of op vs → number_at ≡ number_of op = λ op vs e. line_names line_at number_at op vs digits-read.0 digits-read.1 e in
     let line = line_at in
     let words = c.fields.new.words in
@@ -111,12 +111,12 @@ returns-then-fields c =
 pub returns-else-fields : goal.returns-else-fields
 returns-else-fields c =
     let line_at : List ℕ = c.args.line.now in
-    let number_at : ℕ = c.in-Number.n in
+    let number_at : ℕ = c.in-Some.n in
     let count_at : ℕ = c.count-count.result in
     let digits-read : (take 2 line_at ≡ last_digits 16 2 number_at) × (number_at < 16 ^ 2) =
     let two = take 2 line_at in
     let long = length-take-le 2 line_at c.if-line-lt2.false in
-    spelt_in two 2 number_at long (subst (Spells two) c.in-Number.is c.number.ensures) in
+    spelt_in two 2 number_at long (subst (Spells two) c.in-Some.is c.number.ensures) in
     let named : (op : Operation) (vs : List ℕ) → line_at ≡ line_of op vs → number_at ≡ number_of op = λ op vs e. line_names line_at number_at op vs digits-read.0 digits-read.1 e in
     let same_count : (op : Operation) (vs : List ℕ) → length vs ≡ count_of op → line_at ≡ line_of op vs → length vs ≡ count_at = λ op vs n e. n ∙ sym (c.count-count.ensures.counts op (named op vs e)) in
     λ op vs n e.

@@ -2,7 +2,7 @@
 use Rattle.std.proofs.Common.{◌≡◌, ℕ, ◌≤◌, List, length, take, sym, ap, ◌∙◌, subst, arith, length-take-le}
 use Rattle.replay.specs.Lines.{line_of, Parses}
 use Rattle.replay.specs.Outcomes.{Holds, Agrees, Case}
-use Rattle.replay.specs.declared.line.Parsed.TheVariants as Parsed
+use Rattle.std.specs.Prelude.{Some}
 use Rattle.replay.specs.Operations.{count_of}
 use Rattle.replay.proofs.Numbering.{numbered, number_injective}
 use Rattle.replay.specs.declared.operation.Operation.{Operation}
@@ -10,19 +10,19 @@ use Rattle.replay.proofs.outcome.of.Goals as goal
 
 pub of_number-op-requires : goal.of_number-op-requires
 of_number-op-requires c =
-    let read : Parses c.args.line.now c.parse.new.words (Parsed.Case c.in-Case.n) = subst (Parses c.args.line.now c.parse.new.words) c.in-Case.is c.parse.ensures in
+    let read : Parses c.args.line.now c.parse.new.words (Some c.in-Some.n) = subst (Parses c.args.line.now c.parse.new.words) c.in-Some.is c.parse.ensures in
     let said = read in
     (omega (arith, said.named, (numbered said.op).least), omega (arith, said.named, (numbered said.op).most))
 
 pub count-count-requires : goal.count-count-requires
 count-count-requires c =
-    let read : Parses c.args.line.now c.parse.new.words (Parsed.Case c.in-Case.n) = subst (Parses c.args.line.now c.parse.new.words) c.in-Case.is c.parse.ensures in
+    let read : Parses c.args.line.now c.parse.new.words (Some c.in-Some.n) = subst (Parses c.args.line.now c.parse.new.words) c.in-Some.is c.parse.ensures in
     let said = read in
     omega (arith, said.named, (numbered said.op).most)
 
 pub inputs-taken-requires : goal.inputs-taken-requires
 inputs-taken-requires c =
-    let read : Parses c.args.line.now c.parse.new.words (Parsed.Case c.in-Case.n) = subst (Parses c.args.line.now c.parse.new.words) c.in-Case.is c.parse.ensures in
+    let read : Parses c.args.line.now c.parse.new.words (Some c.in-Some.n) = subst (Parses c.args.line.now c.parse.new.words) c.in-Some.is c.parse.ensures in
     let said = read in
     omega (arith, said.named, (numbered said.op).most)
 
@@ -56,13 +56,13 @@ judge-requires c =
     let taken = c.inputs-taken.ensures op-at c.of_number-op.ensures in
     (taken, length-take-le count_at read_at room ∙ counted)
 
-pub returns-in-Bad : goal.returns-in-Bad
-returns-in-Bad c =
-    subst (Parses c.args.line.now c.parse.new.words) c.in-Bad.is c.parse.ensures
+pub returns-in-None : goal.returns-in-None
+returns-in-None c =
+    subst (Parses c.args.line.now c.parse.new.words) c.in-None.is c.parse.ensures
 
 pub returns-then-judge : goal.returns-then-judge
 returns-then-judge c =
-    let read : Parses c.args.line.now c.parse.new.words (Parsed.Case c.in-Case.n) = subst (Parses c.args.line.now c.parse.new.words) c.in-Case.is c.parse.ensures in
+    let read : Parses c.args.line.now c.parse.new.words (Some c.in-Some.n) = subst (Parses c.args.line.now c.parse.new.words) c.in-Some.is c.parse.ensures in
     let op-at : Operation = c.of_number-op.result in
     let count_at : ℕ = c.count-count.result in
     let read_at : List ℕ = c.parse.new.words in
@@ -71,7 +71,7 @@ returns-then-judge c =
     let room : count_at ≤ length read_at =
     let parse = c.parse in
     omega (arith, c.count-count.ensures.upper_bound, parse.auto.words) in
-    let case-of : (P : Operation → List ℕ → Type 0) → P op-at (take count_at read_at) → Case P c.in-Case.n line_at = λ P found.
+    let case-of : (P : Operation → List ℕ → Type 0) → P op-at (take count_at read_at) → Case P c.in-Some.n line_at = λ P found.
     let op = op-at in
     let all = read_at in
     let count = count_at in
@@ -93,7 +93,7 @@ returns-then-judge c =
 
 pub returns-else-judge : goal.returns-else-judge
 returns-else-judge c =
-    let read : Parses c.args.line.now c.parse.new.words (Parsed.Case c.in-Case.n) = subst (Parses c.args.line.now c.parse.new.words) c.in-Case.is c.parse.ensures in
+    let read : Parses c.args.line.now c.parse.new.words (Some c.in-Some.n) = subst (Parses c.args.line.now c.parse.new.words) c.in-Some.is c.parse.ensures in
     let op-at : Operation = c.of_number-op.result in
     let count_at : ℕ = c.count-count.result in
     let read_at : List ℕ = c.parse.new.words in
@@ -102,7 +102,7 @@ returns-else-judge c =
     let room : count_at ≤ length read_at =
     let parse = c.parse in
     omega (arith, c.count-count.ensures.upper_bound, parse.auto.words) in
-    let case-of : (P : Operation → List ℕ → Type 0) → P op-at (take count_at read_at) → Case P c.in-Case.n line_at = λ P found.
+    let case-of : (P : Operation → List ℕ → Type 0) → P op-at (take count_at read_at) → Case P c.in-Some.n line_at = λ P found.
     let op = op-at in
     let all = read_at in
     let count = count_at in

@@ -1,10 +1,7 @@
 -- `tally::total` meets its contract: the sum so far and the places that are left give the whole sum.
-use Rattle.std.proofs.Common.{◌≡◌, ◌-◌, ◌≤◌, length, drop}
+use Rattle.std.proofs.Common.{◌≡◌, drop}
 use Rattle.replay.specs.Tallies.{total_from}
 use Rattle.replay.proofs.tally.total.Given as goal
 
 abbrev pub invariant-loop-i : goal.invariant-loop-i
-invariant-loop-i l = (l.i ≤ length l.counts) × (total_from l.sum (drop l.i l.counts) ≡ total_from 0 l.counts)
-
-abbrev pub decreases-loop-i : goal.decreases-loop-i
-decreases-loop-i l = length l.counts - l.i
+invariant-loop-i l = (total_from l.sum (drop l.i l.counts) ≡ total_from 0 l.counts)
