@@ -11,7 +11,7 @@ ghost use Rattle.float_boxes.specs.Floats.{box_of_three, nan_in_three, least_of,
 use float32::extremes::{vmax as vmax_float, vmin as vmin_float};
 use math::vec3::{Vec3, vadd_f, vmax, vmin};
 
-// Behind each corner is a spare float: what the fourth lane has where the other three have the corner. `told` is 1 where the box is told.
+// Behind each corner is a spare float: what the fourth lane has where the other three have the corner. `told` is 1 where the box is told: a number, since the C header has one.
 #[repr(C)]
 #[derive(Clone, Copy)]
 pub struct FloatBox {
