@@ -1,6 +1,6 @@
 -- What `shape_bvh` asks of its two calls and has of them, over plain lists. One edge pass, behind the rebuild, leaves what the source's two passes do
 -- (rebuild LinkTrace).
-use Rattle.std.specs.Prelude.{◌≡◌, ℕ, zero, suc, ◌*◌, ◌%◌, ◌≤◌, Bool, true, ◌&&◌, leb, List, ◌++◌, length, get_or, take, drop, Ok, Err}
+use Rattle.std.specs.Prelude.{◌≡◌, ℕ, zero, suc, ◌*◌, ◌%◌, ◌≤◌, Bool, true, ◌&&◌, leb, List, ◌++◌, length, get_or, take, drop, Ok, Err, Result, ⊤}
 use native.Mathlib.Omega.{arith}
 use mathlib.Core.Path.{refl, sym, ap, ap₂, subst, ◌∙◌}
 use borrow.Author.Tests.{le-ltb}
@@ -14,12 +14,11 @@ use Rattle.bvh.specs.declared.slices.BuiltTree.{BuiltTree}
 use Rattle.corners.specs.Corners.{kinds_known}
 use Rattle.edges.specs.Edges as E
 use Rattle.edges.specs.Edges.{linked, answer_of, Answered}
-use Rattle.edges.specs.declared.entry.Edges.{Edges}
-use Rattle.edges.specs.declared.entry.Edges.TheVariants.{Linked}
 use Rattle.edges.specs.declared.entry.Lengths.{Lengths}
 use Rattle.edges.specs.Steps.Work.{Work}
 use Rattle.linking.proofs.LinkedLaws.{linked_over}
 use Rattle.meshes.specs.declared.Bound.{Bound}
+use Rattle.polygon.specs.declared.PolygonsRefusal.{PolygonsRefusal}
 use Rattle.points.specs.Points.{positions_of}
 use Rattle.prepared.specs.Answers.{BvhWork}
 use Rattle.prepared.specs.Rebuilt.{entries_of8, order_of8, polygons_of8}
@@ -47,7 +46,7 @@ lengths_for out entries places temp stack rows =
     }
 
 module _ (p : ℕ) (out entries places temp stack rows : List ℕ) (w : Work p out entries places temp stack rows) (known : kinds_known p out ≡ true) where
-  not_refused : answer_of p (lengths_for out entries places temp stack rows) out ≡ Linked
+  not_refused : answer_of p (lengths_for out entries places temp stack rows) out ≡ Ok tt
   unfolding answer_of
   not_refused =
       rw (
@@ -61,8 +60,8 @@ module _ (p : ℕ) (out entries places temp stack rows : List ℕ) (w : Work p o
         known,
       )
 
-  pub links_made : (out' : List ℕ) (r : Edges) → Answered p (lengths_for out entries places temp stack rows) out out' r → out' ≡ linked p out
-  links_made out' r a = a.bytes ∙ ap (λ (x : Edges). E.kept x (linked p out) out) (a.answer ∙ not_refused)
+  pub links_made : (out' : List ℕ) (r : Result ⊤ PolygonsRefusal) → Answered p (lengths_for out entries places temp stack rows) out out' r → out' ≡ linked p out
+  links_made out' r a = a.bytes ∙ ap (λ (x : Result ⊤ PolygonsRefusal). E.kept x (linked p out) out) (a.answer ∙ not_refused)
 
 -- Records that are written over a list are of known kinds.
 known_over : (p : ℕ) (records rest : List ℕ) → length records ≡ 16 * p → kinds_known p (records ++ rest) ≡ kinds_known p records

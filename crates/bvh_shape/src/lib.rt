@@ -35,7 +35,7 @@ fn link_and_sort(
         sorted.old sorted.new }
 {
     if let Ok(_) = built {
-        update_edge_indices(polygons_out, p, entries, places, temp, stack, rows);
+        let _ = update_edge_indices(polygons_out, p, entries, places, temp, stack, rows);
         reorder_bytes(numbers, order, p, sorted);
     }
 }

@@ -12,7 +12,7 @@ use Rattle.meshes.specs.declared.Counts.{Counts}
 use Rattle.meshes.specs.declared.Frame.{Frame}
 use Rattle.meshes.specs.declared.PrepareRefusal.TheVariants.{TooManyNodes}
 use Rattle.meshes.specs.Meshes.{box_of}
-use Rattle.prepared.specs.declared.Prepare.TheVariants.{Bvh, Refused}
+use Rattle.prepared.specs.declared.Prepared.TheVariants.{Bvh}
 use Rattle.prepared.specs.Rebuilt.{frame_of}
 use Rattle.vertices.specs.Vertices.{quantum_of_box}
 use Rattle.checked_bvh.specs.Steps.Ending.{values_in, Written, Ended}
@@ -48,13 +48,13 @@ module _ (built : Build) (c : Counts) (mats sorted vertices list list' indices i
 
   pub ended_built : (y : BuiltTree) → built ≡ Ok y → (f : Frame) → f ≡ frame_of y → (q : Vec3) → q ≡ quantum_of_box (box_of f) → (m : ℕ)
       → Listed used list list' indices indices' m → Stored q vertices c.vertices stored stored' floats floats'
-      → Ended built c mats sorted vertices list list' indices indices' stored stored' floats floats' (Bvh (record { frame = f; quantum = q; materials = m }) y)
+      → Ended built c mats sorted vertices list list' indices indices' stored stored' floats floats' (Ok (Bvh (record { frame = f; quantum = q; materials = m }) y))
   ended_built y told f ef q eq m l s =
       let same : (x : BuiltTree) → built ≡ Ok x → y ≡ x = λ x h. ap (tree_in y) (sym told ∙ h) in
       record {
         tree =
             λ x h. (
-              (λ i. Bvh (values_are f (frame_of x) (ef ∙ ap frame_of (same x h)) q eq used list list' indices indices' m l i) (same x h i)),
+              (λ i. Ok (Bvh (values_are f (frame_of x) (ef ∙ ap frame_of (same x h)) q eq used list list' indices indices' m l i) (same x h i))),
               lists_written f (frame_of x) (ef ∙ ap frame_of (same x h)) q eq used vertices c.vertices list list' indices indices' stored stored' floats
                   floats' m l s,
             );
@@ -62,7 +62,7 @@ module _ (built : Build) (c : Counts) (mats sorted vertices list list' indices i
       }
 
   pub ended_refused : (why : BuildRefusal) → built ≡ Err why → list' ≡ list → indices' ≡ indices → stored' ≡ stored → floats' ≡ floats
-      → Ended built c mats sorted vertices list list' indices indices' stored stored' floats floats' (Refused TooManyNodes)
+      → Ended built c mats sorted vertices list list' indices indices' stored stored' floats floats' (Err TooManyNodes)
   ended_refused why told el ei es ef =
       record {
         tree = λ x h. absurd (omega (arith, ap is_built (sym told ∙ h)));

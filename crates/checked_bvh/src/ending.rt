@@ -2,14 +2,14 @@
 ghost use Rattle.std.specs.Prelude.{◌≡◌};
 ghost use Rattle.materials.specs.Materials.{values_of};
 ghost use Rattle.finishing.specs.Steps.Finishing.{StoreRoom, ListRoom};
-ghost use Rattle.prepared.specs.declared.Prepare.TheVariants.{Empty};
+ghost use Rattle.prepared.specs.declared.Prepared.TheVariants.{Empty};
 ghost use Rattle.checked_bvh.specs.Steps.Ending.{values_in, Written, Ended};
 
 use bvh::slices::{BuildRefusal, BuiltTree};
 use finishing::finish;
 use meshes::{Bound, Counts, PrepareRefusal};
 use prepared::frames::{frame_of, quantum_of};
-use prepared::{Prepare, Values};
+use prepared::{Prepared, Values};
 
 // Without polygons there is no tree, and the frame stays as it was given.
 pub fn finish_empty(
@@ -22,7 +22,7 @@ pub fn finish_empty(
     indices: &mut [u8],
     stored: &mut [u8],
     floats: &mut [u32],
-) -> Prepare
+) -> Prepared
     requires { (ListRoom counts.polygons counts.materials numbers.now mats.now list.old indices.old)
         × (StoreRoom counts.vertices vertices.now stored.old floats.old) }
     ensures { (result ≡ Empty (values_in bound.frame (values_of counts.materials mats.now counts.polygons numbers.now)))
@@ -46,11 +46,11 @@ pub fn finish_empty(
         floats,
     );
     let values = Values {
-        frame: frame,
-        quantum: quantum,
-        materials: materials,
+        frame,
+        quantum,
+        materials,
     };
-    Prepare::Empty(values)
+    Prepared::Empty(values)
 }
 
 // With a tree, the lists in its frame, with the materials in the order of its leaves; nothing where it is refused.
@@ -64,7 +64,7 @@ pub fn finish_tree(
     stored: &mut [u8],
     floats: &mut [u32],
     sorted: &[u8],
-) -> Prepare
+) -> Result<Prepared, PrepareRefusal>
     requires { (ListRoom counts.polygons counts.materials sorted.now mats.now list.old indices.old)
         × (StoreRoom counts.vertices vertices.now stored.old floats.old) }
     ensures { Ended built counts mats.now sorted.now vertices.now
@@ -72,7 +72,7 @@ pub fn finish_tree(
         stored.old stored.new floats.old floats.new result }
 {
     let Ok(tree) = built else {
-        return Prepare::Refused(PrepareRefusal::TooManyNodes);
+        return Err(PrepareRefusal::TooManyNodes);
     };
     let frame = frame_of(tree);
     let unit = quantum_of(frame);
@@ -90,9 +90,9 @@ pub fn finish_tree(
         floats,
     );
     let values = Values {
-        frame: frame,
+        frame,
         quantum: unit,
-        materials: materials,
+        materials,
     };
-    Prepare::Bvh(values, tree)
+    Ok(Prepared::Bvh(values, tree))
 }

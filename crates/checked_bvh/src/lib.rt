@@ -10,8 +10,8 @@ ghost use Rattle.checked_bvh.specs.Steps.Ending.{Growing};
 
 use crate::ending::finish_tree;
 use bvh_shape::shape_bvh;
-use meshes::{Bound, Counts, GeometryLengths};
-use prepared::Prepare;
+use meshes::{Bound, Counts, GeometryLengths, PrepareRefusal};
+use prepared::Prepared;
 use rows::ranges::RANGE_LIMIT;
 
 // Prepares a mesh with polygons that passed the checks.
@@ -39,7 +39,7 @@ pub fn prepare_tree(
     points: &mut [u32],
     sorted: &mut [u8],
     centres: &mut [f32],
-) -> Prepare
+) -> Result<Prepared, PrepareRefusal>
     requires { Growing (mesh_of bound counts polygons.now numbers.now mats.now vertices.now)
         (lists list.old indices.old polygons_out.old stored.old floats.old)
         (outputs node_bytes.old tree_bytes.old order.old)

@@ -1,6 +1,7 @@
 // Preparing a mesh of kind 4 that passed the checks: polygons linked, vertices shrunk, octants listed; then what both kinds end with.
 #![tactic(auto)]
 
+ghost use Rattle.std.specs.Prelude.{Ok};
 ghost use Rattle.meshes.specs.Meshes.{mesh_of};
 ghost use Rattle.prepared.specs.Answers.{lists, hull, geometry_work, geometry_lengths, GeometryAnswered};
 ghost use Rattle.checked_geometry.specs.Steps.Checked.{Checked};
@@ -9,7 +10,7 @@ use finishing::finish;
 use geometry_shape::shape_geometry;
 use meshes::{Bound, BvhLengths, Counts};
 use prepared::frames::quantum_of;
-use prepared::{Prepare, Values};
+use prepared::{Prepared, Values};
 
 // Prepares a mesh that passed the checks, in buffers that were long enough with those of kind 8.
 pub fn prepare_checked(
@@ -37,7 +38,7 @@ pub fn prepare_checked(
     centres: &mut [f32],
     olds: &mut [f32],
     news: &mut [f32],
-) -> Prepare
+) -> Prepared
     requires { Checked (mesh_of bound counts polygons.now numbers.now mats.now vertices.now)
         (lists list.old indices.old polygons_out.old stored.old floats.old)
         (hull shrunk.old shrunk_floats.old octants.old)
@@ -47,7 +48,7 @@ pub fn prepare_checked(
         (lists list.old indices.old polygons_out.old stored.old floats.old)
         (hull shrunk.old shrunk_floats.old octants.old)
         (geometry_work entries.old places.old temp.old stack.old rows.old points.old
-        centres.old olds.old news.old) others) result
+        centres.old olds.old news.old) others) (Ok result)
         (lists list.old indices.old polygons_out.old stored.old floats.old)
         (lists list.new indices.new polygons_out.new stored.new floats.new)
         (hull shrunk.old shrunk_floats.old octants.old)
@@ -89,9 +90,9 @@ pub fn prepare_checked(
         floats,
     );
     let values = Values {
-        frame: frame,
-        quantum: quantum,
-        materials: materials,
+        frame,
+        quantum,
+        materials,
     };
-    Prepare::Geometry(values, octant_counts)
+    Prepared::Geometry(values, octant_counts)
 }

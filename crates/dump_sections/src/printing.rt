@@ -1,35 +1,17 @@
 // The dump of what preparing answered.
-ghost use Rattle.std.specs.Prelude.{◌≡◌, ◌≤◌, length};
-ghost use Rattle.meshes.specs.Checks.{refusal_number};
+ghost use Rattle.std.specs.Prelude.{◌≤◌, length};
 ghost use Rattle.dump_sections.specs.Sizes.{Small};
 
-use crate::sections::{
-    hull_lines, lists_lines, no_octants_line, no_tree_line, octants_line, tree_line, tree_lines,
-    values_lines,
-};
+use crate::sections::{hull_lines, lists_lines, octants_line, tree_line, tree_lines, values_lines};
 use hex_lines::lines::refused_line;
 use meshes::{Counts, PrepareRefusal};
-use prepared::Prepare;
-
-fn number_of(why: PrepareRefusal) -> u64
-    ensures { result ≡ refusal_number why }
-{
-    match why {
-        PrepareRefusal::UnknownKind => 6,
-        PrepareRefusal::TooMany => 1,
-        PrepareRefusal::BufferTooShort => 2,
-        PrepareRefusal::UnknownPolygon => 6,
-        PrepareRefusal::TooManyMaterials => 8,
-        PrepareRefusal::InfiniteMargin => 7,
-        PrepareRefusal::TooManyNodes => 4,
-    }
-}
+use prepared::Prepared;
 
 // Kind 4. Kind 8 is not prepared here.
 pub fn print_geometry(
     to: i32,
     c: Counts,
-    answer: Prepare,
+    answer: Result<Prepared, PrepareRefusal>,
     list: &[u8],
     indices: &[u8],
     polygons: &[u8],
@@ -45,10 +27,10 @@ pub fn print_geometry(
 {
     let v = c.vertices;
     match answer {
-        Prepare::Geometry(values, o) => {
+        Ok(Prepared::Geometry(values, o)) => {
             values_lines(to, values);
-            octants_line(to, o);
-            no_tree_line(to);
+            octants_line(to, Some(o));
+            tree_line(to, None);
             lists_lines(
                 to,
                 c,
@@ -61,7 +43,7 @@ pub fn print_geometry(
             );
             hull_lines(to, v, o, shrunk, shrunk_floats, octants);
         }
-        Prepare::Refused(why) => refused_line(to, number_of(why)),
+        Err(why) => refused_line(to, u64::from(u32::from(why))),
         _ => {}
     }
 }
@@ -70,7 +52,7 @@ pub fn print_geometry(
 pub fn print_bvh(
     to: i32,
     c: Counts,
-    answer: Prepare,
+    answer: Result<Prepared, PrepareRefusal>,
     list: &[u8],
     indices: &[u8],
     polygons: &[u8],
@@ -86,10 +68,10 @@ pub fn print_bvh(
 {
     let p = c.polygons;
     match answer {
-        Prepare::Bvh(values, t) => {
+        Ok(Prepared::Bvh(values, t)) => {
             values_lines(to, values);
-            no_octants_line(to);
-            tree_line(to, t);
+            octants_line(to, None);
+            tree_line(to, Some(t));
             lists_lines(
                 to,
                 c,
@@ -102,10 +84,10 @@ pub fn print_bvh(
             );
             tree_lines(to, p, t, node_bytes, tree_bytes, order);
         }
-        Prepare::Empty(values) => {
+        Ok(Prepared::Empty(values)) => {
             values_lines(to, values);
-            no_octants_line(to);
-            no_tree_line(to);
+            octants_line(to, None);
+            tree_line(to, None);
             lists_lines(
                 to,
                 c,
@@ -117,7 +99,7 @@ pub fn print_bvh(
                 floats,
             );
         }
-        Prepare::Refused(why) => refused_line(to, number_of(why)),
+        Err(why) => refused_line(to, u64::from(u32::from(why))),
         _ => {}
     }
 }

@@ -3,19 +3,13 @@ ghost use Rattle.std.specs.Prelude.{◌+◌, ◌≤◌, length};
 ghost use Rattle.dump_sections.specs.Sizes.{Small};
 
 use bvh::slices::BuiltTree;
-use hex_lines::lines::{bytes_line, places_line, words_line, words_part};
+use hex_lines::lines::{bytes_line, numbers_line, words_part};
 use io::write_all;
 use math::vec3::Vec3;
 use math::words3::bits;
 use meshes::{Counts, Frame};
 use octants::lists::OctantCounts;
 use prepared::Values;
-
-fn least(a: usize, b: usize) -> usize
-    ensures { (result ≤ a) × (result ≤ b) }
-{
-    if a < b { a } else { b }
-}
 
 // The low 32 bits.
 fn low_word(n: usize) -> u32 {
@@ -42,31 +36,32 @@ fn frame_line(to: i32, f: Frame) {
         s.z,
         f.sphere_radius,
     ];
-    words_line(to, b"frame ", &words, 13);
+    numbers_line(to, b"frame ", &words, 13);
 }
 
 fn quantum_line(to: i32, quantum: Vec3) {
     let q = bits(quantum);
-    words_line(to, b"quantum ", &[q.x, q.y, q.z], 3);
+    numbers_line(to, b"quantum ", &[q.x, q.y, q.z], 3);
 }
 
 // What both kinds have besides their lists.
 pub fn values_lines(to: i32, values: Values) {
     frame_line(to, values.frame);
     quantum_line(to, values.quantum);
-    words_line(to, b"materials ", &[low_word(values.materials)], 1);
+    numbers_line(to, b"materials ", &[low_word(values.materials)], 1);
 }
 
-pub fn octants_line(to: i32, c: OctantCounts) {
-    let words = [c.c0, c.c1, c.c2, c.c3, c.c4, c.c5, c.c6, c.c7];
-    words_line(to, b"octants ", &words, 8);
+fn octant_counts(c: OctantCounts) -> [u32; 8] {
+    [c.c0, c.c1, c.c2, c.c3, c.c4, c.c5, c.c6, c.c7]
 }
 
-pub fn no_octants_line(to: i32) {
-    words_line(to, b"octants ", &[0u32; 8], 8);
+// How many each octant has: none where no octants are listed.
+pub fn octants_line(to: i32, c: Option<OctantCounts>) {
+    let words = c.map_or([0; 8], octant_counts);
+    numbers_line(to, b"octants ", &words, 8);
 }
 
-pub fn tree_line(to: i32, t: BuiltTree) {
+fn tree_words(t: BuiltTree) -> [u32; 19] {
     let a = t.min;
     let b = t.max;
     let scale = t.scale;
@@ -77,23 +72,22 @@ pub fn tree_line(to: i32, t: BuiltTree) {
     let m = low_word(t.capacity);
     let k = low_word(t.trees);
     let p = low_word(t.present);
-    let words = [
+    [
         n, m, k, p, a.x, a.y, a.z, b.x, b.y, b.z, c.x, c.y, c.z, i.x, i.y, i.z, q.x, q.y, q.z,
-    ];
-    words_line(to, b"tree ", &words, 19);
+    ]
 }
 
-pub fn no_tree_line(to: i32) {
-    words_line(to, b"tree ", &[0u32; 19], 19);
+// The values of a tree: zeros where there is none.
+pub fn tree_line(to: i32, t: Option<BuiltTree>) {
+    let words = t.map_or([0; 19], tree_words);
+    numbers_line(to, b"tree ", &words, 19);
 }
 
 // The materials of the list, which is filled to four.
 fn list_line(to: i32, materials: usize, list: &[u8])
     requires { 2048 ≤ length list.now }
 {
-    let filled = if materials < 4 { 4 } else { materials };
-    let count = least(filled, 256);
-    bytes_line(to, b"list ", list, 8 * count);
+    bytes_line(to, b"list ", list, 8 * materials.clamp(4, 256));
 }
 
 // The lists that both kinds have.
@@ -116,29 +110,23 @@ pub fn lists_lines(
     bytes_line(to, b"indices ", indices, p);
     bytes_line(to, b"polygons ", polygons, 16 * p);
     bytes_line(to, b"vertices ", stored, 6 * v);
-    words_line(to, b"floats ", floats, 3 * v);
+    numbers_line(to, b"floats ", floats, 3 * v);
 }
 
 // An octant's list, which stands at the start of its part of v words.
 fn write_octant(to: i32, octants: &[u32], at: usize, v: usize, count: u32)
     requires { (at + v ≤ length octants.now) × (v ≤ 670) }
 {
-    let few = least(count as usize, v);
-    words_part(to, octants, at, few);
+    words_part(to, octants, at, v.min(count as usize));
 }
 
 fn octant_lists_line(to: i32, v: usize, c: OctantCounts, octants: &[u32])
     requires { (v ≤ 670) × (5376 ≤ length octants.now) }
 {
     write_all(to, b"lists ");
-    write_octant(to, octants, 0, v, c.c0);
-    write_octant(to, octants, v, v, c.c1);
-    write_octant(to, octants, 2 * v, v, c.c2);
-    write_octant(to, octants, 3 * v, v, c.c3);
-    write_octant(to, octants, 4 * v, v, c.c4);
-    write_octant(to, octants, 5 * v, v, c.c5);
-    write_octant(to, octants, 6 * v, v, c.c6);
-    write_octant(to, octants, 7 * v, v, c.c7);
+    for (k, count) in octant_counts(c).iter().enumerate() {
+        write_octant(to, octants, k * v, v, *count);
+    }
     write_all(to, b"\n");
 }
 
@@ -154,7 +142,7 @@ pub fn hull_lines(
     requires { (v ≤ 670) × (4096 ≤ length shrunk.now) × (2048 ≤ length shrunk_floats.now) × (5376 ≤ length octants.now) }
 {
     bytes_line(to, b"shrunk ", shrunk, 6 * v);
-    words_line(to, b"shrunk_floats ", shrunk_floats, 3 * v);
+    numbers_line(to, b"shrunk_floats ", shrunk_floats, 3 * v);
     octant_lists_line(to, v, c, octants);
 }
 
@@ -162,8 +150,7 @@ pub fn hull_lines(
 fn records_line(to: i32, name: &[u8], bytes: &[u8], count: usize)
     requires { 15360 ≤ length bytes.now }
 {
-    let few = least(count, 960);
-    bytes_line(to, name, bytes, 16 * few);
+    bytes_line(to, name, bytes, 16 * count.min(960));
 }
 
 // What kind 8 alone has.
@@ -179,5 +166,5 @@ pub fn tree_lines(
 {
     records_line(to, b"nodes ", node_bytes, t.capacity);
     records_line(to, b"trees ", tree_bytes, t.trees);
-    places_line(to, b"order ", order, p);
+    numbers_line(to, b"order ", order, p);
 }

@@ -5,9 +5,10 @@ ghost use Rattle.meshes.specs.Meshes.{mesh_of};
 ghost use Rattle.prepared.specs.Answers.{lists, hull, geometry_work, geometry_lengths, GeometryAnswered};
 
 use checked_geometry::prepare_checked;
-use meshes::checking::geometry_refusal;
-use meshes::{Bound, BvhLengths, Check, Counts, Lengths};
-use prepared::Prepare;
+use meshes::checking::refusal_as;
+use meshes::kind::Kind;
+use meshes::{Bound, BvhLengths, Counts, Lengths, PrepareRefusal};
+use prepared::Prepared;
 
 // Prepares a mesh of kind 4. What kind 8 alone is lent is told by its lengths, so that both kinds ask for the same buffers.
 pub fn prepare_geometry(
@@ -35,7 +36,7 @@ pub fn prepare_geometry(
     centres: &mut [f32],
     olds: &mut [f32],
     news: &mut [f32],
-) -> Prepare
+) -> Result<Prepared, PrepareRefusal>
     ensures { GeometryAnswered (mesh_of bound counts polygons.now numbers.now mats.now vertices.now)
         (geometry_lengths (mesh_of bound counts polygons.now numbers.now mats.now vertices.now)
         (lists list.old indices.old polygons_out.old stored.old floats.old)
@@ -74,11 +75,16 @@ pub fn prepare_geometry(
         olds: olds.len(),
         news: news.len(),
     };
-    let check = geometry_refusal(bound, counts, lengths, polygons, numbers, mats);
-    if let Check::Fails(why) = check {
-        return Prepare::Refused(why);
-    }
-    prepare_checked(
+    refusal_as(
+        Kind::Geometry,
+        bound,
+        counts,
+        lengths,
+        polygons,
+        numbers,
+        mats,
+    )?;
+    Ok(prepare_checked(
         bound,
         counts,
         others,
@@ -103,5 +109,5 @@ pub fn prepare_geometry(
         centres,
         olds,
         news,
-    )
+    ))
 }

@@ -7,9 +7,10 @@ ghost use Rattle.prepared.specs.Answers.{lists, bvh_work, bvh_lengths, BvhAnswer
 
 use checked_bvh::ending::finish_empty;
 use checked_bvh::prepare_tree;
-use meshes::checking::bvh_refusal;
-use meshes::{Bound, Check, Counts, GeometryLengths, Lengths};
-use prepared::Prepare;
+use meshes::checking::refusal_as;
+use meshes::kind::Kind;
+use meshes::{Bound, Counts, GeometryLengths, Lengths, PrepareRefusal};
+use prepared::Prepared;
 
 // Prepares a mesh of kind 8. What kind 4 alone is lent is told by its lengths, so that both kinds ask for the same buffers.
 pub fn prepare_bvh(
@@ -36,7 +37,7 @@ pub fn prepare_bvh(
     points: &mut [u32],
     sorted: &mut [u8],
     centres: &mut [f32],
-) -> Prepare
+) -> Result<Prepared, PrepareRefusal>
     ensures { BvhAnswered (mesh_of bound counts polygons.now numbers.now mats.now vertices.now)
         (bvh_lengths (mesh_of bound counts polygons.now numbers.now mats.now vertices.now)
         (lists list.old indices.old polygons_out.old stored.old floats.old)
@@ -75,14 +76,11 @@ pub fn prepare_bvh(
         olds: others.olds,
         news: others.news,
     };
-    let check = bvh_refusal(bound, counts, lengths, polygons, numbers, mats);
-    if let Check::Fails(why) = check {
-        return Prepare::Refused(why);
-    }
+    refusal_as(Kind::Bvh, bound, counts, lengths, polygons, numbers, mats)?;
     if counts.polygons == 0 {
-        return finish_empty(
+        return Ok(finish_empty(
             bound, counts, numbers, mats, vertices, list, indices, stored, floats,
-        );
+        ));
     }
     prepare_tree(
         bound,

@@ -3,7 +3,7 @@ use Rattle.std.specs.Prelude.{ℕ, ◌+◌, ◌/◌, ◌%◌, cond, List, [], �
 use Rattle.base.specs.LittleEndian.{little_endian}
 
 -- what f gives for each, one after the other
-abbrev pub each_of : (ℕ → List ℕ) → List ℕ → List ℕ
+abbrev pub each_of : {A : Type 0} → (A → List ℕ) → List A → List ℕ
 each_of f [] = []
 each_of f (x ∷ xs) = f x ++ each_of f xs
 

@@ -1,9 +1,10 @@
-// Bytes in hexadecimal, and words and places as bytes, at the start of a lent buffer.
-ghost use Rattle.std.specs.Prelude.{◌≡◌, ◌+◌, ◌*◌, ◌≤◌, ◌<◌, length};
+// Bytes in hexadecimal, and numbers as bytes, at the start of a lent buffer.
+ghost use Rattle.std.specs.Prelude.{◌≡◌, ℕ, ◌+◌, ◌*◌, ◌≤◌, ◌<◌, List, length};
 ghost use Rattle.std.proofs.lemmas.List.Edits.{sets};
 ghost use Rattle.base.specs.Lists.{over};
 ghost use Rattle.base.specs.LittleEndian.{little_endian};
-ghost use Rattle.hex_lines.specs.Hex.{digit_of, byte_text, hex_of, word_bytes, place_bytes};
+ghost use Rattle.base.proofs.LittleEndian.{number_bytes};
+ghost use Rattle.hex_lines.specs.Hex.{each_of, digit_of, byte_text, hex_of};
 
 use base::little_endian::put_le;
 
@@ -27,45 +28,60 @@ pub fn put_hex(out: &mut [u8], bytes: &[u8])
     requires { 2 * length bytes.now ≤ length out.old }
     ensures { out.new ≡ over (hex_of bytes.now) out.old }
 {
-    let mut i = 0;
-    while i < bytes.len() {
-        put_byte(out, 2 * i, bytes[i]);
-        i += 1;
+    for (i, byte) in bytes.iter().enumerate() {
+        put_byte(out, 2 * i, *byte);
     }
 }
 
-fn put_word(out: &mut [u8], at: usize, word: u32)
-    requires { at + 4 ≤ length out.old }
-    ensures { out.new ≡ sets out.old at (little_endian 4 word) }
-{
-    put_le(out, at, 4, word as u64);
+// A number as it stands in a dump before it is written in hexadecimal.
+pub trait Number: Copy {
+    // Its bytes, the lowest first.
+    ghost bytes_of: { Self → List ℕ };
+
+    ghost SIZE: { ℕ };
+
+    const SIZE: usize;
+
+    fn put(self, out: &mut [u8], at: usize)
+        requires { at + SIZE ≤ length out.old }
+        ensures { out.new ≡ sets out.old at (bytes_of self) };
+
+    ghost as_many: { (x : Self) → length (bytes_of x) ≡ SIZE };
 }
 
-pub fn put_words(out: &mut [u8], words: &[u32])
-    requires { 4 * length words.now ≤ length out.old }
-    ensures { out.new ≡ over (word_bytes words.now) out.old }
-{
-    let mut i = 0;
-    while i < words.len() {
-        put_word(out, 4 * i, words[i]);
-        i += 1;
+impl Number for u32 {
+    ghost bytes_of = { little_endian 4 };
+
+    ghost SIZE = { 4 };
+
+    const SIZE: usize = 4;
+
+    fn put(self, out: &mut [u8], at: usize) {
+        put_le(out, at, 4, u64::from(self));
     }
+
+    ghost as_many = { λ x. (number_bytes 4 x).size };
 }
 
-fn put_place(out: &mut [u8], at: usize, place: u16)
-    requires { at + 2 ≤ length out.old }
-    ensures { out.new ≡ sets out.old at (little_endian 2 place) }
-{
-    put_le(out, at, 2, place as u64);
+impl Number for u16 {
+    ghost bytes_of = { little_endian 2 };
+
+    ghost SIZE = { 2 };
+
+    const SIZE: usize = 2;
+
+    fn put(self, out: &mut [u8], at: usize) {
+        put_le(out, at, 2, u64::from(self));
+    }
+
+    ghost as_many = { λ x. (number_bytes 2 x).size };
 }
 
-pub fn put_places(out: &mut [u8], places: &[u16])
-    requires { 2 * length places.now ≤ length out.old }
-    ensures { out.new ≡ over (place_bytes places.now) out.old }
+pub fn put_numbers<T: Number>(out: &mut [u8], numbers: &[T])
+    requires { T.SIZE * length numbers.now ≤ length out.old }
+    ensures { out.new ≡ over (each_of T.bytes_of numbers.now) out.old }
 {
-    let mut i = 0;
-    while i < places.len() {
-        put_place(out, 2 * i, places[i]);
-        i += 1;
+    for (i, number) in numbers.iter().enumerate() {
+        number.put(out, T::SIZE * i);
     }
 }

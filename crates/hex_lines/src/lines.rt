@@ -1,7 +1,7 @@
 // The lines of a dump: a name, a blank and bytes in hexadecimal. A name is lent with its blank.
-ghost use Rattle.std.specs.Prelude.{◌+◌, ◌≤◌, length};
+ghost use Rattle.std.specs.Prelude.{◌+◌, ◌*◌, ◌≤◌, length};
 
-use crate::hex::{put_hex, put_places, put_words};
+use crate::hex::{Number, put_hex, put_numbers};
 use io::write_all;
 
 fn write_bytes(to: i32, bytes: &[u8])
@@ -13,21 +13,12 @@ fn write_bytes(to: i32, bytes: &[u8])
     write_all(to, &text[..end]);
 }
 
-fn write_words(to: i32, words: &[u32])
-    requires { length words.now ≤ 4096 }
+fn write_numbers<T: Number>(to: i32, numbers: &[T])
+    requires { T.SIZE * length numbers.now ≤ 16384 }
 {
     let mut bytes = [0u8; 16384];
-    put_words(&mut bytes, words);
-    let end = 4 * words.len();
-    write_bytes(to, &bytes[..end]);
-}
-
-fn write_places(to: i32, places: &[u16])
-    requires { length places.now ≤ 512 }
-{
-    let mut bytes = [0u8; 1024];
-    put_places(&mut bytes, places);
-    let end = 2 * places.len();
+    put_numbers(&mut bytes, numbers);
+    let end = T::SIZE * numbers.len();
     write_bytes(to, &bytes[..end]);
 }
 
@@ -36,7 +27,7 @@ pub fn words_part(to: i32, words: &[u32], at: usize, count: usize)
     requires { (at + count ≤ length words.now) × (count ≤ 4096) }
 {
     let end = at + count;
-    write_words(to, &words[at..end]);
+    write_numbers(to, &words[at..end]);
 }
 
 // The line of the first `count` bytes.
@@ -48,19 +39,12 @@ pub fn bytes_line(to: i32, name: &[u8], bytes: &[u8], count: usize)
     write_all(to, b"\n");
 }
 
-pub fn words_line(to: i32, name: &[u8], words: &[u32], count: usize)
-    requires { (count ≤ length words.now) × (count ≤ 4096) }
+// The line of the first `count` numbers.
+pub fn numbers_line<T: Number>(to: i32, name: &[u8], numbers: &[T], count: usize)
+    requires { (count ≤ length numbers.now) × (T.SIZE * count ≤ 16384) }
 {
     write_all(to, name);
-    write_words(to, &words[..count]);
-    write_all(to, b"\n");
-}
-
-pub fn places_line(to: i32, name: &[u8], places: &[u16], count: usize)
-    requires { (count ≤ length places.now) × (count ≤ 512) }
-{
-    write_all(to, name);
-    write_places(to, &places[..count]);
+    write_numbers(to, &numbers[..count]);
     write_all(to, b"\n");
 }
 

@@ -3,19 +3,20 @@ use Prim.Native.Nat.{ℕ, ◌+◌, ◌*◌, ◌≤◌}
 use native.Mathlib.Omega.{arith}
 use mathlib.Core.Bool.{Bool, true, false, cond, ◌||◌}
 use mathlib.Core.List.{List}
-use mathlib.Core.Path.{◌≡◌, refl, ap}
-use borrow.Author.Tests.{ltb-false}
+use mathlib.Core.Path.{◌≡◌, refl, sym, ap, ◌∙◌}
+use borrow.Author.Tests.{ltb-false, eqb-true}
 use lib.Dec.{ltb}
+use Rattle.std.specs.Prelude.{Result, Ok, Err, ⊤}
 use Rattle.base.proofs.Truth.{neither}
 use Rattle.corners.specs.Corners.{kinds_known}
 use Rattle.meshes.specs.declared.Bound.{Bound}
-use Rattle.meshes.specs.declared.Check.{Check}
-use Rattle.meshes.specs.declared.Check.TheVariants.{Passed, Fails}
 use Rattle.meshes.specs.declared.Counts.{Counts}
 use Rattle.meshes.specs.declared.Lengths.{Lengths}
+use Rattle.meshes.specs.declared.kind.Kind.{Kind}
+use Rattle.meshes.specs.declared.kind.Kind.TheVariants.{Geometry, Bvh}
 use Rattle.meshes.specs.declared.PrepareRefusal.{PrepareRefusal}
-use Rattle.meshes.specs.declared.PrepareRefusal.TheVariants.{UnknownKind, TooMany, BufferTooShort, UnknownPolygon, TooManyMaterials, InfiniteMargin}
-use Rattle.meshes.specs.Checks.{is_geometry, is_bvh, many, full, endless, check_within, check_in, geometry_check, bvh_check}
+use Rattle.meshes.specs.declared.PrepareRefusal.TheVariants.{UnknownKind, TooMany, BufferTooShort, UnknownPolygon, TooManyMaterials, InfiniteMargin, TooManyNodes}
+use Rattle.meshes.specs.Checks.{is_geometry, is_bvh, many, full, endless, check_within, check_in, geometry_check, bvh_check, kind_of, check_as, refusal_number}
 use Rattle.meshes.specs.Sizes.{inputs_short, lists_short, hull_short, tree_short, words_short, floats_short, short}
 use Rattle.meshes.specs.Steps.Few.{Few}
 
@@ -69,26 +70,6 @@ four_off a b c d e = let f = neither _ d e in let g = three_off a b c f.0 in (g.
 five_off : (a b c d e : Bool) → a || b || c || d || e ≡ false → (a ≡ false) × (b ≡ false) × (c ≡ false) × (d ≡ false) × (e ≡ false)
 five_off a b c d e h = let f = neither _ e h in let g = four_off a b c d f.0 in (g.0, g.1, g.2, g.3, f.1)
 
--- the first that holds of six tests
-module _ (a b c d e f : Bool) where
-  six_one : a ≡ true → true ≡ a || b || c || d || e || f
-  six_one h = rw h
-
-  six_two : a ≡ false → b ≡ true → true ≡ a || b || c || d || e || f
-  six_two i h = rw (i, h)
-
-  six_three : a ≡ false → b ≡ false → c ≡ true → true ≡ a || b || c || d || e || f
-  six_three i j h = rw (i, j, h)
-
-  six_four : a ≡ false → b ≡ false → c ≡ false → d ≡ true → true ≡ a || b || c || d || e || f
-  six_four i j k h = rw (i, j, k, h)
-
-  six_five : a ≡ false → b ≡ false → c ≡ false → d ≡ false → e ≡ true → true ≡ a || b || c || d || e || f
-  six_five i j k l h = rw (i, j, k, l, h)
-
-  six_last : a ≡ false → b ≡ false → c ≡ false → d ≡ false → e ≡ false → f ≡ a || b || c || d || e || f
-  six_last i j k l h = rw (i, j, k, l, h)
-
 module _ (c : Counts) (l : Lengths) where
   abbrev p : ℕ
   p = c.polygons
@@ -140,106 +121,119 @@ module _ (c : Counts) (l : Lengths) where
         for_news = ltb-false _ _ r.4;
       }
 
-  -- ---- one of the sizes
+-- ---- the refusals' numbers
 
-  pub at_inputs : inputs_short c l ≡ true → true ≡ short c l
-  unfolding short
-  at_inputs e = six_one (inputs_short c l) (lists_short c l) (hull_short c l) (tree_short c l) (words_short c l) (floats_short c l) e
+-- None is 0, which is told where nothing is refused.
+pub never_zero : (why : PrepareRefusal) → refusal_number why ≡ 0 → ⊥
+never_zero UnknownKind e = omega arith
+never_zero TooMany e = omega arith
+never_zero BufferTooShort e = omega arith
+never_zero UnknownPolygon e = omega arith
+never_zero TooManyMaterials e = omega arith
+never_zero InfiniteMargin e = omega arith
+never_zero TooManyNodes e = omega arith
 
-  pub at_lists : inputs_short c l ≡ false → lists_short c l ≡ true → true ≡ short c l
-  unfolding short
-  at_lists a e = six_two (inputs_short c l) (lists_short c l) (hull_short c l) (tree_short c l) (words_short c l) (floats_short c l) a e
+-- ---- the kinds, by their numbers
 
-  pub at_hull : inputs_short c l ≡ false → lists_short c l ≡ false → hull_short c l ≡ true → true ≡ short c l
-  unfolding short
-  at_hull a b e = six_three (inputs_short c l) (lists_short c l) (hull_short c l) (tree_short c l) (words_short c l) (floats_short c l) a b e
+abbrev kind_by : Bool → Bool → Result Kind PrepareRefusal
+kind_by four eight = cond four (Ok Geometry) (cond eight (Ok Bvh) (Err UnknownKind))
 
-  pub at_tree : inputs_short c l ≡ false → lists_short c l ≡ false → hull_short c l ≡ false → tree_short c l ≡ true → true ≡ short c l
-  unfolding short
-  at_tree a b d e = six_four (inputs_short c l) (lists_short c l) (hull_short c l) (tree_short c l) (words_short c l) (floats_short c l) a b d e
+none_known : (a b : Bool) (why : PrepareRefusal) → kind_by a b ≡ Err why → (a || b ≡ false) × (b ≡ false) × (a ≡ false) × (UnknownKind ≡ why)
+none_known true b why e = cc
+none_known false true why e = cc
+none_known false false why e = (refl, refl, refl, cc)
 
-  pub at_words : inputs_short c l ≡ false → lists_short c l ≡ false → hull_short c l ≡ false → tree_short c l ≡ false → words_short c l ≡ true
-      → true ≡ short c l
-  unfolding short
-  at_words a b d f e = six_five (inputs_short c l) (lists_short c l) (hull_short c l) (tree_short c l) (words_short c l) (floats_short c l) a b d f e
+one_known : (a b : Bool) (kind : Kind) → kind_by a b ≡ Ok kind → a || b ≡ true
+one_known true b kind e = refl
+one_known false true kind e = refl
+one_known false false kind e = cc
 
-  pub at_floats : inputs_short c l ≡ false → lists_short c l ≡ false → hull_short c l ≡ false → tree_short c l ≡ false → words_short c l ≡ false
-      → floats_short c l ≡ short c l
-  unfolding short
-  at_floats a b d f g = six_last (inputs_short c l) (lists_short c l) (hull_short c l) (tree_short c l) (words_short c l) (floats_short c l) a b d f g
+is_four : (a b : Bool) → kind_by a b ≡ Ok Geometry → a ≡ true
+is_four true b e = refl
+is_four false true e = cc
+is_four false false e = cc
+
+not_four : (a b : Bool) → kind_by a b ≡ Ok Bvh → a ≡ false
+not_four true b e = cc
+not_four false b e = refl
+
+other_eight : (a b : Bool) (kind : Kind) → kind_by a b ≡ Ok kind → (kind ≡ Geometry → ⊥) → b ≡ true
+other_eight true b kind e other = let same : kind ≡ Geometry = cc in absurd (other same)
+other_eight false true kind e other = refl
+other_eight false false kind e other = cc
+
+other_four : (a b : Bool) (kind : Kind) → kind_by a b ≡ Ok kind → (kind ≡ Bvh → ⊥) → a ≡ true
+other_four true b kind e other = refl
+other_four false true kind e other = let same : kind ≡ Bvh = cc in absurd (other same)
+other_four false false kind e other = cc
+
+pub known_number : (n : ℕ) (kind : Kind) → kind_of n ≡ Ok kind → is_geometry n || is_bvh n ≡ true
+known_number n kind = one_known (is_geometry n) (is_bvh n) kind
 
 -- ---- the checks, by their tests
 
--- whether a check fails
-abbrev failing : Check → ℕ
-failing Passed = 0
-failing (Fails why) = 1
+abbrev within : Bool → Bool → Bool → Result ⊤ PrepareRefusal
+within known full endless = cond known (cond full (Err TooManyMaterials) (cond endless (Err InfiniteMargin) (Ok tt))) (Err UnknownPolygon)
 
-not_passed : (why : PrepareRefusal) → Fails why ≡ Passed → ⊥
-not_passed why e = omega (arith, ap failing e)
-
-abbrev within : Bool → Bool → Bool → Check
-within known full endless = cond known (cond full (Fails TooManyMaterials) (cond endless (Fails InfiniteMargin) Passed)) (Fails UnknownPolygon)
-
-abbrev whole : Bool → Bool → Bool → Check → Check
-whole kind many short rest = cond kind (cond many (Fails TooMany) (cond short (Fails BufferTooShort) rest)) (Fails UnknownKind)
+abbrev whole : Bool → Bool → Bool → Result ⊤ PrepareRefusal → Result ⊤ PrepareRefusal
+whole kind many short rest = cond kind (cond many (Err TooMany) (cond short (Err BufferTooShort) rest)) (Err UnknownKind)
 
 module _ (k f e : Bool) where
-  unknown_of : k ≡ false → Fails UnknownPolygon ≡ within k f e
+  unknown_of : k ≡ false → Err UnknownPolygon ≡ within k f e
   unknown_of h = rw h
 
-  full_of : k ≡ true → f ≡ true → Fails TooManyMaterials ≡ within k f e
+  full_of : k ≡ true → f ≡ true → Err TooManyMaterials ≡ within k f e
   full_of h i = rw (h, i)
 
-  endless_of : k ≡ true → f ≡ false → e ≡ true → Fails InfiniteMargin ≡ within k f e
+  endless_of : k ≡ true → f ≡ false → e ≡ true → Err InfiniteMargin ≡ within k f e
   endless_of h i j = rw (h, i, j)
 
-  passed_of : k ≡ true → f ≡ false → e ≡ false → Passed ≡ within k f e
+  passed_of : k ≡ true → f ≡ false → e ≡ false → Ok tt ≡ within k f e
   passed_of h i j = rw (h, i, j)
 
-within_passed : (k f e : Bool) → within k f e ≡ Passed → (k ≡ true) × (f ≡ false) × (e ≡ false)
+within_passed : (k f e : Bool) → within k f e ≡ Ok tt → (k ≡ true) × (f ≡ false) × (e ≡ false)
 within_passed true false false h = (refl, refl, refl)
-within_passed true false true h = absurd (not_passed InfiniteMargin h)
-within_passed true true e h = absurd (not_passed TooManyMaterials h)
-within_passed false f e h = absurd (not_passed UnknownPolygon h)
+within_passed true false true h = cc
+within_passed true true e h = cc
+within_passed false f e h = cc
 
-module _ (k m s : Bool) (x : Check) where
-  kind_of : k ≡ false → Fails UnknownKind ≡ whole k m s x
-  kind_of h = rw h
+module _ (k m s : Bool) (x : Result ⊤ PrepareRefusal) where
+  unknown_at : k ≡ false → Err UnknownKind ≡ whole k m s x
+  unknown_at h = rw h
 
-  many_of : k ≡ true → m ≡ true → Fails TooMany ≡ whole k m s x
+  many_of : k ≡ true → m ≡ true → Err TooMany ≡ whole k m s x
   many_of h i = rw (h, i)
 
-  short_of : k ≡ true → m ≡ false → s ≡ true → Fails BufferTooShort ≡ whole k m s x
+  short_of : k ≡ true → m ≡ false → s ≡ true → Err BufferTooShort ≡ whole k m s x
   short_of h i j = rw (h, i, j)
 
   rest_of : k ≡ true → m ≡ false → s ≡ false → x ≡ whole k m s x
   rest_of h i j = rw (h, i, j)
 
-whole_passed : (k m s : Bool) (x : Check) → whole k m s x ≡ Passed → (k ≡ true) × (m ≡ false) × (s ≡ false) × (x ≡ Passed)
+whole_passed : (k m s : Bool) (x : Result ⊤ PrepareRefusal) → whole k m s x ≡ Ok tt → (k ≡ true) × (m ≡ false) × (s ≡ false) × (x ≡ Ok tt)
 whole_passed true false false x h = (refl, refl, refl, h)
-whole_passed true false true x h = absurd (not_passed BufferTooShort h)
-whole_passed true true s x h = absurd (not_passed TooMany h)
-whole_passed false m s x h = absurd (not_passed UnknownKind h)
+whole_passed true false true x h = cc
+whole_passed true true s x h = cc
+whole_passed false m s x h = cc
 
 -- ---- the checks that read the mesh
 
 module _ (b : Bound) (c : Counts) (polygons ms : List ℕ) where
-  pub unknown_polygon : kinds_known c.polygons polygons ≡ false → Fails UnknownPolygon ≡ check_within b c polygons ms
+  pub unknown_polygon : kinds_known c.polygons polygons ≡ false → Err UnknownPolygon ≡ check_within b c polygons ms
   unfolding check_within
   unknown_polygon = unknown_of (kinds_known c.polygons polygons) (full ms) (endless b c.vertices)
 
-  pub too_full : kinds_known c.polygons polygons ≡ true → full ms ≡ true → Fails TooManyMaterials ≡ check_within b c polygons ms
+  pub too_full : kinds_known c.polygons polygons ≡ true → full ms ≡ true → Err TooManyMaterials ≡ check_within b c polygons ms
   unfolding check_within
   too_full = full_of (kinds_known c.polygons polygons) (full ms) (endless b c.vertices)
 
   pub no_end : kinds_known c.polygons polygons ≡ true → full ms ≡ false → endless b c.vertices ≡ true
-      → Fails InfiniteMargin ≡ check_within b c polygons ms
+      → Err InfiniteMargin ≡ check_within b c polygons ms
   unfolding check_within
   no_end = endless_of (kinds_known c.polygons polygons) (full ms) (endless b c.vertices)
 
   pub all_well : kinds_known c.polygons polygons ≡ true → full ms ≡ false → endless b c.vertices ≡ false
-      → Passed ≡ check_within b c polygons ms
+      → Ok tt ≡ check_within b c polygons ms
   unfolding check_within
   all_well = passed_of (kinds_known c.polygons polygons) (full ms) (endless b c.vertices)
 
@@ -258,15 +252,18 @@ module _ (b : Bound) (c : Counts) (l : Lengths) (polygons ms : List ℕ) where
   abbrev either : Bool
   either = is_geometry b.kind || is_bvh b.kind
 
-  pub unknown_kind : is_geometry b.kind || is_bvh b.kind ≡ false → Fails UnknownKind ≡ check_in b c l polygons ms
+  pub unknown_kind : is_geometry b.kind || is_bvh b.kind ≡ false → Err UnknownKind ≡ check_in b c l polygons ms
   unfolding check_in
-  unknown_kind = kind_of either (many c) (short c l) (check_within b c polygons ms)
+  unknown_kind = unknown_at either (many c) (short c l) (check_within b c polygons ms)
 
-  pub too_many : is_geometry b.kind || is_bvh b.kind ≡ true → many c ≡ true → Fails TooMany ≡ check_in b c l polygons ms
+  pub unknown_number : (why : PrepareRefusal) → kind_of b.kind ≡ Err why → Err why ≡ check_in b c l polygons ms
+  unknown_number why e = let n = none_known (is_geometry b.kind) (is_bvh b.kind) why e in ap Err (sym n.3) ∙ unknown_kind n.0
+
+  pub too_many : is_geometry b.kind || is_bvh b.kind ≡ true → many c ≡ true → Err TooMany ≡ check_in b c l polygons ms
   unfolding check_in
   too_many = many_of either (many c) (short c l) (check_within b c polygons ms)
 
-  pub too_small : is_geometry b.kind || is_bvh b.kind ≡ true → many c ≡ false → short c l ≡ true → Fails BufferTooShort ≡ check_in b c l polygons ms
+  pub too_small : is_geometry b.kind || is_bvh b.kind ≡ true → many c ≡ false → short c l ≡ true → Err BufferTooShort ≡ check_in b c l polygons ms
   unfolding check_in
   too_small = short_of either (many c) (short c l) (check_within b c polygons ms)
 
@@ -274,7 +271,7 @@ module _ (b : Bound) (c : Counts) (l : Lengths) (polygons ms : List ℕ) where
   unfolding check_in
   rest = rest_of either (many c) (short c l) (check_within b c polygons ms)
 
-  pub sound : check_in b c l polygons ms ≡ Passed → Sound b c l polygons ms
+  pub sound : check_in b c l polygons ms ≡ Ok tt → Sound b c l polygons ms
   unfolding check_in check_within
   sound e =
       let w = whole_passed either (many c) (short c l) (check_within b c polygons ms) e in
@@ -283,11 +280,11 @@ module _ (b : Bound) (c : Counts) (l : Lengths) (polygons ms : List ℕ) where
 
 -- ---- of one kind
 
-own : (t : Bool) (x : Check) → t ≡ false → x ≡ cond t (Fails UnknownKind) x
+own : (t : Bool) (x : Result ⊤ PrepareRefusal) → t ≡ false → x ≡ cond t (Err UnknownKind) x
 own t x h = rw h
 
-own_passed : (t : Bool) (x : Check) → cond t (Fails UnknownKind) x ≡ Passed → (t ≡ false) × (x ≡ Passed)
-own_passed true x h = absurd (not_passed UnknownKind h)
+own_passed : (t : Bool) (x : Result ⊤ PrepareRefusal) → cond t (Err UnknownKind) x ≡ Ok tt → (t ≡ false) × (x ≡ Ok tt)
+own_passed true x h = cc
 own_passed false x h = (refl, h)
 
 module _ (b : Bound) (c : Counts) (l : Lengths) (polygons ms : List ℕ) where
@@ -299,14 +296,29 @@ module _ (b : Bound) (c : Counts) (l : Lengths) (polygons ms : List ℕ) where
   unfolding bvh_check
   bvh_own = own (is_geometry b.kind) (check_in b c l polygons ms)
 
+  -- by the kind that the bound names
+  pub of_none : (kind : Kind) (why : PrepareRefusal) → kind_of b.kind ≡ Err why → Err why ≡ check_as kind b c l polygons ms
+  unfolding check_in geometry_check bvh_check
+  of_none Geometry why e = let n = none_known (is_geometry b.kind) (is_bvh b.kind) why e in ap Err (sym n.3) ∙ rw (n.1, n.2)
+  of_none Bvh why e = let n = none_known (is_geometry b.kind) (is_bvh b.kind) why e in ap Err (sym n.3) ∙ rw (n.2, n.1)
+
+  pub of_other : (kind named : Kind) → kind_of b.kind ≡ Ok named → (named ≡ kind → ⊥) → Err UnknownKind ≡ check_as kind b c l polygons ms
+  unfolding geometry_check bvh_check
+  of_other Geometry named e other = rw (other_eight (is_geometry b.kind) (is_bvh b.kind) named e other)
+  of_other Bvh named e other = rw (other_four (is_geometry b.kind) (is_bvh b.kind) named e other)
+
+  pub of_own : (kind : Kind) → kind_of b.kind ≡ Ok kind → check_in b c l polygons ms ≡ check_as kind b c l polygons ms
+  of_own Geometry e = geometry_own (ap (λ (k : ℕ). is_bvh k) (eqb-true b.kind 4 (is_four (is_geometry b.kind) (is_bvh b.kind) e)))
+  of_own Bvh e = bvh_own (not_four (is_geometry b.kind) (is_bvh b.kind) e)
+
   -- what passes is of the kind, and sound
-  pub geometry_sound : geometry_check b c l polygons ms ≡ Passed → (is_bvh b.kind ≡ false) × Sound b c l polygons ms
+  pub geometry_sound : geometry_check b c l polygons ms ≡ Ok tt → (is_bvh b.kind ≡ false) × Sound b c l polygons ms
   unfolding geometry_check
   geometry_sound e =
       let o = own_passed (is_bvh b.kind) (check_in b c l polygons ms) e in
       (o.0, sound b c l polygons ms o.1)
 
-  pub bvh_sound : bvh_check b c l polygons ms ≡ Passed → (is_geometry b.kind ≡ false) × Sound b c l polygons ms
+  pub bvh_sound : bvh_check b c l polygons ms ≡ Ok tt → (is_geometry b.kind ≡ false) × Sound b c l polygons ms
   unfolding bvh_check
   bvh_sound e =
       let o = own_passed (is_geometry b.kind) (check_in b c l polygons ms) e in

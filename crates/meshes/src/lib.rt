@@ -1,7 +1,11 @@
 // A mesh to prepare: its bound, its counts, the buffers that it is prepared in, and why it may be turned down.
 #![tactic(auto)]
 
+ghost use Rattle.std.specs.Prelude.{◌≡◌};
+ghost use Rattle.meshes.specs.Checks.{refusal_number};
+
 pub mod checking;
+pub mod kind;
 
 use math::mat4::Mat4;
 use math::vec3::Vec3;
@@ -88,7 +92,7 @@ pub struct GeometryLengths {
 }
 
 // Why a mesh is not prepared.
-#[derive(Clone, Copy)]
+#[derive(Clone, Copy, Debug, PartialEq, Eq)]
 pub enum PrepareRefusal {
     UnknownKind,
     TooMany,
@@ -99,8 +103,18 @@ pub enum PrepareRefusal {
     TooManyNodes,
 }
 
-#[derive(Clone, Copy)]
-pub enum Check {
-    Passed,
-    Fails(PrepareRefusal),
+impl From<PrepareRefusal> for u32 {
+    ghost from_gives = { λ why n. n ≡ refusal_number why };
+
+    fn from(why: PrepareRefusal) -> u32 {
+        match why {
+            PrepareRefusal::UnknownKind => 6,
+            PrepareRefusal::TooMany => 1,
+            PrepareRefusal::BufferTooShort => 2,
+            PrepareRefusal::UnknownPolygon => 6,
+            PrepareRefusal::TooManyMaterials => 8,
+            PrepareRefusal::InfiniteMargin => 7,
+            PrepareRefusal::TooManyNodes => 4,
+        }
+    }
 }

@@ -37,7 +37,8 @@ fn with_counts(c: OctantCounts) -> OctantsAnswer
     }
 }
 
-fn without(number: u32) -> OctantsAnswer
+// A refusal by its number, or 0 where no octants are listed.
+pub fn without(number: u32) -> OctantsAnswer
     ensures { result ≡ without number }
 {
     OctantsAnswer {

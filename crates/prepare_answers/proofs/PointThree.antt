@@ -1,7 +1,7 @@
 -- Point 3 of the request at the C interface for a prepared mesh, from the contracts of `bounds_prepare_bvh` and `bounds_walk` alone. An answer that is not
 -- refused, of a mesh with polygons, has a tree; an outcome of a walk is some walk's; and of these prepared_delivers speaks.
 use Rattle.bvh.specs.Build.{Build}
-use Rattle.std.specs.Prelude.{◌≡◌, ℕ, ◌<◌, Bool, true, false, cond, T, eqb, List, length, get_or, take, Result, Ok, Err}
+use Rattle.std.specs.Prelude.{◌≡◌, ℕ, ◌<◌, Bool, true, false, cond, T, eqb, List, length, get_or, take, Ok, Err, Result, ⊤}
 use native.Mathlib.Omega.{arith}
 use mathlib.Core.List.{Memᴰ}
 use mathlib.Core.Path.{refl, sym, ap, subst, ◌∙◌}
@@ -14,29 +14,27 @@ use Rattle.math.specs.declared.aabb.Aabb.{Aabb}
 use Rattle.math.specs.declared.vec3.Vec3.{Vec3}
 use Rattle.meshes.specs.Checks.{is_geometry, check_of}
 use Rattle.meshes.specs.Meshes.{Mesh}
-use Rattle.meshes.specs.declared.Check.{Check}
-use Rattle.meshes.specs.declared.Check.TheVariants.{Passed, Fails}
 use Rattle.meshes.specs.declared.GeometryLengths.{GeometryLengths}
 use Rattle.meshes.specs.declared.Lengths.{Lengths}
 use Rattle.meshes.specs.declared.PrepareRefusal.{PrepareRefusal}
-use Rattle.meshes.specs.declared.PrepareRefusal.TheVariants.{UnknownKind, TooMany, BufferTooShort, UnknownPolygon}
-use Rattle.meshes.specs.declared.PrepareRefusal.TheVariants.{TooManyMaterials, InfiniteMargin, TooManyNodes}
-use Rattle.meshes.specs.Checks.{refusal_number}
+use Rattle.meshes.specs.declared.PrepareRefusal.TheVariants.{UnknownKind, TooManyNodes}
+use Rattle.meshes.proofs.CheckLaws.{never_zero}
 use Rattle.points.specs.Points.{positions_of}
 use Rattle.prepared.specs.Answers.{Lists, BvhWork, bvh_lengths, answer_after, answer_of, bvh_answer, with_tree, number_of, TreeKept, ListsKept, BvhAnswered}
 use Rattle.prepared.specs.Prepared.{prepared_of}
 use Rattle.prepared.specs.Rebuilt.{entries_of8}
-use Rattle.prepared.specs.declared.Prepare.{Prepare}
-use Rattle.prepared.specs.declared.Prepare.TheVariants.{Geometry, Bvh, Empty, Refused}
+use Rattle.prepared.specs.declared.Prepared.{Prepared}
+use Rattle.prepared.specs.declared.Prepared.TheVariants.{Geometry, Bvh, Empty}
 use Rattle.prepared.specs.declared.Values.{Values}
 use Rattle.prepared_delivers.proofs.Places.{each_listed_once, only_polygons_listed}
 use Rattle.prepared_delivers.proofs.Prepared.{prepared_delivers}
 use Rattle.prepared_delivers.specs.Delivers as Mesh
 use Rattle.rebuild.specs.Rebuilding.{leaf_limit, tree_answer}
 use Rattle.tree.specs.WellFormed.{node_no, NodeNumbers}
-use Rattle.walk.specs.Walks.{Walk, Outcome, walk_of, unread, ended, too_many, too_short, status_number, walk_from}
+use Rattle.walk.specs.Walks.{Outcome, walk_of, unread, ended, too_many, too_short, status_number, walk_from}
 use Rattle.walk.specs.Walks as W
 use Rattle.walk.specs.declared.slices.Counts.{Counts}
+use Rattle.walk.specs.declared.slices.Refused.{Refused as RefusedWalk}
 use Rattle.walk_steps.specs.Boxes.{query_of}
 use Rattle.walk_steps.specs.Step.{Turn, lent_of, started}
 use Rattle.walk_steps.specs.declared.refusals.WalkRefusal.{WalkRefusal}
@@ -53,7 +51,7 @@ use Rattle.prepare_answers.specs.declared.PrepareAnswer.{PrepareAnswer}
 -- ---- an outcome of a walk is some walk's
 
 record SomeWalk (o : Outcome) : Type 0 where
-  walk : Walk
+  walk : Result Counts RefusedWalk
   number_is : W.number_of walk ≡ o.number
   counts_are : W.counts_of walk ≡ o.counts
 
@@ -76,35 +74,26 @@ some_walk box cen inverse z nodes trees room =
 
 -- ---- an answer that is not refused has a tree
 
-some_number : (why : PrepareRefusal) → refusal_number why ≡ 0 → ⊥
-some_number UnknownKind z = omega (arith, z)
-some_number TooMany z = omega (arith, z)
-some_number BufferTooShort z = omega (arith, z)
-some_number UnknownPolygon z = omega (arith, z)
-some_number TooManyMaterials z = omega (arith, z)
-some_number InfiniteMargin z = omega (arith, z)
-some_number TooManyNodes z = omega (arith, z)
-
-record Treed (s : Prepare) : Type 0 where
+record Treed (s : Result Prepared PrepareRefusal) : Type 0 where
   values : Values
   tree : BuiltTree
-  is : s ≡ Bvh values tree
+  is : s ≡ Ok (Bvh values tree)
 
 with_tree_lem : (values : Values) (b : Build) → number_of (with_tree values b) ≡ 0 → Treed (with_tree values b)
 with_tree_lem values (Ok t) zero = record { values = values; tree = t; is = refl }
-with_tree_lem values (Err why) zero = absurd (some_number TooManyNodes zero)
+with_tree_lem values (Err why) zero = absurd (never_zero TooManyNodes zero)
 
 -- where neither test holds, the last is taken
-last_of : (s t : Bool) (x y z : Prepare) → s ≡ false → t ≡ false → (number_of z ≡ 0 → Treed z) → number_of (cond s x (cond t y z)) ≡ 0
+last_of : (s t : Bool) (x y z : Result Prepared PrepareRefusal) → s ≡ false → t ≡ false → (number_of z ≡ 0 → Treed z) → number_of (cond s x (cond t y z)) ≡ 0
     → Treed (cond s x (cond t y z))
 last_of true t x y z p q f zero = absurd (subst T p tt)
 last_of false true x y z p q f zero = absurd (subst T q tt)
 last_of false false x y z p q f zero = f zero
 
-after_check : (g : Mesh) (c : Check) → is_geometry g.bound.kind ≡ false → eqb g.counts.polygons 0 ≡ false → number_of (answer_after g c) ≡ 0
+after_check : (g : Mesh) (c : Result ⊤ PrepareRefusal) → is_geometry g.bound.kind ≡ false → eqb g.counts.polygons 0 ≡ false → number_of (answer_after g c) ≡ 0
     → Treed (answer_after g c)
-after_check g (Fails why) other some zero = absurd (some_number why zero)
-after_check g Passed other some zero =
+after_check g (Err why) other some zero = absurd (never_zero why zero)
+after_check g (Ok passed) other some zero =
     last_of (is_geometry g.bound.kind) (eqb g.counts.polygons 0) _ _ _ other some
     (with_tree_lem (prepared_of g).values
     (tree_answer (entries_of8 g.bound g.counts.polygons g.counts.vertices g.polygons g.vertices)))
@@ -114,16 +103,16 @@ treed : (g : Mesh) (l : Lengths) → eqb g.counts.polygons 0 ≡ false → numbe
 unfolding answer_of
 treed g l some = by (is_geometry g.bound.kind) refl
   where
-    by : (t : Bool) → is_geometry g.bound.kind ≡ t → number_of (cond t (Refused UnknownKind) (answer_of g l)) ≡ 0
-        → Treed (cond t (Refused UnknownKind) (answer_of g l))
-    by true is zero = absurd (some_number UnknownKind zero)
+    by : (t : Bool) → is_geometry g.bound.kind ≡ t → number_of (cond t (Err UnknownKind) (answer_of g l)) ≡ 0
+        → Treed (cond t (Err UnknownKind) (answer_of g l))
+    by true is zero = absurd (never_zero UnknownKind zero)
     by false is zero = after_check g (check_of g l) is some zero
 
-number_in : (s : Prepare) → (answer_in s).refusal ≡ number_of s
-number_in (Geometry values counts) = refl
-number_in (Bvh values t) = refl
-number_in (Empty values) = refl
-number_in (Refused why) = refl
+number_in : (s : Result Prepared PrepareRefusal) → (answer_in s).refusal ≡ number_of s
+number_in (Ok (Geometry values counts)) = refl
+number_in (Ok (Bvh values t)) = refl
+number_in (Ok (Empty values)) = refl
+number_in (Err why) = refl
 
 -- ---- the statement
 
@@ -138,12 +127,12 @@ module _ (g : Mesh) (b b' : Lists) (before after : Outputs) (work : BvhWork) (ot
       treed g l (ne_eqb g.counts.polygons 0 (λ none. omega (arith, none, some)))
       (sym (number_in (bvh_answer g l)) ∙ sym (ap (λ (y : PrepareAnswer). y.refusal) a.answer) ∙ zero)
 
-  answered : BvhAnswered g l (Bvh has.values has.tree) b b' before after
+  answered : BvhAnswered g l (Ok (Bvh has.values has.tree)) b b' before after
   answered =
       record {
         answer = sym has.is;
-        lists_are = subst (λ (x : Prepare). ListsKept g x b b') has.is a.lists_are;
-        tree_is = subst (λ (x : Prepare). TreeKept g x before after) has.is a.tree_is;
+        lists_are = subst (λ (x : Result Prepared PrepareRefusal). ListsKept g x b b') has.is a.lists_are;
+        tree_is = subst (λ (x : Result Prepared PrepareRefusal). TreeKept g x before after) has.is a.tree_is;
       }
 
   values_are : r.tree ≡ tree_values has.tree

@@ -2,18 +2,15 @@
 #![tactic(auto)]
 
 ghost use Rattle.std.specs.Prelude.{◌≡◌};
-ghost use Rattle.meshes.specs.Checks.{refusal_number};
 ghost use Rattle.meshes.specs.Sizes.{work_words};
-ghost use Rattle.octants.specs.Answers.{without};
 ghost use Rattle.prepare_answers.specs.Interface.{no_frame, with_values, refused_by, answer_in};
 
 use answers::trees::{BuildAnswer, build_answer, refused};
 use math::vec3::Vec3;
 use math::words3::Words3;
 use meshes::{Frame, PrepareRefusal};
-use octants::answering::OctantsAnswer;
-use octants::entry::Octants;
-use prepared::{Prepare, Values};
+use octants::answering::{OctantsAnswer, without};
+use prepared::{Prepared, Values};
 
 // 01's number, 0 where it is not refused, and all else 0 where it is. `materials` are counted before the list is filled; the octants are those of
 // kind 4, and there is a tree where it has nodes.
@@ -26,22 +23,6 @@ pub struct PrepareAnswer {
     pub materials: usize,
     pub octants: OctantsAnswer,
     pub tree: BuildAnswer,
-}
-
-fn no_octants() -> OctantsAnswer
-    ensures { result ≡ without 0 }
-{
-    OctantsAnswer {
-        refusal: 0,
-        c0: 0,
-        c1: 0,
-        c2: 0,
-        c3: 0,
-        c4: 0,
-        c5: 0,
-        c6: 0,
-        c7: 0,
-    }
 }
 
 fn no_frame() -> Frame
@@ -64,11 +45,11 @@ fn with_values(values: Values, octants: OctantsAnswer, tree: BuildAnswer) -> Pre
     let quantum = values.quantum;
     PrepareAnswer {
         refusal: 0,
-        frame: frame,
-        quantum: quantum,
+        frame,
+        quantum,
         materials: values.materials,
-        octants: octants,
-        tree: tree,
+        octants,
+        tree,
     }
 }
 
@@ -85,41 +66,23 @@ fn refused_by(number: u32) -> PrepareAnswer
         frame: no_frame(),
         quantum: zero,
         materials: 0,
-        octants: no_octants(),
+        octants: without(0),
         tree: refused(0),
     }
 }
 
-fn refusal_number(why: PrepareRefusal) -> u32
-    ensures { result ≡ refusal_number why }
-{
-    match why {
-        PrepareRefusal::UnknownKind => 6,
-        PrepareRefusal::TooMany => 1,
-        PrepareRefusal::BufferTooShort => 2,
-        PrepareRefusal::UnknownPolygon => 6,
-        PrepareRefusal::TooManyMaterials => 8,
-        PrepareRefusal::InfiniteMargin => 7,
-        PrepareRefusal::TooManyNodes => 4,
-    }
-}
-
-pub fn answer(p: Prepare) -> PrepareAnswer
+pub fn answer(p: Result<Prepared, PrepareRefusal>) -> PrepareAnswer
     ensures { result ≡ answer_in p }
 {
     match p {
-        Prepare::Geometry(values, counts) => with_values(
+        Ok(Prepared::Geometry(values, counts)) => with_values(
             values,
-            octants::answering::answer(Octants::Listed(counts)),
+            octants::answering::answer(Ok(counts)),
             refused(0),
         ),
-        Prepare::Bvh(values, tree) => with_values(
-            values,
-            no_octants(),
-            build_answer(Ok(tree)),
-        ),
-        Prepare::Empty(values) => with_values(values, no_octants(), refused(0)),
-        Prepare::Refused(why) => refused_by(refusal_number(why)),
+        Ok(Prepared::Bvh(values, tree)) => with_values(values, without(0), build_answer(Ok(tree))),
+        Ok(Prepared::Empty(values)) => with_values(values, without(0), refused(0)),
+        Err(why) => refused_by(u32::from(why)),
     }
 }
 

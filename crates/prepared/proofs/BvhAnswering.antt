@@ -19,7 +19,6 @@ use Rattle.finishing.specs.Steps.Finishing.{Stored, Listed}
 use Rattle.linking.specs.Written.{written_of}
 use Rattle.materials.specs.Materials.{value_at, values_of, list_of, indices_of}
 use Rattle.math.specs.declared.vec3.Vec3.{Vec3}
-use Rattle.meshes.specs.declared.Check.TheVariants.{Passed}
 use Rattle.meshes.specs.declared.Frame.{Frame}
 use Rattle.meshes.specs.declared.Lengths.{Lengths}
 use Rattle.meshes.specs.declared.PrepareRefusal.TheVariants.{TooManyNodes}
@@ -30,7 +29,7 @@ use Rattle.rebuild.proofs.MaterialOrder.{values_in_order}
 use Rattle.reorder.specs.Reordering.{in_order}
 use Rattle.rows.specs.Tree.{size}
 use Rattle.vertices.specs.Vertices.{quantum_of_box}
-use Rattle.prepared.specs.declared.Prepare.TheVariants.{Bvh, Empty, Refused}
+use Rattle.prepared.specs.declared.Prepared.TheVariants.{Bvh, Empty}
 use Rattle.prepared.specs.declared.Values.{Values}
 use Rattle.prepared.specs.Answers.{with_tree, answer_after, Lists, bvh_answer, BvhAnswered}
 use Rattle.prepared.specs.Prepared.{PreparedMesh, prepared_of}
@@ -70,7 +69,7 @@ module _ (g : Mesh) where
       ∙ sym (second_pass_in_order g room)
 
 module _ (g : Mesh) (l : Lengths) (eight : g.bound.kind ≡ 8)
-    (passed : Passed ≡ bvh_check g.bound g.counts l g.polygons (materials_of g)) where
+    (passed : Ok tt ≡ bvh_check g.bound g.counts l g.polygons (materials_of g)) where
   abbrev e8 : Entries
   e8 = entries_of8 g.bound g.counts.polygons g.counts.vertices g.polygons g.vertices
 
@@ -92,7 +91,7 @@ module _ (g : Mesh) (l : Lengths) (eight : g.bound.kind ≡ 8)
   bvh_answered : (g.counts.polygons ≡ 0 → ⊥) → bvh_answer g l ≡ with_tree (prepared_of g).values (tree_answer e8)
   bvh_answered some = bvh_decides g l ∙ ap (answer_after g) (sym passed) ∙ rw (not_four, ne_eqb g.counts.polygons 0 some)
 
-  empty_answered : g.counts.polygons ≡ 0 → bvh_answer g l ≡ Empty (prepared_of g).values
+  empty_answered : g.counts.polygons ≡ 0 → bvh_answer g l ≡ Ok (Empty (prepared_of g).values)
   empty_answered none = bvh_decides g l ∙ ap (answer_after g) (sym passed) ∙ rw (not_four, eq-eqb g.counts.polygons 0 none)
 
   module _ (some : g.counts.polygons ≡ 0 → ⊥) where
@@ -102,7 +101,7 @@ module _ (g : Mesh) (l : Lengths) (eight : g.bound.kind ≡ 8)
         → BvhShaped g.bound g.counts.polygons g.counts.vertices g.polygons g.numbers g.vertices b.polygons b'.polygons t t' sorted
         (Err why)
         → b'.list ≡ b.list → b'.indices ≡ b.indices → b'.stored ≡ b.stored → b'.floats ≡ b.floats
-        → BvhAnswered g l (Refused TooManyNodes) b b' t t'
+        → BvhAnswered g l (Err TooManyNodes) b b' t t'
     bvh_too_many b b' t t' sorted why s el ei es ef =
         record {
           answer = ap (with_tree (prepared_of g).values) s.answer ∙ sym (bvh_answered some);
@@ -120,7 +119,7 @@ module _ (g : Mesh) (l : Lengths) (eight : g.bound.kind ≡ 8)
         (Ok x)
         → Listed (values_of g.counts.materials g.mats g.counts.polygons sorted) b.list b'.list b.indices b'.indices m
         → Stored (quantum_of_box (box_of (frame_of x))) g.vertices g.counts.vertices b.stored b'.stored b.floats b'.floats
-        → BvhAnswered g l (Bvh (record { frame = frame_of x; quantum = quantum_of_box (box_of (frame_of x)); materials = m }) x) b b' t t'
+        → BvhAnswered g l (Ok (Bvh (record { frame = frame_of x; quantum = quantum_of_box (box_of (frame_of x)); materials = m }) x)) b b' t t'
     bvh_done b b' t t' sorted x m room s listed stored =
         let ms = materials_of8 (order g) (materials_of g) in
         let used = sorted_materials g sorted room (s.numbers_are x refl) in
@@ -131,7 +130,7 @@ module _ (g : Mesh) (l : Lengths) (eight : g.bound.kind ≡ 8)
         listed.counted ∙ ap (λ (xs : List ℕ). length (list_of xs)) used ∙ ap (λ (y : PreparedMesh). y.values.materials) same8 in
         record {
           answer =
-              ap (λ (v : Values). Bvh v x) (λ i. record { frame = frame i; quantum = quantum i; materials = materials i })
+              ap (λ (v : Values). Ok (Bvh v x)) (λ i. record { frame = frame i; quantum = quantum i; materials = materials i })
               ∙ ap (with_tree (prepared_of g).values) s.answer
               ∙ sym (bvh_answered some);
           lists_are =
@@ -163,12 +162,12 @@ module _ (g : Mesh) (l : Lengths) (eight : g.bound.kind ≡ 8)
         (Ok x)
         → Listed (values_of g.counts.materials g.mats g.counts.polygons sorted) b.list b'.list b.indices b'.indices m
         → Stored q g.vertices g.counts.vertices b.stored b'.stored b.floats b'.floats
-        → BvhAnswered g l (Bvh (record { frame = f; quantum = q; materials = m }) x) b b' t t'
+        → BvhAnswered g l (Ok (Bvh (record { frame = f; quantum = q; materials = m }) x)) b b' t t'
     bvh_by x f ef q eq b b' t t' sorted m room s listed stored =
         let qs : q ≡ quantum_of_box (box_of (frame_of x)) = eq ∙ ap (λ (y : Frame). quantum_of_box (box_of y)) ef in
         let done = bvh_done b b' t t' sorted x m room s listed
         (subst (λ (y : Vec3). Stored y g.vertices g.counts.vertices b.stored b'.stored b.floats b'.floats) qs stored) in
-        subst (λ (v : Values). BvhAnswered g l (Bvh v x) b b' t t') (sym (λ i. record { frame = ef i; quantum = qs i; materials = m })) done
+        subst (λ (v : Values). BvhAnswered g l (Ok (Bvh v x)) b b' t t') (sym (λ i. record { frame = ef i; quantum = qs i; materials = m })) done
 
   -- ---- no polygons
 
@@ -184,13 +183,13 @@ module _ (g : Mesh) (l : Lengths) (eight : g.bound.kind ≡ 8)
     pub bvh_empty : (b b' : Lists) (t : Outputs) (m : ℕ) → b'.polygons ≡ b.polygons
         → Listed (materials_of g) b.list b'.list b.indices b'.indices m
         → Stored (quantum_of_box (box_of g.bound.frame)) g.vertices g.counts.vertices b.stored b'.stored b.floats b'.floats
-        → BvhAnswered g l (Empty (record { frame = g.bound.frame; quantum = quantum_of_box (box_of g.bound.frame); materials = m })) b b' t t
+        → BvhAnswered g l (Ok (Empty (record { frame = g.bound.frame; quantum = quantum_of_box (box_of g.bound.frame); materials = m }))) b b' t t
     bvh_empty b b' t m ep listed stored =
         let values : (record { frame = g.bound.frame; quantum = quantum_of_box (box_of g.bound.frame); materials = m }) ≡ (prepared_of g).values =
         (λ i. record { frame = g.bound.frame; quantum = quantum_of_box (box_of g.bound.frame); materials = listed.counted i })
         ∙ ap (λ (x : PreparedMesh). x.values) same0 in
         record {
-          answer = ap Empty values ∙ sym (empty_answered none);
+          answer = ap (λ (v : Values). Ok (Empty v)) values ∙ sym (empty_answered none);
           lists_are =
               record {
                 list_is = listed.list_is ∙ ap (λ (x : PreparedMesh). over x.list b.list) same0;
@@ -210,8 +209,8 @@ module _ (g : Mesh) (l : Lengths) (eight : g.bound.kind ≡ 8)
     pub empty_by : (q : Vec3) → q ≡ quantum_of_box (box_of g.bound.frame) → (b b' : Lists) (t : Outputs) (m : ℕ) → b'.polygons ≡ b.polygons
         → Listed (materials_of g) b.list b'.list b.indices b'.indices m
         → Stored q g.vertices g.counts.vertices b.stored b'.stored b.floats b'.floats
-        → BvhAnswered g l (Empty (record { frame = g.bound.frame; quantum = q; materials = m })) b b' t t
+        → BvhAnswered g l (Ok (Empty (record { frame = g.bound.frame; quantum = q; materials = m }))) b b' t t
     empty_by q e b b' t m ep listed stored =
-        subst (λ (x : Vec3). BvhAnswered g l (Empty (record { frame = g.bound.frame; quantum = x; materials = m })) b b' t t) (sym e)
+        subst (λ (x : Vec3). BvhAnswered g l (Ok (Empty (record { frame = g.bound.frame; quantum = x; materials = m }))) b b' t t) (sym e)
         (bvh_empty b b' t m ep listed
         (subst (λ (x : Vec3). Stored x g.vertices g.counts.vertices b.stored b'.stored b.floats b'.floats) e stored))

@@ -1,6 +1,6 @@
 -- How many materials a prepared mesh has, before its list is filled to four: as many as the polygons had as given, in whatever order they then stand; so at most
 -- 255 where the mesh is not refused, of either kind. From check 8 and the order of the leaves.
-use Rattle.std.specs.Prelude.{◌≡◌, ℕ, ◌≤◌, Bool, true, false, cond, List, length, take}
+use Rattle.std.specs.Prelude.{◌≡◌, ℕ, ◌≤◌, Bool, true, false, cond, List, length, take, Result, Ok, Err, ⊤}
 use native.Mathlib.Omega.{arith}
 use mathlib.Core.Path.{refl, ap, ◌∙◌}
 use borrow.Author.Tests.{ltb-false}
@@ -8,19 +8,15 @@ use lib.ListN.{length-map}
 use lib.Seq.{length-take-le}
 use Rattle.base.specs.Lists.{Permutes, Below, up_from}
 use Rattle.materials.specs.Materials.{value_at, list_of}
-use Rattle.meshes.proofs.CheckLaws.{sound}
-use Rattle.meshes.specs.declared.Check.{Check}
-use Rattle.meshes.specs.declared.Check.TheVariants.{Passed, Fails}
+use Rattle.meshes.proofs.CheckLaws.{sound, never_zero}
 use Rattle.meshes.specs.declared.Lengths.{Lengths}
 use Rattle.meshes.specs.declared.PrepareRefusal.{PrepareRefusal}
-use Rattle.meshes.specs.declared.PrepareRefusal.TheVariants.{UnknownKind, TooMany, BufferTooShort, UnknownPolygon}
-use Rattle.meshes.specs.declared.PrepareRefusal.TheVariants.{TooManyMaterials, InfiniteMargin, TooManyNodes}
-use Rattle.meshes.specs.Checks.{is_geometry, is_bvh, check_of, refusal_number}
+use Rattle.meshes.specs.declared.PrepareRefusal.TheVariants.{UnknownKind}
+use Rattle.meshes.specs.Checks.{is_geometry, is_bvh, check_of}
 use Rattle.meshes.specs.Meshes.{Mesh, materials_of}
 use Rattle.rebuild.proofs.MaterialOrder.{second_pass_values, list_length_in_order}
 use Rattle.rebuild.proofs.OrderLaws.{order_length, order_permutes, places_below}
 use Rattle.reorder.specs.Reordering.{in_order}
-use Rattle.prepared.specs.declared.Prepare.TheVariants.{Refused}
 use Rattle.prepared.specs.Answers.{answer_after, answer_of, number_of, geometry_answer, bvh_answer}
 use Rattle.prepared.specs.Prepared.{rebuilds, used_of, prepared_of}
 use Rattle.prepared.specs.Rebuilt.{entries_of8, order_of8, materials_of8}
@@ -68,30 +64,20 @@ module _ (g : Mesh) where
         by true = in_leaf_order
         by false = refl
 
--- each reason has a number
-a_reason : (why : PrepareRefusal) → refusal_number why ≡ 0 → ⊥
-a_reason UnknownKind e = omega arith
-a_reason TooMany e = omega arith
-a_reason BufferTooShort e = omega arith
-a_reason UnknownPolygon e = omega arith
-a_reason TooManyMaterials e = omega arith
-a_reason InfiniteMargin e = omega arith
-a_reason TooManyNodes e = omega arith
-
 module _ (g : Mesh) (l : Lengths) (told : l.numbers ≡ length g.numbers) where
   -- An answer that is not refused has at most 255 materials.
   pub at_most_255_materials : number_of (answer_of g l) ≡ 0 → (prepared_of g).values.materials ≤ 255
   unfolding answer_of
   at_most_255_materials = by (check_of g l) refl
     where
-      by : (x : Check) → check_of g l ≡ x → number_of (answer_after g x) ≡ 0 → (prepared_of g).values.materials ≤ 255
-      by (Fails why) e k = absurd (a_reason why k)
-      by Passed e k =
+      by : (x : Result ⊤ PrepareRefusal) → check_of g l ≡ x → number_of (answer_after g x) ≡ 0 → (prepared_of g).values.materials ≤ 255
+      by (Err why) e k = absurd (never_zero why k)
+      by (Ok passed) e k =
           let s = sound g.bound g.counts l g.polygons (materials_of g) e in
           omega (arith, materials_as_given g (omega (arith, s.enough.for_numbers)), ltb-false 255 (length (list_of (materials_of g))) s.not_full)
 
   -- So has one of each entry point.
-  not_turned_down : (t : Bool) → number_of (cond t (Refused UnknownKind) (answer_of g l)) ≡ 0 → number_of (answer_of g l) ≡ 0
+  not_turned_down : (t : Bool) → number_of (cond t (Err UnknownKind) (answer_of g l)) ≡ 0 → number_of (answer_of g l) ≡ 0
   not_turned_down true e = absurd (omega arith)
   not_turned_down false e = e
 

@@ -1,6 +1,6 @@
 -- The two entry points are one prepare: kind 8 to `prepare_bvh`, every other to `prepare_geometry`, answers what the definition does, refusal 6 included, and
 -- leaves every output as it says, those that are not lent too. Assumes nothing.
-use Rattle.std.specs.Prelude.{◌≡◌, ℕ, zero, suc, ◌+◌, ◌*◌, Bool, false, cond, eqb, List, [], ◌++◌, take, drop}
+use Rattle.std.specs.Prelude.{◌≡◌, ℕ, zero, suc, ◌+◌, ◌*◌, Bool, false, cond, eqb, List, [], ◌++◌, take, drop, Result, Ok, Err}
 use native.Mathlib.Omega.{arith}
 use mathlib.Core.List.{append_assoc}
 use mathlib.Core.Path.{refl, sym, ap, ◌∙◌}
@@ -9,23 +9,21 @@ use lib.ListN.{take-append-drop}
 use lib.Seq.{drop-drop}
 use Rattle.bvh.specs.Entry.{Outputs}
 use Rattle.meshes.specs.declared.Lengths.{Lengths}
+use Rattle.meshes.specs.declared.PrepareRefusal.{PrepareRefusal}
 use Rattle.meshes.specs.declared.PrepareRefusal.TheVariants.{UnknownKind}
 use Rattle.meshes.specs.Checks.{is_geometry, is_bvh}
 use Rattle.meshes.specs.Meshes.{Mesh}
 use Rattle.octants.specs.Octants.{parts}
-use Rattle.prepared.specs.declared.Prepare.{Prepare}
-use Rattle.prepared.specs.declared.Prepare.TheVariants.{Geometry, Bvh, Empty, Refused}
+use Rattle.prepared.specs.declared.Prepared.{Prepared}
 use Rattle.prepared.specs.Answers.{Lists, Hull, kept, kept_octants, answer_of, GeometryAnswered, BvhAnswered, Answered}
 use Rattle.prepared.specs.Shrunk.{octants_left}
 use Rattle.prepared.proofs.Meshes.{no_nodes, no_trees, no_order, no_shrunk, no_floats, no_octants}
 
 -- ---- where nothing is written
 
-kept_none : (r : Prepare) (before : List ℕ) → before ≡ kept r [] before
-kept_none (Geometry values counts) before = refl
-kept_none (Bvh values t) before = refl
-kept_none (Empty values) before = refl
-kept_none (Refused why) before = refl
+kept_none : (r : Result Prepared PrepareRefusal) (before : List ℕ) → before ≡ kept r [] before
+kept_none (Ok made) before = refl
+kept_none (Err why) before = refl
 
 -- parts in which no list stands are as they were
 parts_none : (n m : ℕ) (before : List ℕ) → parts (λ o. []) n m before ++ drop (m * n) before ≡ before
@@ -41,19 +39,17 @@ parts_none n (suc m) before =
     ∙ ap (λ (l : List ℕ). parts (λ o. []) n m before ++ l) (take-append-drop n rest)
     ∙ parts_none n m before
 
-octants_none : (r : Prepare) (v : ℕ) (before : List ℕ) → before ≡ kept_octants r (λ o. []) v before
+octants_none : (r : Result Prepared PrepareRefusal) (v : ℕ) (before : List ℕ) → before ≡ kept_octants r (λ o. []) v before
 unfolding octants_left
-octants_none (Geometry values counts) v before = sym (parts_none v 8 before)
-octants_none (Bvh values t) v before = sym (parts_none v 8 before)
-octants_none (Empty values) v before = sym (parts_none v 8 before)
-octants_none (Refused why) v before = refl
+octants_none (Ok made) v before = sym (parts_none v 8 before)
+octants_none (Err why) v before = refl
 
 -- ---- the answer is the definition's
 
-not_its_own : (t : Bool) (r : Prepare) → t ≡ false → cond t (Refused UnknownKind) r ≡ r
+not_its_own : (t : Bool) (r : Result Prepared PrepareRefusal) → t ≡ false → cond t (Err UnknownKind) r ≡ r
 not_its_own t r e = rw e
 
-module _ (g : Mesh) (l : Lengths) (r : Prepare) (b b' : Lists) where
+module _ (g : Mesh) (l : Lengths) (r : Result Prepared PrepareRefusal) (b b' : Lists) where
   pub geometry_whole : (h h' : Hull) (t : Outputs) → (g.bound.kind ≡ 8 → ⊥) → GeometryAnswered g l r b b' h h' → Answered g l r b b' h h' t t
   geometry_whole h h' t other a =
       record {

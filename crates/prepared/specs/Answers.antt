@@ -1,21 +1,19 @@
 -- What preparing a mesh answers, and what every buffer then holds (01, Prepare). Definitions only.
 use Rattle.bvh.specs.Build.{Build}
-use Rattle.std.specs.Prelude.{◌≡◌, ℕ, cond, List, length, ◌==◌, Ok, Err}
-use Rattle.std.specs.Prelude.{Float}
+use Rattle.std.specs.Prelude.{◌≡◌, ℕ, cond, List, length, ◌==◌, Ok, Err, Result, ⊤, Float}
 use Rattle.base.specs.Lists.{over}
 use Rattle.bvh.specs.Entry.{Outputs}
 use Rattle.meshes.specs.declared.BvhLengths.{BvhLengths}
-use Rattle.meshes.specs.declared.Check.{Check}
-use Rattle.meshes.specs.declared.Check.TheVariants.{Passed, Fails}
 use Rattle.meshes.specs.declared.GeometryLengths.{GeometryLengths}
 use Rattle.meshes.specs.declared.Lengths.{Lengths}
+use Rattle.meshes.specs.declared.PrepareRefusal.{PrepareRefusal}
 use Rattle.meshes.specs.declared.PrepareRefusal.TheVariants.{UnknownKind, TooManyNodes}
 use Rattle.meshes.specs.Checks.{is_geometry, is_bvh, check_in, check_of, refusal_number}
 use Rattle.meshes.specs.Meshes.{Mesh}
 use Rattle.octants.specs.Octants.{counts_of}
 use Rattle.rebuild.specs.Rebuilding.{tree_answer, tree_answer_by}
-use Rattle.prepared.specs.declared.Prepare.{Prepare}
-use Rattle.prepared.specs.declared.Prepare.TheVariants.{Geometry, Bvh, Empty, Refused}
+use Rattle.prepared.specs.declared.Prepared.{Prepared}
+use Rattle.prepared.specs.declared.Prepared.TheVariants.{Geometry, Bvh, Empty}
 use Rattle.prepared.specs.declared.Values.{Values}
 use Rattle.prepared.specs.Prepared.{prepared_of}
 use Rattle.prepared.specs.Rebuilt.{entries_of8}
@@ -24,28 +22,26 @@ use Rattle.prepared.specs.Shrunk.{octants_left}
 -- ---- the answer
 
 -- Rule K4 (01, Prepare, 4): a tree of over 32,767 nodes is the last that is refused.
-abbrev pub with_tree : Values → Build → Prepare
-with_tree values (Ok t) = Bvh values t
-with_tree values (Err why) = Refused TooManyNodes
+abbrev pub with_tree : Values → Build → Result Prepared PrepareRefusal
+with_tree values (Ok t) = Ok (Bvh values t)
+with_tree values (Err why) = Err TooManyNodes
 
-abbrev pub answer_after : Mesh → Check → Prepare
-answer_after g (Fails why) = Refused why
-answer_after g Passed =
-    cond (is_geometry g.bound.kind) (Geometry (prepared_of g).values (counts_of (prepared_of g).octants))
-    (cond (g.counts.polygons == 0) (Empty (prepared_of g).values)
+abbrev pub answer_after : Mesh → Result ⊤ PrepareRefusal → Result Prepared PrepareRefusal
+answer_after g (Err why) = Err why
+answer_after g (Ok passed) =
+    cond (is_geometry g.bound.kind) (Ok (Geometry (prepared_of g).values (counts_of (prepared_of g).octants)))
+    (cond (g.counts.polygons == 0) (Ok (Empty (prepared_of g).values))
     (with_tree (prepared_of g).values (tree_answer (entries_of8 g.bound g.counts.polygons g.counts.vertices g.polygons g.vertices))))
 
 -- Rule K4: what preparing a mesh answers, in buffers of these lengths.
-unfoldable pub answer_of : Mesh → Lengths → Prepare
+unfoldable pub answer_of : Mesh → Lengths → Result Prepared PrepareRefusal
 unfolding check_in prepared_of entries_of8 tree_answer_by
 answer_of g l = answer_after g (check_of g l)
 
 -- 01's number for each answer, 0 where it is not refused
-abbrev pub number_of : Prepare → ℕ
-number_of (Geometry values counts) = 0
-number_of (Bvh values t) = 0
-number_of (Empty values) = 0
-number_of (Refused why) = refusal_number why
+abbrev pub number_of : Result Prepared PrepareRefusal → ℕ
+number_of (Ok made) = 0
+number_of (Err why) = refusal_number why
 
 -- ---- the buffers
 
@@ -69,38 +65,34 @@ abbrev pub hull : List ℕ → List ℕ → List ℕ → Hull
 hull shrunk floats octants = record { shrunk = shrunk; floats = floats; octants = octants }
 
 -- what a buffer holds at the end: on a refusal what it had
-abbrev pub kept : Prepare → List ℕ → List ℕ → List ℕ
-kept (Geometry values counts) written before = over written before
-kept (Bvh values t) written before = over written before
-kept (Empty values) written before = over written before
-kept (Refused why) written before = before
+abbrev pub kept : Result Prepared PrepareRefusal → List ℕ → List ℕ → List ℕ
+kept (Ok made) written before = over written before
+kept (Err why) written before = before
 
-abbrev pub kept_octants : Prepare → (ℕ → List ℕ) → ℕ → List ℕ → List ℕ
-kept_octants (Geometry values counts) list v before = octants_left list v before
-kept_octants (Bvh values t) list v before = octants_left list v before
-kept_octants (Empty values) list v before = octants_left list v before
-kept_octants (Refused why) list v before = before
+abbrev pub kept_octants : Result Prepared PrepareRefusal → (ℕ → List ℕ) → ℕ → List ℕ → List ℕ
+kept_octants (Ok made) list v before = octants_left list v before
+kept_octants (Err why) list v before = before
 
 -- Every byte of the lists, once preparing has answered r.
-pub record ListsKept (g : Mesh) (r : Prepare) (before after : Lists) : Type 0 where
+pub record ListsKept (g : Mesh) (r : Result Prepared PrepareRefusal) (before after : Lists) : Type 0 where
   pub list_is : after.list ≡ kept r (prepared_of g).list before.list
   pub indices_are : after.indices ≡ kept r (prepared_of g).indices before.indices
   pub polygons_are : after.polygons ≡ kept r (prepared_of g).polygons before.polygons
   pub stored_are : after.stored ≡ kept r (prepared_of g).stored before.stored
   pub floats_are : after.floats ≡ kept r (prepared_of g).floats before.floats
 
-pub record HullKept (g : Mesh) (r : Prepare) (before after : Hull) : Type 0 where
+pub record HullKept (g : Mesh) (r : Result Prepared PrepareRefusal) (before after : Hull) : Type 0 where
   pub shrunk_are : after.shrunk ≡ kept r (prepared_of g).shrunk before.shrunk
   pub floats_are : after.floats ≡ kept r (prepared_of g).shrunk_floats before.floats
   pub octants_are : after.octants ≡ kept_octants r (prepared_of g).octants g.counts.vertices before.octants
 
-pub record TreeKept (g : Mesh) (r : Prepare) (before after : Outputs) : Type 0 where
+pub record TreeKept (g : Mesh) (r : Result Prepared PrepareRefusal) (before after : Outputs) : Type 0 where
   pub nodes_are : after.nodes ≡ kept r (prepared_of g).nodes before.nodes
   pub trees_are : after.trees ≡ kept r (prepared_of g).trees before.trees
   pub order_is : after.order ≡ kept r (prepared_of g).order before.order
 
 -- Rule K4, whole: the answer, and every output.
-pub record Answered (g : Mesh) (l : Lengths) (r : Prepare) (b b' : Lists) (h h' : Hull) (t t' : Outputs) : Type 0 where
+pub record Answered (g : Mesh) (l : Lengths) (r : Result Prepared PrepareRefusal) (b b' : Lists) (h h' : Hull) (t t' : Outputs) : Type 0 where
   pub answer : r ≡ answer_of g l
   pub lists_are : ListsKept g r b b'
   pub hull_is : HullKept g r h h'
@@ -109,11 +101,11 @@ pub record Answered (g : Mesh) (l : Lengths) (r : Prepare) (b b' : Lists) (h h' 
 -- ---- the two entry points
 
 -- Kind 8 is not for `prepare_geometry`, nor kind 4 for `prepare_bvh`: each refuses the other's with 6.
-abbrev pub geometry_answer : Mesh → Lengths → Prepare
-geometry_answer g l = cond (is_bvh g.bound.kind) (Refused UnknownKind) (answer_of g l)
+abbrev pub geometry_answer : Mesh → Lengths → Result Prepared PrepareRefusal
+geometry_answer g l = cond (is_bvh g.bound.kind) (Err UnknownKind) (answer_of g l)
 
-abbrev pub bvh_answer : Mesh → Lengths → Prepare
-bvh_answer g l = cond (is_geometry g.bound.kind) (Refused UnknownKind) (answer_of g l)
+abbrev pub bvh_answer : Mesh → Lengths → Result Prepared PrepareRefusal
+bvh_answer g l = cond (is_geometry g.bound.kind) (Err UnknownKind) (answer_of g l)
 
 -- What `prepare_geometry` is lent besides its outputs.
 pub record GeometryWork : Type 0 where
@@ -226,13 +218,13 @@ bvh_lengths g b t w others =
     }
 
 -- Rule K4, of `prepare_geometry`: what is not lent cannot change.
-pub record GeometryAnswered (g : Mesh) (l : Lengths) (r : Prepare) (b b' : Lists) (h h' : Hull) : Type 0 where
+pub record GeometryAnswered (g : Mesh) (l : Lengths) (r : Result Prepared PrepareRefusal) (b b' : Lists) (h h' : Hull) : Type 0 where
   pub answer : r ≡ geometry_answer g l
   pub lists_are : ListsKept g r b b'
   pub hull_is : HullKept g r h h'
 
 -- Rule K4, of `prepare_bvh`.
-pub record BvhAnswered (g : Mesh) (l : Lengths) (r : Prepare) (b b' : Lists) (t t' : Outputs) : Type 0 where
+pub record BvhAnswered (g : Mesh) (l : Lengths) (r : Result Prepared PrepareRefusal) (b b' : Lists) (t t' : Outputs) : Type 0 where
   pub answer : r ≡ bvh_answer g l
   pub lists_are : ListsKept g r b b'
   pub tree_is : TreeKept g r t t'

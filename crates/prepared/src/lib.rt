@@ -5,7 +5,7 @@ pub mod frames;
 
 use bvh::slices::BuiltTree;
 use math::vec3::Vec3;
-use meshes::{Frame, PrepareRefusal};
+use meshes::Frame;
 use octants::lists::OctantCounts;
 
 // What a prepared geometry then has besides its lists. `materials` are counted before the list is filled.
@@ -16,11 +16,10 @@ pub struct Values {
     pub materials: usize,
 }
 
-// Kind 4, with how many each octant has; kind 8 with its tree; kind 8 without polygons, and so without a tree; or why not.
+// Kind 4, with how many each octant has; kind 8 with its tree; kind 8 without polygons, and so without a tree.
 #[derive(Clone, Copy)]
-pub enum Prepare {
+pub enum Prepared {
     Geometry(Values, OctantCounts),
     Bvh(Values, BuiltTree),
     Empty(Values),
-    Refused(PrepareRefusal),
 }

@@ -1,6 +1,6 @@
 -- Point 3 of the request for a prepared mesh, from the contracts of `prepare_bvh` and of a walk alone: an answer with a tree tells of the checks that were
 -- passed and of the tree that was written, and of these Delivers speaks.
-use Rattle.std.specs.Prelude.{Ok, Err}
+use Rattle.std.specs.Prelude.{Ok, Err, Result, ⊤}
 use Prim.Native.Nat.{ℕ, ◌<◌}
 use native.Mathlib.Omega.{arith}
 use mathlib.Core.Bool.{Bool, true, false, cond, not, ◌||◌}
@@ -18,16 +18,15 @@ use Rattle.math.specs.declared.aabb.Aabb.{Aabb}
 use Rattle.meshes.proofs.CheckLaws.{Sound, sound}
 use Rattle.meshes.specs.Checks.{is_geometry, is_bvh, check_of}
 use Rattle.meshes.specs.Meshes.{Mesh, materials_of}
-use Rattle.meshes.specs.declared.Check.{Check}
-use Rattle.meshes.specs.declared.Check.TheVariants.{Passed, Fails}
 use Rattle.meshes.specs.declared.GeometryLengths.{GeometryLengths}
 use Rattle.meshes.specs.declared.Lengths.{Lengths}
+use Rattle.meshes.specs.declared.PrepareRefusal.{PrepareRefusal}
 use Rattle.meshes.specs.declared.PrepareRefusal.TheVariants.{UnknownKind}
 use Rattle.prepared.specs.Answers.{Lists, BvhWork, bvh_lengths, answer_after, answer_of, bvh_answer, with_tree, BvhAnswered}
 use Rattle.prepared.specs.Prepared.{prepared_of, polygons_of, rebuilds}
 use Rattle.prepared.specs.Rebuilt.{entries_of8, polygons_of8}
-use Rattle.prepared.specs.declared.Prepare.{Prepare}
-use Rattle.prepared.specs.declared.Prepare.TheVariants.{Geometry, Bvh, Empty, Refused}
+use Rattle.prepared.specs.declared.Prepared.{Prepared}
+use Rattle.prepared.specs.declared.Prepared.TheVariants.{Geometry, Bvh, Empty}
 use Rattle.prepared.specs.declared.Values.{Values}
 use Rattle.rebuild.specs.Rebuilding.{leaf_limit, tree_answer}
 use Rattle.walk.specs.Walks.{Walk}
@@ -37,45 +36,45 @@ use Rattle.prepared_delivers.specs.Delivers.{WalkedOver, Delivers}
 -- ---- what an answer with a tree tells
 
 -- 1 for such an answer, and the build that it tells of
-abbrev trees : Prepare → ℕ
-trees (Geometry values counts) = 0
-trees (Bvh values x) = 1
-trees (Empty values) = 0
-trees (Refused why) = 0
+abbrev trees : Result Prepared PrepareRefusal → ℕ
+trees (Ok (Geometry values counts)) = 0
+trees (Ok (Bvh values x)) = 1
+trees (Ok (Empty values)) = 0
+trees (Err why) = 0
 
-abbrev build_in : Prepare → Build
-build_in (Geometry values counts) = Err TooManyNodes
-build_in (Bvh values x) = Ok x
-build_in (Empty values) = Err TooManyNodes
-build_in (Refused why) = Err TooManyNodes
+abbrev build_in : Result Prepared PrepareRefusal → Build
+build_in (Ok (Geometry values counts)) = Err TooManyNodes
+build_in (Ok (Bvh values x)) = Ok x
+build_in (Ok (Empty values)) = Err TooManyNodes
+build_in (Err why) = Err TooManyNodes
 
-without_tree : (r : Prepare) (values : Values) (x : BuiltTree) → trees r ≡ 0 → Bvh values x ≡ r → ⊥
+without_tree : (r : Result Prepared PrepareRefusal) (values : Values) (x : BuiltTree) → trees r ≡ 0 → Ok (Bvh values x) ≡ r → ⊥
 without_tree r values x none e = let one : 1 ≡ trees r = ap trees e in omega (arith, none)
 
 module _ (values : Values) (x : BuiltTree) where
   -- a test that would have led elsewhere did not hold
-  past : (t : Bool) (r rest : Prepare) → trees r ≡ 0 → Bvh values x ≡ cond t r rest → (t ≡ false) × (Bvh values x ≡ rest)
+  past : (t : Bool) (r rest : Result Prepared PrepareRefusal) → trees r ≡ 0 → Ok (Bvh values x) ≡ cond t r rest → (t ≡ false) × (Ok (Bvh values x) ≡ rest)
   past true r rest none e = absurd (without_tree r values x none e)
   past false r rest none e = (refl, e)
 
-  of_built : (v : Values) (y : Build) → Bvh values x ≡ with_tree v y → Ok x ≡ y
+  of_built : (v : Values) (y : Build) → Ok (Bvh values x) ≡ with_tree v y → Ok x ≡ y
   of_built v (Ok t) e = ap build_in e
   of_built v (Err why) e = absurd (without_tree (with_tree v (Err why)) values x refl e)
 
-  passed : (g : Mesh) (c : Check) → Bvh values x ≡ answer_after g c → c ≡ Passed
-  passed g Passed e = refl
-  passed g (Fails why) e = absurd (without_tree (Refused why) values x refl e)
+  passed : (g : Mesh) (c : Result ⊤ PrepareRefusal) → Ok (Bvh values x) ≡ answer_after g c → c ≡ Ok tt
+  passed g (Ok u) e = refl
+  passed g (Err why) e = absurd (without_tree (Err why) values x refl e)
 
 record Told (g : Mesh) (l : Lengths) (x : BuiltTree) : Type 0 where
   no_geometry : is_geometry g.bound.kind ≡ false
-  checked : check_of g l ≡ Passed
+  checked : check_of g l ≡ Ok tt
   some : eqb g.counts.polygons 0 ≡ false
   tree : Ok x ≡ tree_answer (entries_of8 g.bound g.counts.polygons g.counts.vertices g.polygons g.vertices)
 
-told : (g : Mesh) (l : Lengths) (values : Values) (x : BuiltTree) → Bvh values x ≡ bvh_answer g l → Told g l x
+told : (g : Mesh) (l : Lengths) (values : Values) (x : BuiltTree) → Ok (Bvh values x) ≡ bvh_answer g l → Told g l x
 unfolding answer_of
 told g l values x e =
-    let own = past values x (is_geometry g.bound.kind) (Refused UnknownKind) (answer_of g l) refl e in
+    let own = past values x (is_geometry g.bound.kind) (Err UnknownKind) (answer_of g l) refl e in
     let is = passed values x g (check_of g l) own.1 in
     let after = own.1 ∙ ap (answer_after g) is in
     let other = past values x (is_geometry g.bound.kind) _ _ refl after in
@@ -126,7 +125,7 @@ module _ (g : Mesh) (l : Lengths) (x : BuiltTree) (t : Told g l x) where
 -- list of polygons, whose records are those that were returned. What is given of the mesh is bytes.
 pub prepared_delivers : (g : Mesh) (b b' : Lists) (before after : Outputs) (work : BvhWork) (others : GeometryLengths) (values : Values) (x : BuiltTree)
     → ((i : ℕ) → get_or g.polygons i 0 < 256)
-    → BvhAnswered g (bvh_lengths g b before work others) (Bvh values x) b b' before after
+    → BvhAnswered g (bvh_lengths g b before work others) (Ok (Bvh values x)) b b' before after
     → (query : Aabb) (out out' : List ℕ) (w : Walk) → WalkedOver g.counts.polygons query x after out out' w
     → Delivers g.bound g.counts.polygons g.counts.vertices g.polygons g.vertices b'.polygons query x after out out' w
 prepared_delivers g b b' before after work others values x each a =

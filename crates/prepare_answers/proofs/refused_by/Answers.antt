@@ -4,4 +4,4 @@ use Rattle.prepare_answers.proofs.refused_by.Goals as goal
 
 pub returns : goal.returns
 unfolding of_bits
-returns c = rw (c.no_frame.ensures, c.no_octants.ensures, c.refused.ensures)
+returns c = rw (c.no_frame.ensures, c.without.ensures, c.refused.ensures)

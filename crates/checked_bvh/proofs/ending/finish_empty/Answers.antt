@@ -1,6 +1,6 @@
 -- `finish_empty` meets its contract: what is written at the end, in the units of the given frame.
 use mathlib.Core.Path.{refl, ap}
-use Rattle.prepared.specs.declared.Prepare.TheVariants.{Empty}
+use Rattle.prepared.specs.declared.Prepared.TheVariants.{Empty}
 use Rattle.checked_bvh.proofs.Endings.{values_are, lists_written}
 use Rattle.checked_bvh.proofs.ending.finish_empty.Goals as goal
 

@@ -1,12 +1,7 @@
 -- `hex::put_hex`: the first i are put.
-use Prim.Native.Nat.{◌-◌}
-use lib.ListN.{length}
 use Rattle.hex_lines.proofs.Each.{Putting}
 use Rattle.hex_lines.specs.Hex.{byte_text}
 use Rattle.hex_lines.proofs.hex.put_hex.Given as goal
 
 abbrev pub invariant-loop-i : goal.invariant-loop-i
 invariant-loop-i l = Putting byte_text l.bytes l.initial.out l.out l.i
-
-abbrev pub decreases-loop-i : goal.decreases-loop-i
-decreases-loop-i l = length l.bytes - l.i

@@ -1,23 +1,23 @@
 -- `refusal`: the tests are the definition's, in its order (CheckLaws).
 use native.Mathlib.Omega.{arith}
 use mathlib.Core.Path.{sym, ◌∙◌}
+use Rattle.std.proofs.lemmas.Result.{err_from_is_err_and}
 use Rattle.meshes.proofs.CheckLaws as laws
 use Rattle.meshes.proofs.checking.refusal.Goals as goal
 
-pub returns-then-not-kind_known : goal.returns-then-not-kind_known
-returns-then-not-kind_known c = laws.unknown_kind _ _ _ _ _ (sym c.kind_known.ensures ∙ c.if-not-kind_known.true)
+pub returns-in_err-try_from : goal.returns-in_err-try_from
+returns-in_err-try_from c =
+    let p = err_from_is_err_and c.from_residual.result c.from_residual.ensures.1 in
+    rw (p.1, p.2) (laws.unknown_number _ _ _ _ _ _ (sym c.try_from.ensures ∙ c.in_err-try_from.was))
 
 pub returns-then-too_many : goal.returns-then-too_many
 returns-then-too_many c =
-    laws.too_many _ _ _ _ _ (sym c.kind_known.ensures ∙ c.if-not-kind_known.false)
+    laws.too_many _ _ _ _ _ (laws.known_number c.args.bound.kind _ (sym c.try_from.ensures ∙ c.in_ok-try_from.was))
     (sym c.too_many.ensures ∙ c.if-too_many.true)
-
-pub too_short-requires : goal.too_short-requires
-too_short-requires c = laws.few _ (sym c.too_many.ensures ∙ c.if-too_many.false)
 
 pub returns-then-too_short : goal.returns-then-too_short
 returns-then-too_short c =
-    laws.too_small _ _ _ _ _ (sym c.kind_known.ensures ∙ c.if-not-kind_known.false)
+    laws.too_small _ _ _ _ _ (laws.known_number c.args.bound.kind _ (sym c.try_from.ensures ∙ c.in_ok-try_from.was))
     (sym c.too_many.ensures ∙ c.if-too_many.false) (sym c.too_short.ensures ∙ c.if-too_short.true)
 
 pub refusal_within-requires : goal.refusal_within-requires
@@ -34,5 +34,5 @@ refusal_within-requires c =
 pub returns : goal.returns
 returns c =
     c.refusal_within.ensures
-    ∙ laws.rest _ _ _ _ _ (sym c.kind_known.ensures ∙ c.if-not-kind_known.false) (sym c.too_many.ensures ∙ c.if-too_many.false)
-    (sym c.too_short.ensures ∙ c.if-too_short.false)
+    ∙ laws.rest _ _ _ _ _ (laws.known_number c.args.bound.kind _ (sym c.try_from.ensures ∙ c.in_ok-try_from.was))
+    (sym c.too_many.ensures ∙ c.if-too_many.false) (sym c.too_short.ensures ∙ c.if-too_short.false)

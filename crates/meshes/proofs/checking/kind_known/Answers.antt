@@ -1,9 +1,0 @@
--- `kind_known`: the tests are the definition's.
-use borrow.Author.Tests.{eq-eqb, ne_eqb}
-use Rattle.meshes.proofs.checking.kind_known.Goals as goal
-
-pub returns-then-kind-eq4 : goal.returns-then-kind-eq4
-returns-then-kind-eq4 c = rw (eq-eqb _ 4 c.if-kind-eq4.true)
-
-pub returns : goal.returns
-returns c = rw (ne_eqb _ 4 c.if-kind-eq4.false)
