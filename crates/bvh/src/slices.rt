@@ -67,31 +67,15 @@ fn too_short(n: usize, l: Lengths) -> bool
     ensures { result ≡ short n l }
 {
     let rows = 2 * n + 1;
-    if l.nodes < 16 * rows {
-        return true;
-    }
-    if l.trees < 16 * rows {
-        return true;
-    }
-    if l.order < n {
-        return true;
-    }
-    if l.entries < 7 * n {
-        return true;
-    }
-    if l.places < n {
-        return true;
-    }
-    if l.temp < n {
-        return true;
-    }
-    if l.stack < n {
-        return true;
-    }
-    if l.rows < 8 * rows {
-        return true;
-    }
-    l.centres < 4 * n
+    l.nodes < 16 * rows
+        || l.trees < 16 * rows
+        || l.order < n
+        || l.entries < 7 * n
+        || l.places < n
+        || l.temp < n
+        || l.stack < n
+        || l.rows < 8 * rows
+        || l.centres < 4 * n
 }
 
 // The records of m rows and, at threshold 1, the padding; how many records that is.
@@ -223,10 +207,7 @@ pub fn build_core(
     if 32767 < n {
         return Err(BuildRefusal::TooManyEntries);
     }
-    if threshold < 1 {
-        return Err(BuildRefusal::ThresholdOutside);
-    }
-    if 32767 < threshold {
+    if threshold < 1 || 32767 < threshold {
         return Err(BuildRefusal::ThresholdOutside);
     }
     let lengths = Lengths {

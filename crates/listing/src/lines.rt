@@ -1,6 +1,7 @@
 // The lines of the listing, put into a lent buffer as text is.
-ghost use Rattle.std.specs.Prelude.{◌≡◌, ◌+◌, ◌*◌, ◌<◌, ◌≤◌, length};
-ghost use Rattle.listing.specs.Lines.{vertex_fields, record_line, node_line, tree_line, node_lines, tree_lines, counts_line, refused_line};
+ghost use Rattle.std.specs.Prelude.{◌≡◌, ℕ, ◌+◌, ◌*◌, ◌<◌, ◌≤◌, List, length};
+ghost use Rattle.records.specs.Records.{node_at, tree_at};
+ghost use Rattle.listing.specs.Lines.{vertex_fields, record_line, node_line, tree_line, lines, counts_line, refused_line};
 ghost use Rattle.listing.specs.Text.{Put};
 
 use crate::text::{put_byte, put_decimal, put_field, put_text};
@@ -38,58 +39,76 @@ fn put_record(
     put_byte(out, end, b'\n')
 }
 
-fn put_node_line(out: &mut [u8], at: usize, number: usize, n: BvhNode) -> usize
-    requires { (at + 67 ≤ length out.old) × (number < 100000) }
-    ensures { Put 67 (node_line number n) out.old at out.new result }
-{
-    put_record(
-        out,
-        at,
-        b"node ",
-        number,
-        n.min,
-        n.max,
-        n.item_id,
-        n.item_count,
-    )
+// A record of which the listing has lines.
+pub trait Shown: Copy {
+    // The line of a record by its number, and the record that stands in some bytes from a place on.
+    ghost line: { ℕ → Self → List ℕ };
+
+    ghost stands: { List ℕ → ℕ → Self };
+
+    fn read(bytes: &[u8], i: usize) -> Self
+        requires { 16 * i + 16 ≤ length bytes.now }
+        ensures { result ≡ stands bytes.now (16 * i) };
+
+    fn put_line(self, out: &mut [u8], at: usize, number: usize) -> usize
+        requires { (at + 67 ≤ length out.old) × (number < 100000) }
+        ensures { Put 67 (line number self) out.old at out.new result };
 }
 
-fn put_tree_line(out: &mut [u8], at: usize, number: usize, t: BvhTree) -> usize
-    requires { (at + 67 ≤ length out.old) × (number < 100000) }
-    ensures { Put 67 (tree_line number t) out.old at out.new result }
-{
-    put_record(
-        out,
-        at,
-        b"tree ",
-        number,
-        t.min,
-        t.max,
-        t.node_index1,
-        t.node_index2,
-    )
-}
+impl Shown for BvhNode {
+    ghost line = { node_line };
 
-// The lines of the first `count` node records.
-pub fn put_node_lines(out: &mut [u8], at: usize, node_bytes: &[u8], count: usize) -> usize
-    requires { (at + 67 * count ≤ length out.old) × (16 * count ≤ length node_bytes.now) × (count ≤ 100000) }
-    ensures { Put (67 * count) (node_lines node_bytes.now count) out.old at out.new result }
-{
-    let mut end = at;
-    for i in 0..count {
-        end = put_node_line(out, end, i, walk::reader::read_node(node_bytes, i));
+    ghost stands = { node_at };
+
+    fn read(bytes: &[u8], i: usize) -> BvhNode {
+        walk::reader::read_node(bytes, i)
     }
-    end
+
+    fn put_line(self, out: &mut [u8], at: usize, number: usize) -> usize {
+        put_record(
+            out,
+            at,
+            b"node ",
+            number,
+            self.min,
+            self.max,
+            self.item_id,
+            self.item_count,
+        )
+    }
 }
 
-// The lines of the first `count` tree records.
-pub fn put_tree_lines(out: &mut [u8], at: usize, tree_bytes: &[u8], count: usize) -> usize
-    requires { (at + 67 * count ≤ length out.old) × (16 * count ≤ length tree_bytes.now) × (count ≤ 100000) }
-    ensures { Put (67 * count) (tree_lines tree_bytes.now count) out.old at out.new result }
+impl Shown for BvhTree {
+    ghost line = { tree_line };
+
+    ghost stands = { tree_at };
+
+    fn read(bytes: &[u8], i: usize) -> BvhTree {
+        records::tree_at(bytes, 16 * i)
+    }
+
+    fn put_line(self, out: &mut [u8], at: usize, number: usize) -> usize {
+        put_record(
+            out,
+            at,
+            b"tree ",
+            number,
+            self.min,
+            self.max,
+            self.node_index1,
+            self.node_index2,
+        )
+    }
+}
+
+// The lines of the first `count` records of a kind.
+pub fn put_lines<R: Shown>(out: &mut [u8], at: usize, bytes: &[u8], count: usize) -> usize
+    requires { (at + 67 * count ≤ length out.old) × (16 * count ≤ length bytes.now) × (count ≤ 100000) }
+    ensures { Put (67 * count) (lines (λ i. R.line i (R.stands bytes.now (16 * i))) count) out.old at out.new result }
 {
     let mut end = at;
     for i in 0..count {
-        end = put_tree_line(out, end, i, records::tree_at(tree_bytes, 16 * i));
+        end = R::read(bytes, i).put_line(out, end, i);
     }
     end
 }

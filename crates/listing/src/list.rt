@@ -4,8 +4,9 @@ ghost use Rattle.listing.specs.Lines.{records_text};
 ghost use Rattle.listing.specs.Listing.{children_of, listing_of, Listed};
 ghost use Rattle.listing.specs.Text.{Put};
 
-use crate::lines::{put_counts, put_node_lines, put_refusal, put_tree_lines};
+use crate::lines::{put_counts, put_lines, put_refusal};
 use crate::reading::read_children;
+use records::{BvhNode, BvhTree};
 use rows::ranges::RANGE_LIMIT;
 
 // The lines of some node and tree records, after that of count and capacity.
@@ -23,8 +24,8 @@ fn put_records(
         0 out.new result }
 {
     let first_node = put_counts(out, 0, count, capacity);
-    let first_tree = put_node_lines(out, first_node, node_bytes, count);
-    put_tree_lines(out, first_tree, tree_bytes, parts)
+    let first_tree = put_lines::<BvhNode>(out, first_node, node_bytes, count);
+    put_lines::<BvhTree>(out, first_tree, tree_bytes, parts)
 }
 
 // The listing of an input of at most 256 whole records.

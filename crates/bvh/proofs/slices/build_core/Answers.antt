@@ -7,16 +7,18 @@ use Rattle.bvh.specs.Entry.{Outputs, Lent, lent, lengths_of}
 use Rattle.bvh.proofs.slices.Answering.{Enough, enough, work_room, writable}
 use Rattle.bvh.proofs.slices.Answering.{too_many_entries, threshold_below, threshold_above, buffer_too_short, too_many_nodes, built}
 use native.Mathlib.Omega.{arith}
+use Rattle.bvh.proofs.slices.build_core.Goals.{then-threshold-lt1-via-then-threshold-lt1, then-threshold-lt1-via-else-threshold-lt1+then-threshold-gt32767}
 use Rattle.bvh.proofs.slices.build_core.Goals as goal
 
 pub returns-then-n-gt32767 : goal.returns-then-n-gt32767
 returns-then-n-gt32767 c = too_many_entries _ _ _ _ _ _ c.if-n-gt32767.true
 
 pub returns-then-threshold-lt1 : goal.returns-then-threshold-lt1
-returns-then-threshold-lt1 c = threshold_below _ _ _ _ _ _ c.if-n-gt32767.false c.if-threshold-lt1.true
-
-pub returns-then-threshold-gt32767 : goal.returns-then-threshold-gt32767
-returns-then-threshold-gt32767 c = threshold_above _ _ _ _ _ _ c.if-n-gt32767.false c.if-threshold-lt1.false c.if-threshold-gt32767.true
+returns-then-threshold-lt1 c =
+    elim c.then-threshold-lt1.branch [
+      | then-threshold-lt1-via-then-threshold-lt1 w ↦ threshold_below _ _ _ _ _ _ c.if-n-gt32767.false w.if-threshold-lt1.true
+      | then-threshold-lt1-via-else-threshold-lt1+then-threshold-gt32767 w ↦ threshold_above _ _ _ _ _ _ c.if-n-gt32767.false w.if-threshold-lt1.false w.if-threshold-gt32767.true
+    ]
 
 pub returns-then-too_short : goal.returns-then-too_short
 returns-then-too_short c =
