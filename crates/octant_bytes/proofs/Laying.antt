@@ -122,6 +122,39 @@ next_put ls l before now after at r p q =
       place = omega (arith, p.place, q.behind, all_more ls l);
     }
 
+-- The first lists, one after the other: each lemma takes what the stores so far promise.
+module _ {out l0 o1 : List ℕ} {a1 : ℕ} (e1 : ListPut l0 out o1 96 a1) where
+  pub put1 : Put (l0 ∷ []) out o1 a1
+  put1 = next_put _ _ _ _ _ _ _ (none_put out) e1
+
+  module _ {l1 o2 : List ℕ} {a2 : ℕ} (e2 : ListPut l1 o1 o2 a1 a2) where
+    pub put2 : Put (l0 ∷ l1 ∷ []) out o2 a2
+    put2 = next_put _ _ _ _ _ _ _ put1 e2
+
+    module _ {l2 o3 : List ℕ} {a3 : ℕ} (e3 : ListPut l2 o2 o3 a2 a3) where
+      pub put3 : Put (l0 ∷ l1 ∷ l2 ∷ []) out o3 a3
+      put3 = next_put _ _ _ _ _ _ _ put2 e3
+
+      module _ {l3 o4 : List ℕ} {a4 : ℕ} (e4 : ListPut l3 o3 o4 a3 a4) where
+        pub put4 : Put (l0 ∷ l1 ∷ l2 ∷ l3 ∷ []) out o4 a4
+        put4 = next_put _ _ _ _ _ _ _ put3 e4
+
+        module _ {l4 o5 : List ℕ} {a5 : ℕ} (e5 : ListPut l4 o4 o5 a4 a5) where
+          pub put5 : Put (l0 ∷ l1 ∷ l2 ∷ l3 ∷ l4 ∷ []) out o5 a5
+          put5 = next_put _ _ _ _ _ _ _ put4 e5
+
+          module _ {l5 o6 : List ℕ} {a6 : ℕ} (e6 : ListPut l5 o5 o6 a5 a6) where
+            pub put6 : Put (l0 ∷ l1 ∷ l2 ∷ l3 ∷ l4 ∷ l5 ∷ []) out o6 a6
+            put6 = next_put _ _ _ _ _ _ _ put5 e6
+
+            module _ {l6 o7 : List ℕ} {a7 : ℕ} (e7 : ListPut l6 o6 o7 a6 a7) where
+              pub put7 : Put (l0 ∷ l1 ∷ l2 ∷ l3 ∷ l4 ∷ l5 ∷ l6 ∷ []) out o7 a7
+              put7 = next_put _ _ _ _ _ _ _ put6 e7
+
+              module _ {l7 o8 : List ℕ} {a8 : ℕ} (e8 : ListPut l7 o7 o8 a7 a8) where
+                pub put8 : Put (l0 ∷ l1 ∷ l2 ∷ l3 ∷ l4 ∷ l5 ∷ l6 ∷ l7 ∷ []) out o8 a8
+                put8 = next_put _ _ _ _ _ _ _ put7 e8
+
 long : (ls : List (List ℕ)) (before now : List ℕ) (at : ℕ) → Put ls before now at → length now ≡ length before
 long ls before now at p = ap length p.bytes ∙ length-sets before 96 (lists_bytes ls)
 

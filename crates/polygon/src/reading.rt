@@ -43,35 +43,28 @@ fn box_of(h: Halves) -> Polygon
 fn polygon_of(h: Halves) -> Polygon
     ensures { result ≡ polygon_of h }
 {
-    let kind = h.at0 % 8;
-    if kind == 0 {
-        return triangle_of(h);
-    }
-    if kind == 3 {
-        return box_of(h);
-    }
     let nan = joined(h.at4, h.at6);
     let radius = float32::words::value(nan);
-    if kind == 1 {
-        return Polygon::Sphere {
+    match h.at0 % 8 {
+        0 => triangle_of(h),
+        1 => Polygon::Sphere {
             index: h.at2,
             radius,
             nan,
-        };
-    }
-    if kind == 2 {
-        return Polygon::Capsule {
+        },
+        2 => Polygon::Capsule {
             i1: h.at2,
             i2: h.at8,
             radius,
             nan,
-        };
-    }
-    Polygon::Cylinder {
-        i1: h.at2,
-        i2: h.at8,
-        radius,
-        nan,
+        },
+        3 => box_of(h),
+        _ => Polygon::Cylinder {
+            i1: h.at2,
+            i2: h.at8,
+            radius,
+            nan,
+        },
     }
 }
 

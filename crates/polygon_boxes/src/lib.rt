@@ -85,6 +85,7 @@ fn three_box(a: Words3, b: Words3, c: Words3) -> PolygonBox
     }
 }
 
+// Beside the box of three: one for any number of vertices would be a loop over an array in place of straight words.
 fn number_box_4(a: Words3, b: Words3, c: Words3, d: Words3) -> PolygonBox
     requires { Numbers a × Numbers b × Numbers c × Numbers d }
     ensures { result ≡ four_box a b c d }
