@@ -6,19 +6,6 @@ ghost use Rattle.materials.specs.Steps.Listing.{Placed, Fits, bucket_of, Marked,
 
 use base::little_endian::put_le;
 
-fn wide(byte: u8) -> usize
-    ensures { (result ≡ byte) × (result < 256) }
-{
-    byte as usize
-}
-
-fn narrow(n: u32) -> u8
-    requires { n < 256 }
-    ensures { result ≡ n }
-{
-    n as u8
-}
-
 // A material's two words as one number.
 fn material(data1: u32, data2: u32) -> u64
     ensures { result ≡ data1 + 4294967296 * data2 }
@@ -96,9 +83,9 @@ fn index_all(
 {
     let mut count = 0;
     for p in 0..n {
-        let b = wide(numbers[p]);
+        let b = usize::from(numbers[p]);
         count = enter(table, b, value_at(mats, m, b), list, count);
-        indices[p] = narrow(table[b] - 1);
+        indices[p] = (table[b] - 1) as u8;
     }
     count
 }
@@ -134,7 +121,7 @@ fn count_all(
 {
     let mut count = 0;
     for p in 0..n {
-        let b = wide(numbers[p]);
+        let b = usize::from(numbers[p]);
         count = enter(table, b, value_at(mats, m, b), list, count);
     }
     count

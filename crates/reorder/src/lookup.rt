@@ -5,18 +5,12 @@ ghost use Rattle.reorder.specs.Steps.Lent.{Numbering};
 
 use base::numbers::{Place, Position};
 
-fn place_of(old: u16) -> Place
-    ensures { result.0 ≡ old }
-{
-    Place(old as u32)
-}
-
 // The place that an order has at a position.
 pub fn place_at(order: &[u16], new: Position) -> Place
     requires { new.0 < length order.now }
     ensures { result.0 ≡ get_or order.now new.0 0 }
 {
-    place_of(order[new.0 as usize])
+    Place(u32::from(order[new.0 as usize]))
 }
 
 fn put_position(lookup: &mut [u32], old: Place, new: Position)

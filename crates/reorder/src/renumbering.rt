@@ -48,11 +48,11 @@ fn relinked_triangle(
         (new_link lookup.now e3) }
 {
     Polygon::Triangle {
-        area: area,
-        nan: nan,
-        v1: v1,
-        v2: v2,
-        v3: v3,
+        area,
+        nan,
+        v1,
+        v2,
+        v3,
         e1: new_link(lookup, e1),
         e2: new_link(lookup, e2),
         e3: new_link(lookup, e3),
@@ -76,9 +76,9 @@ fn relinked(lookup: &[u32], p: Polygon) -> Polygon
             e3,
         } => relinked_triangle(lookup, area, nan, v1, v2, v3, e1, e2, e3),
         Polygon::Sphere { index, radius, nan } => Polygon::Sphere {
-            index: index,
-            radius: radius,
-            nan: nan,
+            index,
+            radius,
+            nan,
         },
         Polygon::Capsule {
             i1,
@@ -86,16 +86,16 @@ fn relinked(lookup: &[u32], p: Polygon) -> Polygon
             radius,
             nan,
         } => Polygon::Capsule {
-            i1: i1,
-            i2: i2,
-            radius: radius,
-            nan: nan,
+            i1,
+            i2,
+            radius,
+            nan,
         },
         Polygon::Box { i1, i2, i3, i4 } => Polygon::Box {
-            i1: i1,
-            i2: i2,
-            i3: i3,
-            i4: i4,
+            i1,
+            i2,
+            i3,
+            i4,
         },
         Polygon::Cylinder {
             i1,
@@ -103,10 +103,10 @@ fn relinked(lookup: &[u32], p: Polygon) -> Polygon
             radius,
             nan,
         } => Polygon::Cylinder {
-            i1: i1,
-            i2: i2,
-            radius: radius,
-            nan: nan,
+            i1,
+            i2,
+            radius,
+            nan,
         },
     }
 }

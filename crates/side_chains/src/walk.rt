@@ -25,6 +25,7 @@ fn link_chain(nexts: &[u32], head: u32, base: u32, firsts: &mut [u32], links: &m
     requires { Walkable nexts.now head base firsts.old links.old }
     ensures { Walked nexts.now head base firsts.new links.old links.new }
 {
+    // no `for`: what leads to the next side stands in the side's word
     let mut e = head;
     while e > 0 {
         let side = e - 1;

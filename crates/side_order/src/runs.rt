@@ -53,7 +53,7 @@ pub fn link_runs(keys: &[u32], sides: &[u32], links: &mut [u32])
         } else {
             links[s] = link_of_first(keys, sides, i);
             run = Some(Run {
-                key: key,
+                key,
                 first: Side(*side),
             });
         }

@@ -91,11 +91,9 @@ module _ (value : ℕ → ℕ) (numbers indices₀ table list indices : List ℕ
     pub index_is : (i : ℕ) → i + 1 ≡ get_or table' b 0 → i ≡ place_in xs x
     index_is i q = omega (arith, own)
 
-    pub index_small : get_or table' b 0 ≤ 256
-    index_small = omega (arith, own, place_in_lem xs x, few)
-
-    pub set_there : 1 ≤ get_or table' b 0
-    set_there = omega (arith, own)
+    -- the table has the place, and a byte holds it
+    pub there : (1 ≤ get_or table' b 0) × (get_or table' b 0 ≤ 256)
+    there = (omega (arith, own), omega (arith, own, place_in_lem xs x, few))
 
     placed_more : (c : ℕ) → c < 256 → Placed (value c) (admit xs x) (get_or table' c 0)
     placed_more c k = go (eqb c b) refl
@@ -160,11 +158,11 @@ pub count_more_lem : (value : ℕ → ℕ) (numbers table list : List ℕ) (n co
     → Entered b (value b) table table' (take count list) list' r → p < n → Counting value numbers table' list' n r (p + 1)
 count_more_lem value numbers table list n count p g h b e small table' list' r t l entered room =
     let i = get_or table' b 0 - 1 in
-    let there : 1 ≤ get_or table' b 0 =
-    set_there value numbers (replicate n 0) table list g.indices count p g.indexing h b e small table' list' r t l entered in
+    let set_there =
+    there value numbers (replicate n 0) table list g.indices count p g.indexing h b e small table' list' r t l entered in
     record {
       indices = set g.indices p i;
       indexing =
-          one_more value numbers (replicate n 0) table list g.indices count p g.indexing h b e small table' list' r t l entered i (omega (arith, there))
+          one_more value numbers (replicate n 0) table list g.indices count p g.indexing h b e small table' list' r t l entered i (omega (arith, set_there))
           (omega (arith, length-replicate {A = ℕ} n 0));
     }

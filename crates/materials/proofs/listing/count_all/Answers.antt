@@ -28,21 +28,21 @@ enter-count-requires c =
     let in-numbers : c.loop-p.p < length c.args.numbers.now = omega (arith, c.requires.0.numbered) in
     let l = c.loop-p in
     let g = l.invariant.indexing in
-    let w = c.wide-b.ensures in
-    let f = fits _ _ _ _ _ _ _ _ g in-numbers _ w.0 w.1 in
-    let p = entry _ _ _ _ _ _ _ _ g in-numbers _ w.0 w.1 in
-    let k = marks _ _ _ _ _ _ _ _ g in-numbers _ w.0 w.1 in
-    (w.1, rw c.value_at.ensures f, rw c.value_at.ensures p, g.whole, k)
+    let small : c.from-b.result < 256 = omega arith in
+    let f = fits _ _ _ _ _ _ _ _ g in-numbers _ c.from-b.ensures small in
+    let p = entry _ _ _ _ _ _ _ _ g in-numbers _ c.from-b.ensures small in
+    let k = marks _ _ _ _ _ _ _ _ g in-numbers _ c.from-b.ensures small in
+    (small, rw c.value_at.ensures f, rw c.value_at.ensures p, g.whole, k)
 
 pub loop-p-preserved : goal.loop-p-preserved
 loop-p-preserved c =
-    let number : ℕ = c.wide-b.result in
+    let number : ℕ = c.from-b.result in
     let entered : Entered number (value_at c.args.m c.args.mats.now number) c.loop-p.table c.enter-count.new.table (take c.loop-p.count c.loop-p.list) c.enter-count.new.list c.enter-count.result = rw c.value_at.ensures at c.enter-count.ensures in
     let in-numbers : c.loop-p.p < length c.args.numbers.now = omega (arith, c.requires.0.numbered) in
     let l = c.loop-p in
-    let w = c.wide-b.ensures in
+    let small : c.from-b.result < 256 = omega arith in
     let n = c.enter-count in
-    count_more_lem _ _ _ _ _ _ _ l.invariant in-numbers _ w.0 w.1 _ _ _ n.auto.table n.auto.list entered (omega arith)
+    count_more_lem _ _ _ _ _ _ _ l.invariant in-numbers _ c.from-b.ensures small _ _ _ n.auto.table n.auto.list entered (omega arith)
 
 pub returns : goal.returns
 returns c =
