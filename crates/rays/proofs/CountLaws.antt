@@ -8,12 +8,18 @@ use lib.Dec.{eqb}
 use borrow.Author.Tests.{ne_eqb, not-true}
 use borrow.Author.Count.{below_more}
 use Rattle.rays.specs.Steps.Counting.{count_to, none_to, Failed}
+use Rattle.std.specs.Int.{from_bool}
 use Rattle.base.specs.Lists.{one_if}
 use Rattle.base.proofs.ListLaws.{one_or_none}
 
 pub zero_sum : (r s : ℕ) → eqb (r + s) 0 ≡ eqb r 0 && eqb s 0
 zero_sum zero s = let e : 0 + s ≡ s = omega arith in rw e
 zero_sum (suc r) s = ne_eqb (suc r + s) 0 (λ h. omega arith) ∙ sym (ap (λ (b : Bool). b && eqb s 0) (ne_eqb (suc r) 0 (λ h. omega arith)))
+
+-- a test counted by itself
+pub failed_by : (good : Bool) (r : ℕ) → r ≡ from_bool (not good) → Failed 1 good r
+failed_by true r e = record { none = ap (λ (k : ℕ). eqb k 0) e; few = omega (arith, e) }
+failed_by false r e = record { none = ap (λ (k : ℕ). eqb k 0) e; few = omega (arith, e) }
 
 -- both groups of tests together
 pub together : {m n : ℕ} {a b : Bool} {r s : ℕ} → Failed m a r → Failed n b s → Failed (m + n) (a && b) (r + s)
