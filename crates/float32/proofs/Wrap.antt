@@ -1,8 +1,7 @@
 -- -1 - n, which turns two's complement into a number and back, and what the machine reads of a signed number. Assumes nothing.
 use mathlib.Core.Path.{◌≡◌, refl, sym, ap, ◌∙◌, subst}
 use mathlib.Core.Bool.{Bool, true, false, cond}
-use Prim.Native.Nat.{ℕ, zero, suc, ◌-◌, ◌%◌, ◌^◌, ◌≤◌, ◌<◌}
-use native.Mathlib.Nat.{zero-add}
+use Prim.Native.Nat.{ℕ, zero, suc, ◌-◌, ◌^◌, ◌≤◌, ◌<◌}
 use native.Mathlib.Omega.{arith}
 use lib.Dec.{T, ltb, leb-zero}
 use lib.IntN.{ℤ, pos, negsuc, neg_ℤ, nat_abs, ◌-ℤ◌, +ℤ_idl}
@@ -10,9 +9,9 @@ use lib.Pow.{pow_pos}
 use lib.Signed.{le_z, non_neg}
 use mir.Syntax.{Width, w16, w32}
 use mir.Val.{Fits, SFits, hbits, to_z, of_z}
-use mir.Facts.{to_z-of_z, to_z_pos}
-use borrow.Author.Tests.{le-ltb, lt-ltb, ltb-true, ltb-false}
-use Rattle.float32.specs.Casts.{low16bits, signed16}
+use mir.Facts.{to_z_pos}
+use borrow.Author.Tests.{le-ltb, ltb-true, ltb-false}
+use Rattle.float32.specs.Casts.{signed16}
 
 up_one : (k : ℕ) → suc k - 1 ≡ k
 up_one k = omega arith
@@ -22,10 +21,6 @@ one_le k = omega arith
 
 pub flip_neg : (k : ℕ) → negsuc 0 -ℤ negsuc k ≡ pos k
 flip_neg k = ap (λ (b : Bool). cond b (negsuc (1 - suc (suc k))) (pos (suc k - 1))) (le-ltb (suc k) 1 (one_le k)) ∙ ap pos (up_one k)
-
-pub flip_pos : (k : ℕ) → negsuc 0 -ℤ pos k ≡ negsuc k
-flip_pos zero = refl
-flip_pos (suc k) = ap (λ (n : ℕ). negsuc (suc n)) (zero-add k)
 
 -- y ≥ 0, as an i32, is a u32
 wide : (a : ℕ) → a < 2147483648 → a < 4294967296
@@ -47,29 +42,9 @@ flip_cast (negsuc a) h t =
     subst (λ (z : ℤ). T (non_neg z) × Fits w32 (nat_abs z)) (sym (ap (λ (z : ℤ). to_z w32 (of_z w32 z)) (flip_neg a) ∙ to_z_pos w32 h.sfits))
     (tt, record { fits = wide a h.sfits })
 
-pub pos_bits : (y : ℤ) → le_z (pos 0) y ≡ true → nat_abs y % 65536 ≡ low16bits y
-pos_bits (pos a) t = refl
-pos_bits (negsuc a) t = absurd (subst T (sym t) tt)
-
-pub neg_bits : (y : ℤ) → SFits w32 y → le_z (pos 0) y ≡ false → 65535 - nat_abs (to_z w32 (of_z w32 (negsuc 0 -ℤ y))) % 65536 ≡ low16bits y
-neg_bits (pos a) h t = absurd (subst T (sym (leb-zero a) ∙ t) tt)
-neg_bits (negsuc a) h t = ap (λ (z : ℤ). 65535 - nat_abs z % 65536) (ap (λ (z : ℤ). to_z w32 (of_z w32 z)) (flip_neg a) ∙ to_z_pos w32 h.sfits)
-
 -- ---- back from 16 bits
 flipped : (b : ℕ) → 32768 ≤ b → 65535 - b < 32768
 flipped b h = omega arith
-
-pub back_value : (b : ℕ) → 32768 ≤ b → negsuc 0 -ℤ to_z w16 (65535 - b) ≡ negsuc (65535 - b)
-back_value b h = ap (λ (z : ℤ). negsuc 0 -ℤ z) (to_z_pos w16 (flipped b h)) ∙ flip_pos (65535 - b)
-
-pub back_fits : (b : ℕ) → 32768 ≤ b → SFits w16 (negsuc 0 -ℤ to_z w16 (65535 - b))
-back_fits b h = subst (λ (z : ℤ). SFits w16 z) (sym (back_value b h)) (record { sfits = flipped b h })
-
-pub back_low : (b : ℕ) → b < 32768 → to_z w16 b ≡ signed16 b
-back_low b h = to_z_pos w16 h ∙ sym (ap (λ (t : Bool). cond t (pos b) (negsuc (65535 - b))) (lt-ltb b 32768 h))
-
-pub back_high : (b : ℕ) → 32768 ≤ b → to_z w16 (of_z w16 (negsuc 0 -ℤ to_z w16 (65535 - b))) ≡ signed16 b
-back_high b h = to_z-of_z (back_fits b h) ∙ back_value b h ∙ sym (ap (λ (t : Bool). cond t (pos b) (negsuc (65535 - b))) (le-ltb b 32768 h))
 
 signed_fits_at : (b : ℕ) (t : Bool) → (t ≡ true → b < 32768) → (t ≡ false → 65535 - b < 32768) → SFits w16 (cond t (pos b) (negsuc (65535 - b)))
 signed_fits_at b true h k = record { sfits = h refl }

@@ -1,13 +1,7 @@
 // Floats to integers, as Rust's casts have them.
-ghost use Rattle.std.specs.Prelude.{◌≡◌, ◌<◌, min};
+ghost use Rattle.std.specs.Prelude.{◌≡◌, ◌<◌};
 ghost use Rattle.float32.specs.CastSteps.{cut_size, number_word};
 ghost use Rattle.float32.specs.Casts.{cast_i32, low16, low16bits, signed16, short_of, truncated_of, vertex_of};
-
-fn lesser(a: u32, b: u32) -> u32
-    ensures { result ≡ min a b }
-{
-    if a < b { a } else { b }
-}
 
 fn number_word(x: f32) -> u32
     ensures { result ≡ number_word x }
@@ -22,8 +16,8 @@ fn cut_size(pattern: u32) -> u32
 {
     // The digits with the leading one are the number itself where the exponent's field is 158.
     let digits = ((0x0080_0000 + pattern % 0x0080_0000) as u64) * 256;
-    let places = 158 - lesser(pattern / 0x0080_0000, 158);
-    lesser((digits >> lesser(places, 32)) as u32, 0x8000_0000)
+    let places = 158 - (pattern / 0x0080_0000).min(158);
+    ((digits >> places.min(32)) as u32).min(0x8000_0000)
 }
 
 // Rust's `x as i32`: toward zero, to the nearest end of the range where it is out of it, and 0 for a NaN.
@@ -33,7 +27,7 @@ pub fn to_i32(x: f32) -> i32
     let word = number_word(x);
     let size = cut_size(word % 0x8000_0000);
     if word < 0x8000_0000 {
-        lesser(size, 2147483647) as i32
+        size.min(2147483647) as i32
     } else {
         -(size as i64) as i32
     }
@@ -43,11 +37,7 @@ pub fn to_i32(x: f32) -> i32
 pub fn low_bits(n: i32) -> u32
     ensures { result ≡ low16bits n }
 {
-    if n >= 0 {
-        (n as u32) % 65536
-    } else {
-        65535 - ((-1 - n) as u32) % 65536
-    }
+    n.cast_unsigned() % 65536
 }
 
 // The number that 16 bits stand for, in two's complement.
@@ -55,11 +45,7 @@ fn of_bits(b: u32) -> i16
     requires { b < 65536 }
     ensures { result ≡ signed16 b }
 {
-    if b < 32768 {
-        b as i16
-    } else {
-        -1 - ((65535 - b) as i16)
-    }
+    (b as u16).cast_signed()
 }
 
 // The low 16 bits of a saturated i32, as a signed number.
@@ -81,7 +67,7 @@ pub fn truncated(x: f32) -> i16
     ensures { result ≡ truncated_of x }
 {
     let word = number_word(x);
-    let size = lesser(cut_size(word % 0x8000_0000), 32767) as i16;
+    let size = cut_size(word % 0x8000_0000).min(32767) as i16;
     if word < 0x8000_0000 { size } else { -size }
 }
 

@@ -8,8 +8,7 @@ pub fn put_short(out: &mut [u8], at: usize, v: i16)
     requires { at + 2 ≤ length out.old }
     ensures { out.new ≡ sets out.old at (short_bytes v) }
 {
-    let low = float32::casts::low_bits(v as i32);
-    base::little_endian::put_le(out, at, 2, low as u64);
+    out[at..at + 2].copy_from_slice(&v.to_le_bytes());
 }
 
 // The i16 that stands at `at`.
@@ -17,5 +16,5 @@ pub fn short_at(bytes: &[u8], at: usize) -> i16
     requires { at + 2 ≤ length bytes.now }
     ensures { result ≡ short_at bytes.now at }
 {
-    float32::casts::wrap_i16(base::little_endian::two_at(bytes, at) as i32)
+    i16::from_le_bytes([bytes[at], bytes[at + 1]])
 }

@@ -5,12 +5,12 @@ use Rattle.float32.proofs.CutSize.{digits, in_word, cut_is}
 use Rattle.float32.proofs.casts.cut_size.Goals as goal
 
 pub overflow_cast-digits-2 : goal.overflow_cast-digits-2
-overflow_cast-digits-2 c = record { fits = in_word c.args.pattern c.lesser.result }
+overflow_cast-digits-2 c = record { fits = in_word c.args.pattern c.min.result }
 
 pub returns : goal.returns
 returns c =
     let b = c.args.pattern in
-    c.lesser-2.ensures
+    c.min-2.ensures
     ∙ ap (λ (k : ℕ). min (digits b * 256 / 2 ^ k) 0x8000_0000)
-    (c.lesser.ensures ∙ ap (λ (x : ℕ). min (158 - x) 32) c.lesser-places.ensures)
+    (c.min.ensures ∙ ap (λ (x : ℕ). min (158 - x) 32) c.min-places.ensures)
     ∙ cut_is b

@@ -36,7 +36,7 @@ returns-then-word-lt2147483648 c =
     let word = c.number_word-word in
     let size = c.cut_size-size in
     to_z_pos w32 (overflow_cast-result c).sfits
-    ∙ ap pos c.lesser.ensures
+    ∙ ap pos c.min.ensures
     ∙ cast_above c.args.x held word.result size.result word.ensures size.ensures c.if-word-lt2147483648.true
 
 pub returns-else-word-lt2147483648 : goal.returns-else-word-lt2147483648

@@ -14,27 +14,27 @@ use Rattle.float32.proofs.casts.truncated.Goals as goal
 
 pub overflow_sub-result : goal.overflow_sub-result
 overflow_sub-result c =
-    let size-lt : c.lesser-size.result < 32768 = omega (arith, c.lesser-size.ensures) in
-    let n = c.lesser-size.result in
+    let size-lt : c.min-size.result < 32768 = omega (arith, c.min-size.ensures) in
+    let n = c.min-size.result in
     subst (λ (z : ℤ). SFits w16 z) (sym (minus_is w16 n size-lt)) (minus_fits w16 n (omega (arith, size-lt)))
 
 pub returns-then-word-lt2147483648 : goal.returns-then-word-lt2147483648
 returns-then-word-lt2147483648 c =
     let held : T (fits binary32 c.args.x) = subst T (sym c.well_formed.0.1) tt in
-    let size-lt : c.lesser-size.result < 32768 = omega (arith, c.lesser-size.ensures) in
+    let size-lt : c.min-size.result < 32768 = omega (arith, c.min-size.ensures) in
     let word = c.number_word-word in
     let size = c.cut_size in
     to_z_pos w16 size-lt
-    ∙ ap pos c.lesser-size.ensures
+    ∙ ap pos c.min-size.ensures
     ∙ truncated_above c.args.x held word.result size.result word.ensures size.ensures c.if-word-lt2147483648.true
 
 pub returns-else-word-lt2147483648 : goal.returns-else-word-lt2147483648
 returns-else-word-lt2147483648 c =
     let held : T (fits binary32 c.args.x) = subst T (sym c.well_formed.0.1) tt in
-    let size-lt : c.lesser-size.result < 32768 = omega (arith, c.lesser-size.ensures) in
+    let size-lt : c.min-size.result < 32768 = omega (arith, c.min-size.ensures) in
     let word = c.number_word-word in
     let size = c.cut_size in
     to_z-of_z (overflow_sub-result c)
-    ∙ minus_is w16 c.lesser-size.result size-lt
-    ∙ ap (λ (n : ℕ). neg_ℤ (pos n)) c.lesser-size.ensures
+    ∙ minus_is w16 c.min-size.result size-lt
+    ∙ ap (λ (n : ℕ). neg_ℤ (pos n)) c.min-size.ensures
     ∙ truncated_below c.args.x held word.result size.result word.ensures size.ensures c.if-word-lt2147483648.false
