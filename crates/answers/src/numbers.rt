@@ -7,15 +7,11 @@ use float32::compare::Relation;
 use float32::sorting::Ordering;
 use header::Header;
 
+// The cases stand in the order of their numbers.
 pub fn relation_number(r: Relation) -> u32
     ensures { result ≡ relation_number r }
 {
-    match r {
-        Relation::Less => 0,
-        Relation::Equal => 1,
-        Relation::Greater => 2,
-        Relation::Unordered => 3,
-    }
+    r as u32
 }
 
 pub fn ordering_number(o: Ordering) -> i32
@@ -28,12 +24,9 @@ pub fn ordering_number(o: Ordering) -> i32
     }
 }
 
+// The cases stand in the order of their numbers.
 pub fn header_number(h: Header) -> u32
     ensures { result ≡ header_number h }
 {
-    match h {
-        Header::Written => 0,
-        Header::TooManyTrees => 1,
-        Header::BufferTooShort => 2,
-    }
+    h as u32
 }
