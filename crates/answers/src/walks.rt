@@ -38,8 +38,8 @@ pub fn sizes(nodes: usize, trees: usize, items: usize) -> Sizes
     ensures { result ≡ sizes_of nodes trees items }
 {
     Sizes {
-        nodes: nodes,
-        trees: trees,
-        items: items,
+        nodes,
+        trees,
+        items,
     }
 }

@@ -6,12 +6,6 @@ use Rattle.math.specs.declared.aabb.Aabb.{Aabb}
 use Rattle.pairs.specs.declared.judge.Met.{Met}
 use Rattle.pairs.specs.Judging.{present_at, meets_at, seen_at, missed_at, stray_at, count_of, Compared}
 
-pub plus_yes : {b : Bool} (n : ℕ) → b ≡ true → n + 1 ≡ n + one_if b
-plus_yes n h = rw h
-
-pub plus_no : {b : Bool} (n : ℕ) → b ≡ false → n ≡ n + one_if b
-plus_no n h = rw h (omega arith)
-
 pub and_yes : {a : Bool} (b : Bool) → a ≡ true → b ≡ a && b
 and_yes b h = rw h
 

@@ -1,5 +1,5 @@
 // An answer, held against comparing every box.
-ghost use Rattle.std.specs.Prelude.{◌≡◌, ◌+◌, ◌<◌, ◌≤◌, not, ◌&&◌};
+ghost use Rattle.std.specs.Prelude.{◌≡◌, ◌+◌, ◌<◌, ◌≤◌, length, not, ◌&&◌};
 ghost use Rattle.base.specs.Lists.{one_if};
 ghost use Rattle.pairs.specs.Judging.{meets_at, seen_at, count_of, Compared, item_handed, had_mark, with_mark, marks, twice_at};
 
@@ -13,12 +13,6 @@ pub struct Met {
     pub meeting: u64,
     pub missed: u64,
     pub stray: u64,
-}
-
-fn position_of(handed: u16) -> Position
-    ensures { result.0 ≡ handed }
-{
-    Position(handed as u32)
 }
 
 // A position that is in no order stands for no item.
@@ -51,24 +45,18 @@ fn plus_if(n: u64, yes: bool) -> u64
     requires { n < 700 }
     ensures { result ≡ n + one_if yes }
 {
-    if yes { n + 1 } else { n }
+    n + u64::from(yes)
 }
 
-// Marks the items of the first positions handed out, and counts those that had their mark.
-pub fn mark_all(
-    seen: &mut [u8; 700],
-    out: &[u16; 700],
-    handed: usize,
-    order: &[u16; 700],
-    threshold: u32,
-) -> u64
-    requires { handed ≤ 700 }
-    ensures value { result ≡ count_of (twice_at threshold order.now out.now seen.old) handed }
-    ensures seen_after { seen.new ≡ marks threshold order.now out.now seen.old handed }
+// Marks the items of the positions handed out, and counts those that had their mark.
+pub fn mark_all(seen: &mut [u8; 700], handed: &[u16], order: &[u16; 700], threshold: u32) -> u64
+    requires { length handed.now ≤ 700 }
+    ensures value { result ≡ count_of (twice_at threshold order.now handed.now seen.old) (length handed.now) }
+    ensures seen_after { seen.new ≡ marks threshold order.now handed.now seen.old (length handed.now) }
 {
     let mut twice: u64 = 0;
-    for i in 0..handed {
-        let item = item_handed(threshold, order, position_of(out[i]));
+    for position in handed {
+        let item = item_handed(threshold, order, Position(u32::from(*position)));
         twice = plus_if(twice, mark(seen, item));
     }
     twice

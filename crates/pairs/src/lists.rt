@@ -23,7 +23,7 @@ fn is_absent(s: u32, absent: u32) -> bool
 fn presence(s: u32, absent: u32) -> u32
     ensures { result ≡ presence_of s absent }
 {
-    if is_absent(s, absent) { 0 } else { 1 }
+    u32::from(!is_absent(s, absent))
 }
 
 // Entry i, from the seven numbers after s; the last of them.

@@ -34,7 +34,7 @@ fn verdict(
         return Tally::refused();
     }
     let mut seen = [0u8; 700];
-    let twice = crate::judge::mark_all(&mut seen, out, counts.handed, order, threshold);
+    let twice = crate::judge::mark_all(&mut seen, &out[..counts.handed], order, threshold);
     let met = crate::judge::judge_all(list, query, &seen);
     let records = std::num::wrapping_add_u64(tree.nodes as u64, tree.trees as u64);
     let reads = counts.reads as u64;

@@ -41,18 +41,12 @@ impl Tally {
         ensures { result ≡ failed 1 }
     {
         Tally {
-            nodes: 0,
-            trees: 0,
-            handed: 0,
-            meeting: 0,
-            reads: 0,
-            missed: 0,
-            twice: 0,
             failures: 1,
+            ..Tally::none()
         }
     }
 
-    // With one more query over the same tree.
+    // With one more query over the same tree. No Add: both are of one tree, whose nodes and trees are not summed.
     pub fn and(self, q: Tally) -> Tally
         ensures { result ≡ together self q }
     {

@@ -117,7 +117,7 @@ fn pass_trees(query: Lanes, nodes: usize, tree_bytes: &[u8], from: usize, upto: 
     upto
 }
 
-// The nodes of the range are read. The one place where a walk stores.
+// The nodes of the range are read. The one place where a walk stores. No `for`: a node that misses takes the state past all below it.
 fn through(
     s: WalkState,
     query: Lanes,
@@ -167,7 +167,7 @@ fn advance(
     p
 }
 
-// On from s, which stands outside a range, up to the tree `upto`.
+// On from s, which stands outside a range, up to the tree `upto`. No `for`: an advance passes over any number of trees.
 fn read_trees(
     s: WalkState,
     upto: usize,

@@ -50,19 +50,17 @@ fn numbers_at(bytes: &[u8], at: usize) -> Numbers
     }
 }
 
+// Two functions, here and below: the records name their two numbers differently, and their readers node_at and tree_at are two as well.
 pub fn node_apart(bytes: &[u8], at: usize) -> BvhNode
     requires { at + 16 ≤ length bytes.now }
     ensures { result ≡ node_at bytes.now at }
 {
     let n = records::node_at(bytes, at);
     let m = numbers_at(bytes, at + 12);
-    let min = n.min;
-    let max = n.max;
     BvhNode {
-        min,
-        max,
         item_id: m.first,
         item_count: m.second,
+        ..n
     }
 }
 
@@ -72,12 +70,9 @@ pub fn tree_apart(bytes: &[u8], at: usize) -> BvhTree
 {
     let t = records::tree_at(bytes, at);
     let m = numbers_at(bytes, at + 12);
-    let min = t.min;
-    let max = t.max;
     BvhTree {
-        min,
-        max,
         node_index1: m.first,
         node_index2: m.second,
+        ..t
     }
 }

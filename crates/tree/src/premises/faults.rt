@@ -1,4 +1,5 @@
-// What breaks the premises in one box, and in the box of all.
+// What breaks the premises in one box, and in the box of all: by the numbers of box_fault and extent_fault in specs, which C's bounds_ordinary
+// hands on, so there is no Option here.
 ghost use Rattle.std.specs.Prelude.{◌≡◌, ◌<◌, from_bits};
 ghost use Rattle.std.specs.Float.{binary32};
 ghost use Rattle.records.specs.Axis.{extent};

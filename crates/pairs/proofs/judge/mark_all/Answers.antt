@@ -7,4 +7,4 @@ use Rattle.pairs.proofs.judge.mark_all.Goals as goal
 pub plus_if-twice-requires : goal.plus_if-twice-requires
 plus_if-twice-requires c =
     let a = c.args in
-    omega (arith, c.loop-i.invariant.0, count_most (twice_at a.threshold a.order.now a.out.now a.seen.now) c.loop-i.i)
+    omega (arith, c.loop-position.invariant.0, count_most (twice_at a.threshold a.order.now a.handed.now a.seen.now) c.loop-position.position-index)

@@ -3,5 +3,5 @@ use Rattle.std.proofs.Common.{◌≡◌}
 use Rattle.pairs.specs.Judging.{count_of, marks, twice_at}
 use Rattle.pairs.proofs.judge.mark_all.Given as goal
 
-abbrev pub invariant-loop-i : goal.invariant-loop-i
-invariant-loop-i l = (l.twice ≡ count_of (twice_at l.threshold l.order l.out l.initial.seen) l.i) × (l.seen ≡ marks l.threshold l.order l.out l.initial.seen l.i)
+abbrev pub invariant-loop-position : goal.invariant-loop-position
+invariant-loop-position l = (l.twice ≡ count_of (twice_at l.threshold l.order l.handed l.initial.seen) l.position-index) × (l.seen ≡ marks l.threshold l.order l.handed l.initial.seen l.position-index)
