@@ -54,6 +54,7 @@ pub fn without(number: u32) -> OctantsAnswer
     }
 }
 
+// By hand, since C is given a number and eight counts of one form in place of a Result.
 pub fn answer(o: Result<OctantCounts, OctantsRefusal>) -> OctantsAnswer
     ensures { result ≡ answer_in o }
 {

@@ -1,5 +1,5 @@
 // The octants of a geometry's vertices.
-ghost use Rattle.std.specs.Prelude.{◌≡◌, ◌+◌, ◌*◌, ◌≤◌, length};
+ghost use Rattle.std.specs.Prelude.{◌≡◌, ◌+◌, ◌*◌, ◌≤◌, ltb, length};
 ghost use Rattle.octants.specs.Octants.{short, Answered};
 
 use crate::lists::OctantCounts;
@@ -21,6 +21,13 @@ pub struct Lengths {
     pub order: usize,
     pub temp: usize,
     pub marks: usize,
+}
+
+// Whether there are more vertices than there may be.
+fn too_many(n: usize) -> bool
+    ensures { result ≡ ltb 32768 n }
+{
+    n > 32768
 }
 
 // Whether a buffer is too short for n vertices.
@@ -60,7 +67,7 @@ pub fn calculate_octants(
         })
         vertices.now lists.old lists.new result }
 {
-    if n > 32768 {
+    if too_many(n) {
         return Err(OctantsRefusal::TooManyVertices);
     }
     let lengths = Lengths {

@@ -1,7 +1,7 @@
 -- What the entry answers, case by case, and what room there is where no buffer is too short.
 use Prim.Native.Nat.{ℕ, ◌*◌, ◌≤◌, ◌<◌}
-use mathlib.Core.Path.{◌≡◌, refl, ap, ◌∙◌}
-use mathlib.Core.Bool.{true, false}
+use mathlib.Core.Path.{◌≡◌, refl, sym, ap, ◌∙◌}
+use mathlib.Core.Bool.{Bool, true, false}
 use mathlib.Core.List.{List}
 use lib.Dec.{ltb}
 use borrow.Author.Tests.{lt-ltb, le-ltb, ltb-false}
@@ -12,6 +12,9 @@ use Rattle.octants.specs.declared.entry.OctantsRefusal.TheVariants.{TooManyVerti
 use Rattle.std.proofs.Common.{Ok, Err}
 use Rattle.octants.specs.declared.entry.Lengths.{Lengths}
 use Rattle.octants.specs.Octants.{short, counts_of, answer_of, Answered, Wrote}
+
+pub few : (n : ℕ) {test : Bool} → test ≡ ltb 32768 n → test ≡ false → n ≤ 32768
+few n e f = ltb-false 32768 n (sym e ∙ f)
 
 module _ (n : ℕ) (l : Lengths) where
   pub room : short n l ≡ false
