@@ -8,7 +8,6 @@ use Rattle.rays.specs.Steps.Rows.{Filled}
 use Rattle.rays.proofs.faces.put_rows.Given as goal
 
 pub record Filling (tri : List ℕ) (t : ℕ) (points : List ℕ) (before rows : List Float) (k : ℕ) : Type 0 where
-  pub upto : k ≤ t
   pub same_length : length rows ≡ length before
   pub filled : Filled tri t points rows k
 
