@@ -1,6 +1,6 @@
 -- `faces::put_rows` meets its contract. The loop's invariant: the rows hold the triangles before k, and are as many as at entry.
 use mathlib.Core.Path.{◌≡◌}
-use Prim.Native.Nat.{ℕ, ◌≤◌}
+use Prim.Native.Nat.{ℕ}
 use mathlib.Core.List.{List}
 use lib.ListN.{length}
 use lib.Ieee.{Float}
