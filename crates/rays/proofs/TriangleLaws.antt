@@ -116,7 +116,6 @@ length_triangle cs tri t k p = simp length-set
 
 -- what the loop keeps: the triangles before p stand in the rows
 pub record Laying (cs : List ℕ) (n : ℕ) (before tri : List ℕ) (t k p : ℕ) : Type 0 where
-  pub upto : p ≤ n
   pub same_length : length tri ≡ length before
   pub count : k ≡ length (triangles_of cs p)
   pub stand : Standing cs (triangles_of cs p) tri t k

@@ -25,6 +25,18 @@ pub enum Shrunk {
     NoVertices,
 }
 
+// The margin that passed, or else the normals.
+impl From<Option<f32>> for Shrunk {
+    ghost from_gives = { λ margin by. by ≡ shrunk_by margin };
+
+    fn from(margin: Option<f32>) -> Shrunk {
+        match margin {
+            Some(margin) => Shrunk::ByMargin(margin),
+            None => Shrunk::ByNormals,
+        }
+    }
+}
+
 // The lengths of the lent buffers, by which the contract of `bounds_calculate_verts_shrunk` says when one is too short.
 #[derive(Clone, Copy)]
 pub struct Lengths {
@@ -46,16 +58,7 @@ fn vertices_short(n: usize, v: usize, l: Lengths) -> bool
     requires { (n ≤ 32767) × (v ≤ 32768) }
     ensures { result ≡ short_of n v l }
 {
-    if l.polygons < 16 * n {
-        return true;
-    }
-    if l.vertices < 3 * v {
-        return true;
-    }
-    if l.points < 3 * v {
-        return true;
-    }
-    l.firsts < 3 * n + v
+    l.polygons < 16 * n || l.vertices < 3 * v || l.points < 3 * v || l.firsts < 3 * n + v
 }
 
 // Whether a buffer is too short for n polygons and v vertices.
@@ -63,38 +66,16 @@ fn too_short(n: usize, v: usize, l: Lengths) -> bool
     requires { (n ≤ 32767) × (v ≤ 32768) }
     ensures { result ≡ short n v l }
 {
-    if vertices_short(n, v, l) {
-        return true;
-    }
     let words = 3 * n;
-    if l.corners < words {
-        return true;
-    }
-    if l.tri < words {
-        return true;
-    }
-    if l.spare < words {
-        return true;
-    }
-    if l.links < words {
-        return true;
-    }
-    if l.normals < words {
-        return true;
-    }
-    if l.olds < 9 * n {
-        return true;
-    }
-    l.news < 9 * n
-}
-
-fn shrunk_by(m: Option<f32>) -> Shrunk
-    ensures { result ≡ shrunk_by m }
-{
-    match m {
-        Some(margin) => Shrunk::ByMargin(margin),
-        None => Shrunk::ByNormals,
-    }
+    let rows = 9 * n;
+    vertices_short(n, v, l)
+        || l.corners < words
+        || l.tri < words
+        || l.spare < words
+        || l.links < words
+        || l.normals < words
+        || l.olds < rows
+        || l.news < rows
 }
 
 // The corners and links of the records, and the vertices shrunk over them. The points have room for just the vertices.
@@ -201,7 +182,7 @@ pub fn calculate_verts_shrunk(
     if infinite_start(geometry) {
         return Err(ShrinkRefusal::InfiniteMargin);
     }
-    Ok(shrunk_by(shrink_polygons(
+    Ok(Shrunk::from(shrink_polygons(
         geometry,
         n,
         polygons,

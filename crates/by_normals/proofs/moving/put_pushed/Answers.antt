@@ -18,7 +18,7 @@ behind_more ws i =
     drop-drop 3 (3 * i) ws ∙ ap (λ (k : ℕ). drop k ws) three
 
 pub loop-i-init : goal.loop-i-init
-loop-i-init c = record { upto = omega arith; same_length = refl; size = c.requires.1; written = λ sum h. refl; behind = refl }
+loop-i-init c = record { same_length = refl; size = c.requires.1; written = λ sum h. refl; behind = refl }
 
 pub vertex_at-sum-requires : goal.vertex_at-sum-requires
 vertex_at-sum-requires c = omega (arith, c.loop-i.invariant.size)
@@ -40,7 +40,6 @@ loop-i-preserved c =
     let put = c.put_point.ensures ∙ ap (λ (p : Vec3). sets l.points (3 * l.i) (words_of p)) moved in
     let same = c.put_point.auto.points in
     record {
-      upto = omega arith;
       same_length = same ∙ l.invariant.same_length;
       size = same ∙ l.invariant.size;
       written = λ sum h.
@@ -57,7 +56,7 @@ pub returns : goal.returns
 returns c =
     let a = c.args in
     let l = c.loop-i in
-    let end : l.i ≡ a.v = omega (arith, l.invariant.upto) in
+    let end : l.i ≡ a.v = omega arith in
     λ sum h.
     sym (take_all (3 * l.i) l.points (omega (arith, l.invariant.size))) ∙ l.invariant.written sum h
     ∙ ap (λ (n : ℕ). in_turn n (λ k. words_of (pushed_of (vertex_at a.vertices.now k) (sum k) a.by))) end

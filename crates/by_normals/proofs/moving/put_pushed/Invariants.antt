@@ -11,7 +11,6 @@ use Rattle.by_normals.specs.Normals.{pushed_of}
 use Rattle.by_normals.proofs.moving.put_pushed.Given as goal
 
 pub record Pushing (vertices : List ℕ) (v : ℕ) (by : Float) (before points : List ℕ) (i : ℕ) : Type 0 where
-  pub upto : i ≤ v
   pub same_length : length points ≡ length before
   pub size : length points ≡ 3 * v
   pub written : (sum : ℕ → Vec3) → ((k : ℕ) → k < v → vertex_at before k ≡ sum k)

@@ -25,7 +25,6 @@ loop-p-init c =
     let a = c.args in
     let same = c.clear.auto.words in
     record {
-      upto = omega arith;
       same_length = refl;
       sums-are =
           sums_begin (placed_of a.corners.now a.vertices.now a.v a.center a.transform) c.clear.new.words (same ∙ c.requires.size)
@@ -45,7 +44,6 @@ loop-p-preserved c =
     let l = c.loop-p in
     let next : 3 * l.p + 3 ≡ 3 * (l.p + 1) = omega arith in
     record {
-      upto = omega (arith);
       same_length = c.add_triangle.auto.points ∙ l.invariant.same_length;
       sums-are =
           subst (λ (m : ℕ). Sums (placed_of a.corners.now a.vertices.now a.v a.center a.transform) m c.add_triangle.new.points)
@@ -56,5 +54,5 @@ pub returns : goal.returns
 returns c =
     let a = c.args in
     let l = c.loop-p in
-    let end : 3 * l.p ≡ 3 * a.n = omega (arith, l.invariant.upto) in
+    let end : 3 * l.p ≡ 3 * a.n = omega arith in
     subst (λ (m : ℕ). Sums (placed_of a.corners.now a.vertices.now a.v a.center a.transform) m l.points) end l.invariant.sums-are

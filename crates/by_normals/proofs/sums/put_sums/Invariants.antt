@@ -8,7 +8,6 @@ use Rattle.by_normals.specs.Steps.Sums.{Sums}
 use Rattle.by_normals.proofs.sums.put_sums.Given as goal
 
 pub record Summing (g : Placed) (n : ℕ) (before points : List ℕ) (p : ℕ) : Type 0 where
-  pub upto : p ≤ n
   pub same_length : length points ≡ length before
   pub sums-are : Sums g (3 * p) points
 

@@ -15,24 +15,8 @@ returns-then-ray c =
     (c.vertex_at-2.ensures i)) in
     unmoved a.tri.now a.t a.old.now a.new.now a.i c.way_back-ray.result way c.if-ray.true
 
-pub overflow_cast-i : goal.overflow_cast-i
-overflow_cast-i c =
-    omega (
-      arith,
-      c.requires.0.lent.few_vertices,
-      c.requires.1,
-    )
-
 pub hits_in-before-requires : goal.hits_in-before-requires
 hits_in-before-requires c = c.requires.0.lent.old_rows
-
-pub overflow_cast-i-2 : goal.overflow_cast-i-2
-overflow_cast-i-2 c =
-    omega (
-      arith,
-      c.requires.0.lent.few_vertices,
-      c.requires.1,
-    )
 
 pub hits_in-after-requires : goal.hits_in-after-requires
 hits_in-after-requires c = c.requires.0.lent.new_rows

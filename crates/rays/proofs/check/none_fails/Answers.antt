@@ -9,7 +9,7 @@ use native.Mathlib.Omega.{arith}
 use Rattle.rays.proofs.check.none_fails.Goals as goal
 
 pub loop-k-init : goal.loop-k-init
-loop-k-init c = (omega arith, refl)
+loop-k-init c = refl
 
 pub fails-requires : goal.fails-requires
 fails-requires c = (c.requires, c.turn-i.ensures.1)
@@ -24,11 +24,9 @@ pub loop-k-preserved : goal.loop-k-preserved
 loop-k-preserved c =
     let a = c.args in
     let l = c.loop-k in
-    let fails = fails_in a.tri.now a.t a.old.now a.new.now in (
-      omega arith,
-      none_next l.k (λ k. fails (turn_of a.hint a.v k)) l.invariant.1
-          (ap fails (sym c.turn-i.ensures.0) ∙ sym c.fails.ensures ∙ c.if-fails.false),
-    )
+    let fails = fails_in a.tri.now a.t a.old.now a.new.now in
+    none_next l.k (λ k. fails (turn_of a.hint a.v k)) l.invariant
+    (ap fails (sym c.turn-i.ensures.0) ∙ sym c.fails.ensures ∙ c.if-fails.false)
 
 pub returns : goal.returns
 returns c =
@@ -36,4 +34,4 @@ returns c =
     let l = c.loop-k in
     let end : l.k ≡ a.v = omega arith in
     let fails = fails_in a.tri.now a.t a.old.now a.new.now in
-    sym (all_turns a.hint a.v fails (ap (λ (k : ℕ). none_to k (λ k. fails (turn_of a.hint a.v k))) (sym end) ∙ l.invariant.1))
+    sym (all_turns a.hint a.v fails (ap (λ (k : ℕ). none_to k (λ k. fails (turn_of a.hint a.v k))) (sym end) ∙ l.invariant))

@@ -11,7 +11,7 @@ use Rattle.rays.proofs.RowLaws.{filled_more, length_facet}
 use Rattle.rays.proofs.faces.put_rows.Goals as goal
 
 pub loop-k-init : goal.loop-k-init
-loop-k-init c = record { upto = omega arith; same_length = refl; filled = record { facets = λ k h. absurd (omega arith) } }
+loop-k-init c = record { same_length = refl; filled = record { facets = λ k h. absurd (omega arith) } }
 
 pub overflow_cast-tri : goal.overflow_cast-tri
 overflow_cast-tri c = omega (arith, c.shared_slice_known-in-loop-k-1.given c.loop-k.k)
@@ -62,7 +62,6 @@ loop-k-preserved c =
     (c.vertex_at-c.ensures i)) in
     let put = c.put_facet.ensures in
     record {
-      upto = omega arith;
       same_length = ap length put ∙ length_facet l.rows a.t l.k f room (omega arith) ∙ l.invariant.same_length;
       filled =
           subst (λ (r : List Float). Filled a.tri.now a.t a.points.now r (l.k + 1)) (sym put)
@@ -73,5 +72,5 @@ pub returns : goal.returns
 returns c =
     let a = c.args in
     let l = c.loop-k in
-    let end : l.k ≡ a.t = omega (arith, l.invariant.upto) in
+    let end : l.k ≡ a.t = omega arith in
     subst (λ (k : ℕ). Filled a.tri.now a.t a.points.now l.rows k) end l.invariant.filled

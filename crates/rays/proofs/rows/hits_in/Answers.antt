@@ -1,4 +1,4 @@
--- `rows::hits_in` meets its contract. The loop's invariant: `hits` counts the triangles before k that are struck. The measure is what is left of the triangles.
+-- `rows::hits_in` meets its contract. The loop's invariant: `hits` counts the triangles before k that are struck.
 use mathlib.Core.Path.{◌≡◌, sym, ap, ap₂, subst, ◌∙◌}
 use Prim.Native.Nat.{ℕ, ◌+◌}
 use lib.Dec.{eqb}
@@ -21,7 +21,7 @@ overflow_add-hits c =
       c.one_if_none-hits.ensures,
       one_or_none (eqb (c.misses-missed.result + c.none_of-own.result) 0),
       count_few l.k (struck a.tri.now a.rows.now a.t a.i a.ray),
-      l.invariant.1,
+      l.invariant,
     )
 
 pub loop-k-preserved : goal.loop-k-preserved
@@ -33,11 +33,11 @@ loop-k-preserved c =
     subst (λ (f : Facet). Failed 7 (hits a.ray f) c.misses-missed.result)
     c.facet_at.ensures c.misses-missed.ensures in
     let one = c.one_if_none-hits.ensures ∙ ap one_if (together missed c.none_of-own.ensures).none in
-    (omega arith, ap₂ ◌+◌ l.invariant.1 one ∙ sym (count_more_lem l.k test))
+    ap₂ ◌+◌ l.invariant one ∙ sym (count_more_lem l.k test)
 
 pub returns : goal.returns
 returns c =
     let a = c.args in
     let l = c.loop-k in
     let end : l.k ≡ a.t = omega arith in
-    l.invariant.1 ∙ ap (λ (k : ℕ). count_to k (struck a.tri.now a.rows.now a.t a.i a.ray)) end
+    l.invariant ∙ ap (λ (k : ℕ). count_to k (struck a.tri.now a.rows.now a.t a.i a.ray)) end

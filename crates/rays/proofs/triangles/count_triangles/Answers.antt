@@ -10,7 +10,7 @@ use native.Mathlib.Omega.{arith}
 use Rattle.rays.proofs.triangles.count_triangles.Goals as goal
 
 pub loop-p-init : goal.loop-p-init
-loop-p-init c = (omega arith, omega arith, refl)
+loop-p-init c = (omega arith, refl)
 
 pub overflow_add-t : goal.overflow_add-t
 overflow_add-t c =
@@ -20,7 +20,7 @@ overflow_add-t c =
       arith,
       c.one_if_there-t.ensures,
       one_or_none (there a.corners.now (3 * l.p)),
-      l.invariant.1,
+      l.invariant.0,
       c.requires.1,
     )
 
@@ -28,14 +28,13 @@ pub loop-p-preserved : goal.loop-p-preserved
 loop-p-preserved c =
     let a = c.args in
     let l = c.loop-p in (
-      omega arith,
-      omega (arith, c.one_if_there-t.ensures, one_or_none (there a.corners.now (3 * l.p)), l.invariant.1),
-      ap₂ ◌+◌ l.invariant.2 c.one_if_there-t.ensures ∙ sym (count_more_lem a.corners.now l.p),
+      omega (arith, c.one_if_there-t.ensures, one_or_none (there a.corners.now (3 * l.p)), l.invariant.0),
+      ap₂ ◌+◌ l.invariant.1 c.one_if_there-t.ensures ∙ sym (count_more_lem a.corners.now l.p),
     )
 
 pub returns : goal.returns
 returns c =
     let a = c.args in
     let l = c.loop-p in
-    let end : l.p ≡ a.n = omega (arith, l.invariant.0) in
-    (l.invariant.2 ∙ ap (λ (k : ℕ). length (triangles_of a.corners.now k)) end, omega (arith, l.invariant.0, l.invariant.1))
+    let end : l.p ≡ a.n = omega arith in
+    (l.invariant.1 ∙ ap (λ (k : ℕ). length (triangles_of a.corners.now k)) end, omega (arith, l.invariant.0))

@@ -6,4 +6,4 @@ use Rattle.rays.specs.Checks.{triangles_of}
 use Rattle.rays.proofs.triangles.count_triangles.Given as goal
 
 abbrev pub invariant-loop-p : goal.invariant-loop-p
-invariant-loop-p l = (l.p ≤ l.n) × (l.t ≤ l.p) × (l.t ≡ length (triangles_of l.corners l.p))
+invariant-loop-p l = (l.t ≤ l.p) × (l.t ≡ length (triangles_of l.corners l.p))

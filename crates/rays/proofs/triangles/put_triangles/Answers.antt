@@ -20,7 +20,6 @@ free cs n p h e =
 pub loop-p-init : goal.loop-p-init
 loop-p-init c =
     record {
-      upto = omega arith;
       same_length = refl;
       count = refl;
       stand = record { first = λ j h. absurd (omega arith); second = λ j h. absurd (omega arith); third = λ j h. absurd (omega arith) };
@@ -35,7 +34,6 @@ loop-p-preserved-then-corners-p-eq65535 c =
     let l = c.loop-p in
     let same = no_triangle a.corners.now l.p c.if-corners-p-eq65535.true in
     record {
-      upto = omega arith;
       same_length = l.invariant.same_length;
       count = l.invariant.count ∙ ap length (sym same);
       stand = subst (λ (ts : List ℕ). Standing a.corners.now ts l.tri a.t l.k) (sym same) l.invariant.stand;
@@ -69,7 +67,6 @@ loop-p-preserved c =
     stands_more a.corners.now (triangles_of a.corners.now l.p) l.tri a.t l.k l.p
     (omega (arith, c.requires.0.room, c.requires.2, l.invariant.same_length)) (omega (arith, c.requires.1, l.invariant.count)) l.invariant.count l.invariant.stand in
     record {
-      upto = omega arith;
       same_length = ap length put ∙ length_triangle a.corners.now l.tri a.t l.k l.p ∙ l.invariant.same_length;
       count = omega (arith, l.invariant.count);
       stand = subst (λ (tri : List ℕ). Standing a.corners.now (triangles_of a.corners.now (l.p + 1)) tri a.t (l.k + 1)) (sym put)
@@ -81,7 +78,7 @@ pub returns : goal.returns
 returns c =
     let a = c.args in
     let l = c.loop-p in
-    let end : l.p ≡ a.n = omega (arith, l.invariant.upto) in
+    let end : l.p ≡ a.n = omega arith in
     let all : l.k ≡ a.t = l.invariant.count ∙ ap (λ (k : ℕ). length (triangles_of a.corners.now k)) end ∙ sym c.requires.1 in
     let stand = subst (λ (p : ℕ). Standing a.corners.now (triangles_of a.corners.now p) l.tri a.t l.k) end l.invariant.stand in
     let whole = subst (λ (k : ℕ). Standing a.corners.now (triangles_of a.corners.now a.n) l.tri a.t k) all stand in

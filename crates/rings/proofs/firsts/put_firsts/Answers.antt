@@ -12,7 +12,6 @@ pub loop-s-init : goal.loop-s-init
 loop-s-init c =
     record {
       end_is = refl;
-      upto = omega arith;
       same_length = refl;
       room = omega
           (arith, c.requires.2, c.no_sides.auto.firsts);
@@ -37,7 +36,6 @@ loop-s-preserved c =
     let put = c.note_side.ensures ∙ ap (λ (i : ℕ). noted l.firsts a.v i l.s) c.wide.ensures in
     record {
       end_is = l.invariant.end_is;
-      upto = omega (arith);
       same_length = ap length put ∙ length_noted l.firsts a.v (get_or a.corners.now l.s 0) l.s ∙ l.invariant.same_length;
       room = omega (arith, l.invariant.room, ap length put, length_noted l.firsts a.v (get_or a.corners.now l.s 0) l.s);
       firsts_are =
@@ -51,5 +49,5 @@ pub returns : goal.returns
 returns c =
     let a = c.args in
     let l = c.loop-s in
-    let end : l.s ≡ 3 * a.n = omega (arith, l.invariant.upto, l.invariant.end_is) in
+    let end : l.s ≡ 3 * a.n = omega (arith, l.invariant.end_is) in
     subst (λ (k : ℕ). Firsts a.corners.now k a.v l.firsts) end l.invariant.firsts_are

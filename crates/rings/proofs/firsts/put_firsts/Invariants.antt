@@ -8,7 +8,6 @@ use Rattle.rings.proofs.firsts.put_firsts.Given as goal
 
 pub record Noting (corners : List ℕ) (n v end : ℕ) (before firsts : List ℕ) (s : ℕ) : Type 0 where
   pub end_is : end ≡ 3 * n
-  pub upto : s ≤ end
   pub same_length : length firsts ≡ length before
   pub room : v ≤ length firsts
   pub firsts_are : Firsts corners s v firsts

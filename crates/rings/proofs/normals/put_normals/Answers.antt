@@ -11,7 +11,7 @@ use Rattle.rings.proofs.NormalLaws.{length_normal, normal_more}
 use Rattle.rings.proofs.normals.put_normals.Goals as goal
 
 pub loop-p-init : goal.loop-p-init
-loop-p-init c = record { upto = omega arith; same_length = refl; there = record { normals = λ k h. absurd (omega arith) } }
+loop-p-init c = record { same_length = refl; there = record { normals = λ k h. absurd (omega arith) } }
 
 pub put_normal-requires : goal.put_normal-requires
 put_normal-requires c = omega (arith, c.requires.2, c.loop-p.invariant.same_length)
@@ -24,7 +24,6 @@ loop-p-preserved c =
     let n = c.polygon_normal.result in
     let more : l.p < a.n = omega arith in
     record {
-      upto = omega arith;
       same_length = ap length put ∙ length_normal l.ns l.p n ∙ l.invariant.same_length;
       there =
           subst (λ (fs : List Float). Normals a.corners.now a.vertices.now a.v fs (l.p + 1)) (sym put)
@@ -38,5 +37,5 @@ pub returns : goal.returns
 returns c =
     let a = c.args in
     let l = c.loop-p in
-    let end : l.p ≡ a.n = omega (arith, l.invariant.upto) in
+    let end : l.p ≡ a.n = omega arith in
     subst (λ (k : ℕ). Normals a.corners.now a.vertices.now a.v l.ns k) end l.invariant.there

@@ -16,7 +16,6 @@ use Rattle.rings.proofs.vertex.by_margin.Goals as goal
 pub loop-i-init : goal.loop-i-init
 loop-i-init c =
     record {
-      upto = omega arith;
       by-is = refl;
       ring-length = refl;
       ns-length = refl;
@@ -52,7 +51,6 @@ loop-i-preserved c =
     let put = c.put_point.ensures ∙ ap (λ (p : Vec3). sets l.points (3 * l.i) (words_of p)) point in
     let same = c.put_point.auto.points in
     record {
-      upto = omega arith;
       by-is = l.invariant.by-is;
       ring-length = c.shrunk_at.auto.ring ∙ l.invariant.ring-length;
       ns-length = c.shrunk_at.auto.ns ∙ l.invariant.ns-length;
@@ -68,6 +66,6 @@ returns c =
     let a = c.args in
     let l = c.loop-i in
     let mesh = mesh_of a.corners.now a.links.now a.n a.vertices.now a.v in
-    let end : l.i ≡ a.v = omega (arith, l.invariant.upto) in
+    let end : l.i ≡ a.v = omega arith in
     sym (take_all (3 * l.i) l.points (omega (arith, l.invariant.size))) ∙ l.invariant.written
     ∙ ap (λ (k : ℕ). in_turn k (λ i. words_of (shrunk_at mesh (neg a.margin) i))) end

@@ -1,6 +1,6 @@
 -- `vertex::by_margin` meets its contract. The loop's invariant: the words of the vertices before i are written.
 use mathlib.Core.Path.{◌≡◌}
-use Prim.Native.Nat.{ℕ, ◌*◌, ◌≤◌}
+use Prim.Native.Nat.{ℕ, ◌*◌}
 use mathlib.Core.List.{List}
 use lib.ListN.{length, take}
 use lib.Ieee.{Float, neg}
@@ -11,7 +11,6 @@ use Rattle.rings.proofs.vertex.by_margin.Given as goal
 
 pub record Moving (mesh : Mesh) (margin by : Float) (ring₀ : List ℕ) (ns₀ : List Float) (points₀ ring : List ℕ) (ns : List Float) (points : List ℕ)
     (i : ℕ) : Type 0 where
-  pub upto : i ≤ mesh.v
   pub by-is : by ≡ neg margin
   pub ring-length : length ring ≡ length ring₀
   pub ns-length : length ns ≡ length ns₀

@@ -23,7 +23,6 @@ loop-k-init c =
     let put = c.put_normal.ensures in
     let want = gathered a.normals.now a.poly a.ring.now in
     record {
-      upto = omega arith;
       same_length = refl;
       room = omega (arith, c.requires.2, c.put_normal.auto.ns);
       there =
@@ -67,7 +66,6 @@ loop-k-preserved c =
     let want = gathered a.normals.now a.poly a.ring.now in
     let more : l.k < a.count = omega arith in
     record {
-      upto = omega arith;
       same_length = ap length put ∙ length_normal l.ns (l.k + 1) n ∙ l.invariant.same_length;
       room = omega (arith, l.invariant.room, ap length put, length_normal l.ns (l.k + 1) n);
       there =
@@ -82,5 +80,5 @@ pub returns : goal.returns
 returns c =
     let a = c.args in
     let l = c.loop-k in
-    let end : l.k ≡ a.count = omega (arith, l.invariant.upto) in
+    let end : l.k ≡ a.count = omega arith in
     subst (λ (k : ℕ). Gathered a.normals.now a.poly a.ring.now k l.ns) end l.invariant.there

@@ -8,7 +8,6 @@ use Rattle.rings.specs.Steps.Gathering.{Gathered}
 use Rattle.rings.proofs.vertex.gather.Given as goal
 
 pub record Gathering (normals : List Float) (poly : ℕ) (ring : List ℕ) (count : ℕ) (before ns : List Float) (k : ℕ) : Type 0 where
-  pub upto : k ≤ count
   pub same_length : length ns ≡ length before
   pub room : 3 * count + 3 ≤ length ns
   pub there : Gathered normals poly ring k ns

@@ -18,7 +18,7 @@ behind_more ws i =
     drop-drop 3 (3 * i) ws ∙ ap (λ (k : ℕ). drop k ws) three
 
 pub loop-i-init : goal.loop-i-init
-loop-i-init c = record { upto = omega arith; same_length = refl; size = c.requires; written = refl; behind = refl }
+loop-i-init c = record { same_length = refl; size = c.requires; written = refl; behind = refl }
 
 pub vertex_at-s-requires : goal.vertex_at-s-requires
 vertex_at-s-requires c = omega (arith, c.loop-i.invariant.size)
@@ -39,7 +39,6 @@ loop-i-preserved c =
     let put = c.put_point.ensures ∙ ap (λ (p : Vec3). sets l.points (3 * l.i) (words_of p)) clamped in
     let same = c.put_point.auto.points in
     record {
-      upto = omega arith;
       same_length = same ∙ l.invariant.same_length;
       size = same ∙ l.invariant.size;
       written = ap (take (3 * (l.i + 1))) put ∙ points_more l.points l.i (λ k. clamp_of a.b (vertex_at a.points.now k)) room l.invariant.written;
@@ -53,6 +52,6 @@ unfolding clamped_words
 returns c =
     let a = c.args in
     let l = c.loop-i in
-    let end : l.i ≡ a.v = omega (arith, l.invariant.upto) in
+    let end : l.i ≡ a.v = omega arith in
     sym (take_all (3 * l.i) l.points (omega (arith, l.invariant.size))) ∙ l.invariant.written
     ∙ ap (λ (n : ℕ). in_turn n (λ k. words_of (clamp_of a.b (vertex_at a.points.now k)))) end

@@ -10,7 +10,6 @@ use Rattle.shrink.specs.Clamping.{clamp_of}
 use Rattle.shrink.proofs.clamp.clamp_points.Given as goal
 
 pub record Going (before : List ℕ) (v : ℕ) (b : Aabb) (points : List ℕ) (i : ℕ) : Type 0 where
-  pub upto : i ≤ v
   pub same_length : length points ≡ length before
   pub size : length points ≡ 3 * v
   pub written : take (3 * i) points ≡ in_turn i (λ k. words_of (clamp_of b (vertex_at before k)))

@@ -21,7 +21,6 @@ use Rattle.trial.proofs.stay.all_stay.Goals as goal
 pub loop-i-init : goal.loop-i-init
 loop-i-init c =
     record {
-      upto = omega arith;
       by-is = refl;
       ring-length = refl;
       ns-length = refl;
@@ -102,7 +101,6 @@ loop-i-preserved c =
     compared mesh a.margin _ l.i more written _ _ c.vertex_at.ensures c.vertex_at-in-loop-i.ensures in
     let length = c.put_point.auto.points in
     record {
-      upto = omega arith;
       by-is = l.invariant.by-is;
       ring-length =
           c.shrunk_at.auto.ring
@@ -124,7 +122,7 @@ returns c =
     let a = c.args in
     let l = c.loop-i in
     let mesh = mesh_of a.corners.now a.links.now a.n a.vertices.now a.v in
-    let end : l.i ≡ a.v = omega (arith, l.invariant.upto) in
+    let end : l.i ≡ a.v = omega arith in
     record {
       answer = sym l.invariant.still ∙ ap (λ (k : ℕ). none_to k (moved_in a.vertices.now (by_margin mesh a.margin))) end;
       points_are =

@@ -14,7 +14,6 @@ use Rattle.trial.proofs.stay.all_stay.Given as goal
 
 pub record Staying (mesh : Mesh) (margin by : Float) (ring₀ : List ℕ) (ns₀ : List Float) (points₀ ring : List ℕ) (ns : List Float) (points : List ℕ)
     (i : ℕ) : Type 0 where
-  pub upto : i ≤ mesh.v
   pub by-is : by ≡ neg margin
   pub ring-length : length ring ≡ length ring₀
   pub ns-length : length ns ≡ length ns₀

@@ -98,4 +98,4 @@ returns c =
     served a.geometry a.n a.polygons.now a.v a.vertices.now sizes a.points.now c.if-n-gt32767.false c.if-v-gt32768.false long
     (sym c.kinds_known.ensures ∙ c.if-not-kinds_known.false) c.if-v-eq0.false (sym
     c.infinite_start.ensures ∙ c.if-infinite_start.false) _
-    c.shrink_polygons.result _ front c.shrink_polygons.ensures c.shrunk_by.ensures
+    c.shrink_polygons.result _ front c.shrink_polygons.ensures c.from.ensures
