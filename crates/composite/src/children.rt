@@ -1,36 +1,19 @@
 // A child of a composite is 24 words: its mark, 0 for absent, its box, its margin, and the four rows of its transform.
 ghost use Rattle.std.specs.Prelude.{◌≡◌, ◌+◌, ◌*◌, ◌≤◌, length};
 ghost use Rattle.composite.specs.Children.{box_of, row_at, matrix_at, computed_box, no_box, child_box_of};
-ghost use Rattle.entries.specs.Boxes.{point_at};
 
 use base::numbers::Place;
 use entries::boxes::BoxWords;
 use math::aabb::Aabb;
 use math::mat4::{Mat4, Vec4};
 use math::vec3::Vec3;
-use math::words3::Words3;
-
-fn point_at(children: &[u32], at: usize) -> Words3
-    requires { at + 3 ≤ length children.now }
-    ensures { result ≡ point_at children.now at }
-{
-    Words3 {
-        x: children[at],
-        y: children[at + 1],
-        z: children[at + 2],
-    }
-}
 
 // A child's box as it was given.
 pub fn box_of(children: &[u32], child: Place) -> BoxWords
     requires { 24 * child.0 + 24 ≤ length children.now }
     ensures { result ≡ box_of children.now child.0 }
 {
-    let at = 24 * (child.0 as usize) + 1;
-    BoxWords {
-        min: point_at(children, at),
-        max: point_at(children, at + 3),
-    }
+    entries::boxes::box_from(children, 24 * (child.0 as usize) + 1)
 }
 
 fn row_at(children: &[u32], at: usize) -> Vec4

@@ -4,7 +4,7 @@ ghost use Rattle.std.proofs.lemmas.List.Edits.{sets};
 ghost use Rattle.std.specs.Float.{binary32};
 ghost use Rattle.std.specs.Float.Ieee.{of_bits};
 ghost use Rattle.math.specs.Stored.{values_of};
-ghost use Rattle.entries.specs.Boxes.{box_at, box_words};
+ghost use Rattle.entries.specs.Boxes.{box_at, box_from, box_words};
 ghost use Rattle.entries.specs.Folding.{start_box};
 ghost use Rattle.entries.specs.Plain.{Number, Plain};
 ghost use Rattle.entries.specs.Steps.Totals.{corners_of};
@@ -38,24 +38,31 @@ pub fn start_box() -> BoxWords
     }
 }
 
+// The box whose six words stand from `at` on.
+pub fn box_from(words: &[u32], at: usize) -> BoxWords
+    requires { at + 6 ≤ length words.now }
+    ensures { result ≡ box_from words.now at }
+{
+    BoxWords {
+        min: Words3 {
+            x: words[at],
+            y: words[at + 1],
+            z: words[at + 2],
+        },
+        max: Words3 {
+            x: words[at + 3],
+            y: words[at + 4],
+            z: words[at + 5],
+        },
+    }
+}
+
 // The box at a place: an entry has seven words, its mark and its box.
 pub fn box_at(entries: &[u32], place: Place) -> BoxWords
     requires { 7 * place.0 + 7 ≤ length entries.now }
     ensures { result ≡ box_at entries.now place.0 }
 {
-    let at = 7 * (place.0 as usize) + 1;
-    BoxWords {
-        min: Words3 {
-            x: entries[at],
-            y: entries[at + 1],
-            z: entries[at + 2],
-        },
-        max: Words3 {
-            x: entries[at + 3],
-            y: entries[at + 4],
-            z: entries[at + 5],
-        },
-    }
+    box_from(entries, 7 * (place.0 as usize) + 1)
 }
 
 // The float of a word. Where it is known that no word is a NaN's, no word is tested: a loop is then compiled without the

@@ -102,6 +102,7 @@ pub fn grow(
     let mut lo = 0;
     let mut m = 0;
     let mut begun = not_begun();
+    // No `for` counts `lo`: it steps by a leaf's places, and stays while a segment is split.
     while lo < n {
         let k = stack[sp] as usize;
         let hi = lo + k;

@@ -16,8 +16,8 @@ pub fn put_order(order: &mut [u16], places: &[u32])
     requires { (length places.now ≤ length order.old) × (Below 65536 places.now) }
     ensures { order.new ≡ over places.now order.old }
 {
-    for i in 0..places.len() {
-        order[i] = places[i] as u16;
+    for (i, place) in places.iter().enumerate() {
+        order[i] = *place as u16;
     }
 }
 

@@ -60,6 +60,7 @@ pub fn put_trees(tree_bytes: &mut [u8], rows: &[u32], m: usize, scale: Scale, li
 {
     let mut i = 0;
     let mut k = 0;
+    // No `for` counts `i`: it steps by one or by all rows of a tree.
     while i < m {
         let size = tree_size(rows, i);
         if limit < size {

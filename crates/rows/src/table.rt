@@ -3,26 +3,13 @@ ghost use Rattle.std.specs.Prelude.{◌≡◌, ◌+◌, ◌*◌, ◌≤◌, ◌<
 ghost use Rattle.rows.specs.Steps.Table.{row_at, with_row};
 
 use entries::boxes::BoxWords;
-use math::words3::Words3;
 
 // The box of row i.
 pub fn row_box(rows: &[u32], i: usize) -> BoxWords
     requires { 8 * i + 8 ≤ length rows.now }
     ensures { result ≡ (row_at rows.now i).box }
 {
-    let at = 8 * i;
-    BoxWords {
-        min: Words3 {
-            x: rows[at],
-            y: rows[at + 1],
-            z: rows[at + 2],
-        },
-        max: Words3 {
-            x: rows[at + 3],
-            y: rows[at + 4],
-            z: rows[at + 5],
-        },
-    }
+    entries::boxes::box_from(rows, 8 * i)
 }
 
 // The head of row i: a leaf's first position, an inner node's number of nodes.
