@@ -75,11 +75,7 @@ fn relinked(lookup: &[u32], p: Polygon) -> Polygon
             e2,
             e3,
         } => relinked_triangle(lookup, area, nan, v1, v2, v3, e1, e2, e3),
-        Polygon::Sphere { index, radius, nan } => Polygon::Sphere {
-            index,
-            radius,
-            nan,
-        },
+        Polygon::Sphere { index, radius, nan } => Polygon::Sphere { index, radius, nan },
         Polygon::Capsule {
             i1,
             i2,
@@ -91,12 +87,7 @@ fn relinked(lookup: &[u32], p: Polygon) -> Polygon
             radius,
             nan,
         },
-        Polygon::Box { i1, i2, i3, i4 } => Polygon::Box {
-            i1,
-            i2,
-            i3,
-            i4,
-        },
+        Polygon::Box { i1, i2, i3, i4 } => Polygon::Box { i1, i2, i3, i4 },
         Polygon::Cylinder {
             i1,
             i2,
