@@ -1,6 +1,6 @@
 -- `clamp::clamp_points` meets its contract. The loop's invariant: the points before i are clamped, and those from i on are as they were.
 use mathlib.Core.Path.{◌≡◌}
-use Prim.Native.Nat.{ℕ, ◌*◌, ◌≤◌}
+use Prim.Native.Nat.{ℕ, ◌*◌}
 use mathlib.Core.List.{List}
 use lib.ListN.{length, take, drop}
 use Rattle.math.specs.declared.aabb.Aabb.{Aabb}

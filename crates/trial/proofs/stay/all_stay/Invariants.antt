@@ -1,7 +1,7 @@
 -- `stay::all_stay` meets its contract. The loop's invariant: the words of the vertices before i are written, and none of these moved.
 use mathlib.Core.Path.{◌≡◌}
 use mathlib.Core.Bool.{true}
-use Prim.Native.Nat.{ℕ, ◌*◌, ◌≤◌}
+use Prim.Native.Nat.{ℕ, ◌*◌}
 use mathlib.Core.List.{List}
 use lib.ListN.{length, take}
 use lib.Ieee.{Float, neg}
