@@ -71,7 +71,7 @@ pub fn truncated(x: f32) -> i16
     if word < 0x8000_0000 { size } else { -size }
 }
 
-// A vertex value, as vertices are stored.
+// A vertex value, as vertices are stored: a rule of its own, which C calls by this name, although it rounds as a query's corner does.
 pub fn vertex_value(x: f32) -> i16
     ensures { result ≡ vertex_of x }
 {

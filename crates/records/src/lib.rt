@@ -54,6 +54,7 @@ fn put_boxed(out: &mut [u8], at: usize, min: BoundVertex, max: BoundVertex, firs
     shorts::put_short(out, at + 14, second);
 }
 
+// The records of nodes and of trees are alike in their bytes and differ in their fields' names, which a trait over both would have to name twice again.
 pub fn put_node(out: &mut [u8], at: usize, n: BvhNode)
     requires { at + 16 ≤ length out.old }
     ensures { out.new ≡ sets out.old at (node_bytes n) }
