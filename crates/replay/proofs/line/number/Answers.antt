@@ -19,9 +19,6 @@ overflow_add-n c =
     let digit = glyph_digit (get_or c.args.text.now c.loop-byte.byte-index 0) d (sym c.digit.ensures ∙ c.in_ok-n.was) in
     record { fits = fits c.loop-byte.invariant (omega arith) d digit.0 }
 
-pub overflow_mul-n : goal.overflow_mul-n
-overflow_mul-n c = record { fits = omega (arith, fits c.loop-byte.invariant (omega arith) 0 (omega arith)) }
-
 pub loop-byte-preserved : goal.loop-byte-preserved
 loop-byte-preserved c = more c.loop-byte.invariant (omega arith) (sym c.digit.ensures ∙ c.in_ok-n.was)
 

@@ -57,12 +57,6 @@ returns-then-line-count c =
     let b = begins c.args.line.now c.in_ok-n.n c.if-line-lt2.false c.number.ensures c.in_ok-n.was in
     λ op vs n e. c.if-line-count.true (omega (arith, ap length e, line_length op vs, n, c.count-count.ensures.counts op (named _ _ b op vs e)))
 
-pub overflow_mul-count : goal.overflow_mul-count
-overflow_mul-count c = record { fits = omega (arith, c.count-count.ensures.upper_bound) }
-
-pub overflow_add-count : goal.overflow_add-count
-overflow_add-count c = record { fits = omega (arith, c.count-count.ensures.upper_bound) }
-
 pub fields-requires : goal.fields-requires
 fields-requires c =
     let line = c.args.line.now in
