@@ -126,9 +126,9 @@ last_digit k n m e =
     let at : (v : ℕ) → get_or (last_digits 16 (suc k) v) k 0 ≡ hex_digit_ascii (v % 16) =
     λ v. get_or_at (last_digits 16 k (v / 16)) (hex_digit_ascii (v % 16)) [] 0 k (length_digits 16 k (v / 16)) in
     same_Some _ _ (
-      sym (digit_glyph (n % 16) (omega arith))
-      ∙ ap digit_of (sym (at n) ∙ ap (λ (s : List ℕ). get_or s k 0) e ∙ at m)
-      ∙ digit_glyph (m % 16) (omega arith)
+    sym (digit_glyph (n % 16) (omega arith))
+    ∙ ap digit_of (sym (at n) ∙ ap (λ (s : List ℕ). get_or s k 0) e ∙ at m)
+    ∙ digit_glyph (m % 16) (omega arith)
     )
 
 front_digits : (k n m : ℕ) → last_digits 16 (suc k) n ≡ last_digits 16 (suc k) m → last_digits 16 k (n / 16) ≡ last_digits 16 k (m / 16)

@@ -43,6 +43,7 @@ fn replay(cases: &mut [u64], misses: &mut [u64])
     tally::finish(at, cases);
 }
 
+// Printed by io's functions: std's `println!` takes the runtime, a handle that this program's `main` does not have.
 fn print_operation(number: usize, cases: u64, misses: u64) {
     io::print_hex(STDOUT, number as u64, 2);
     io::write_all(STDOUT, b" ");

@@ -7,6 +7,7 @@ ghost use Rattle.replay.specs.Outcomes.{Holds, Words, Agrees, Judged};
 use crate::answer::Answer;
 use crate::operation::Operation;
 
+// No Result: a mismatch is a finding of this program and a line that is no case is one too, so that neither is the failure of a call.
 #[derive(Clone, Copy)]
 pub enum Outcome {
     Match(u32),
