@@ -183,18 +183,6 @@ has n h l =
     let e : 1 + (n - 1) ≡ number_of (get_or ordered (n - 1) Op.TransformBox) = in_place ordered 1 (n - 1) tt within in
     record { op = get_or ordered (n - 1) Op.TransformBox; named = omega arith }
 
--- n is none of the numbers from 1 to k, as a `match` with those arms leaves it.
-abbrev pub Apart : ℕ → ℕ → Type 0
-Apart zero n = Unit {0}
-Apart (suc k) n = Apart k n × (n ≡ suc k → ⊥)
-
-pub beyond : (k n : ℕ) → Apart k n → 1 ≤ n → k < n
-beyond zero n a h = h
-beyond (suc k) n a h =
-    let b : k < n = beyond k n a.0 h in
-    let d : n ≡ suc k → ⊥ = a.1 in
-    omega arith
-
 -- ---- no entry of the table of counts is above 28
 
 abbrev all_few : List ℕ → Bool

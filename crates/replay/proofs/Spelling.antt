@@ -1,20 +1,21 @@
 -- Hexadecimal digits and the number that they spell, each digit read by itself. Assumes nothing.
-use Rattle.std.proofs.Common.{◌≡◌, ℕ, zero, suc, ◌+◌, ◌-◌, ◌*◌, ◌/◌, ◌%◌, ◌^◌, ◌<◌, ◌≤◌, ◌⊎◌, List, [], ◌∷◌, ◌++◌, length, get_or, take, sym, refl, ap, ◌∙◌, subst, inl, inr, ⊎_elim, pow-suc, add-one, arith, length-append, take-suc, take_at, le-ltb, lt-ltb}
+use Rattle.std.proofs.Common.{◌≡◌, ℕ, zero, suc, ◌+◌, ◌-◌, ◌*◌, ◌/◌, ◌%◌, ◌^◌, ◌<◌, ◌≤◌, ◌⊎◌, List, [], ◌∷◌, ◌++◌, length, get_or, take, sym, refl, ap, ◌∙◌, subst, inl, inr, ⊎_elim, true≢false, pow-suc, add-one, arith, length-append, take-suc, take_at, le-ltb, lt-ltb}
 use native.Mathlib.Nat.{pow-le-pow_right}
 use native.Mathlib.Decide.{dec_lt}
 use lib.ListN.{get_or-append}
 use lib.Seq.{take-length, get_or_at}
+use Rattle.std.proofs.lemmas.Option.{same_Some}
 use Rattle.io.specs.Digits.{hex_digit_ascii, last_digits}
 use Rattle.replay.specs.Lines.{digit_of, Spells}
-use Rattle.std.specs.Prelude.{Some, None}
+use Rattle.std.specs.Prelude.{Option, Some, None, true, IfSome, IsSome, is_some}
 
 -- ---- one digit
 
-digit_glyph : (d : ℕ) → d < 16 → digit_of (hex_digit_ascii d) ≡ d
+digit_glyph : (d : ℕ) → d < 16 → digit_of (hex_digit_ascii d) ≡ Some d
 digit_glyph d h = go (dec_lt d 10)
   where
-    go : Dec (d < 10) → digit_of (hex_digit_ascii d) ≡ d
-    go (yes l) = rw (lt-ltb d 10 l, le-ltb (48 + d) 48 (omega arith), lt-ltb (48 + d) 58 (omega arith)) (omega arith)
+    go : Dec (d < 10) → digit_of (hex_digit_ascii d) ≡ Some d
+    go (yes l) = rw (lt-ltb d 10 l, le-ltb (48 + d) 48 (omega arith), lt-ltb (48 + d) 58 (omega arith)) (ap Some (omega arith))
     go (no l) =
         rw (
           le-ltb d 10 (omega arith),
@@ -22,13 +23,13 @@ digit_glyph d h = go (dec_lt d 10)
           le-ltb (87 + d) 58 (omega arith),
           le-ltb (87 + d) 97 (omega arith),
           lt-ltb (87 + d) 103 (omega arith),
-        ) (omega arith)
+        ) (ap Some (omega arith))
 
 -- what a byte may be, with its number
-data Kind (c : ℕ) : ℕ → Type 0 where
-  ten : 48 ≤ c → c < 58 → Kind c (c - 48)
-  six : 97 ≤ c → c < 103 → Kind c (c - 87)
-  other : Kind c 16
+data Kind (c : ℕ) : Option ℕ → Type 0 where
+  ten : 48 ≤ c → c < 58 → Kind c (Some (c - 48))
+  six : 97 ≤ c → c < 103 → Kind c (Some (c - 87))
+  other : Kind c None
 
 kind : (c : ℕ) → Kind c (digit_of c)
 kind c = go (dec_lt c 48) (dec_lt c 58) (dec_lt c 97) (dec_lt c 103)
@@ -42,21 +43,17 @@ kind c = go (dec_lt c 48) (dec_lt c 58) (dec_lt c 97) (dec_lt c 103)
     go (no h) (no b) (no d) (no e) =
         rw (le-ltb c 48 (omega arith), le-ltb c 58 (omega arith), le-ltb c 97 (omega arith), le-ltb c 103 (omega arith)) other
 
-most : {c v : ℕ} → Kind c v → v ≤ 16
-most (ten h l) = omega arith
-most (six h l) = omega arith
-most other = omega arith
+-- A digit is below 16, and its byte is the one that is written for it.
+abbrev Writes : ℕ → Option ℕ → Type 0
+Writes c v = IfSome v (λ d. (d < 16) × (hex_digit_ascii d ≡ c))
 
-written : {c v : ℕ} → Kind c v → v < 16 → hex_digit_ascii v ≡ c
-written {c} (ten h l) m = rw (lt-ltb (c - 48) 10 (omega arith)) (omega arith)
-written {c} (six h l) m = rw (le-ltb (c - 87) 10 (omega arith)) (omega arith)
-written other m = absurd (omega arith)
+written : {c : ℕ} {v : Option ℕ} → Kind c v → Writes c v
+written {c} (ten h l) = (omega arith, rw (lt-ltb (c - 48) 10 (omega arith)) (omega arith))
+written {c} (six h l) = (omega arith, rw (le-ltb (c - 87) 10 (omega arith)) (omega arith))
+written other = tt
 
-pub digit_most : (c : ℕ) → digit_of c ≤ 16
-digit_most c = most (kind c)
-
-glyph_digit : (c : ℕ) → digit_of c < 16 → hex_digit_ascii (digit_of c) ≡ c
-glyph_digit c h = written (kind c) h
+pub glyph_digit : (c d : ℕ) → digit_of c ≡ Some d → (d < 16) × (hex_digit_ascii d ≡ c)
+glyph_digit c d e = subst (Writes c) e (written (kind c))
 
 -- ---- k digits
 
@@ -79,12 +76,12 @@ last_or_before {i} {k} h = go (dec_lt i k)
     go (yes l) = inl l
     go (no l) = inr (omega arith)
 
-digit_at : (k n i : ℕ) → i < k → digit_of (get_or (last_digits 16 k n) i 0) < 16
+digit_at : (k n i : ℕ) → i < k → IsSome (digit_of (get_or (last_digits 16 k n) i 0))
 digit_at zero n i h = absurd (omega arith)
 digit_at (suc k) n i h =
     ⊎_elim
     (λ l. rw (get_or-append (last_digits 16 k (n / 16)) (hex_digit_ascii (n % 16) ∷ []) 0 i (rw (length_digits 16 k (n / 16)) l)) (digit_at k (n / 16) i l))
-    (λ e. rw (get_or_at (last_digits 16 k (n / 16)) (hex_digit_ascii (n % 16)) [] 0 i (length_digits 16 k (n / 16) ∙ sym e), digit_glyph (n % 16) (omega arith)) (omega arith))
+    (λ e. rw (get_or_at (last_digits 16 k (n / 16)) (hex_digit_ascii (n % 16)) [] 0 i (length_digits 16 k (n / 16) ∙ sym e), digit_glyph (n % 16) (omega arith)) refl)
     (last_or_before h)
 
 -- The first i bytes of a text spell n.
@@ -95,12 +92,12 @@ pub record Spelling (text : List ℕ) (i n : ℕ) : Type 0 where
 pub none : (text : List ℕ) → Spelling text 0 0
 none text = record { spelt = refl; bound = omega arith }
 
-pub more : {text : List ℕ} {i n : ℕ} → Spelling text i n → i < length text → digit_of (get_or text i 0) < 16
-    → Spelling text (i + 1) (n * 16 + digit_of (get_or text i 0))
-more {text} {i} {n} s h l =
+pub more : {text : List ℕ} {i n d : ℕ} → Spelling text i n → i < length text → digit_of (get_or text i 0) ≡ Some d → Spelling text (i + 1) (n * 16 + d)
+more {text} {i} {n} {d} s h e =
+    let g = glyph_digit (get_or text i 0) d e in
     record {
-      spelt = rw (add-one, take-suc text i 0, digits_more i n (digit_of (get_or text i 0)) l, glyph_digit (get_or text i 0) l, s.spelt);
-      bound = rw (add-one, pow-suc) (omega (arith, s.bound));
+      spelt = rw (add-one, take-suc text i 0, digits_more i n d g.0, g.1, s.spelt);
+      bound = rw (add-one, pow-suc) (omega (arith, s.bound, g.0));
     }
 
 -- Eight digits fit 32 bits.
@@ -128,9 +125,11 @@ last_digit : (k n m : ℕ) → last_digits 16 (suc k) n ≡ last_digits 16 (suc 
 last_digit k n m e =
     let at : (v : ℕ) → get_or (last_digits 16 (suc k) v) k 0 ≡ hex_digit_ascii (v % 16) =
     λ v. get_or_at (last_digits 16 k (v / 16)) (hex_digit_ascii (v % 16)) [] 0 k (length_digits 16 k (v / 16)) in
+    same_Some _ _ (
     sym (digit_glyph (n % 16) (omega arith))
     ∙ ap digit_of (sym (at n) ∙ ap (λ (s : List ℕ). get_or s k 0) e ∙ at m)
     ∙ digit_glyph (m % 16) (omega arith)
+    )
 
 front_digits : (k n m : ℕ) → last_digits 16 (suc k) n ≡ last_digits 16 (suc k) m → last_digits 16 k (n / 16) ≡ last_digits 16 k (m / 16)
 front_digits k n m e =
@@ -148,7 +147,7 @@ digits_injective (suc k) n m h l e =
     omega arith
 
 -- A byte that is no digit stands in no spelling.
-pub none_at : (text : List ℕ) (i n : ℕ) → i < length text → digit_of (get_or text i 0) ≡ 16 → text ≡ last_digits 16 (length text) n → ⊥
+pub none_at : (text : List ℕ) (i n : ℕ) → i < length text → digit_of (get_or text i 0) ≡ None → text ≡ last_digits 16 (length text) n → ⊥
 none_at text i n h e s =
-    let l : digit_of (get_or (last_digits 16 (length text) n) i 0) < 16 = digit_at (length text) n i h in
-    omega (arith, ap (λ (t : List ℕ). digit_of (get_or t i 0)) s)
+    let d : is_some (digit_of (get_or (last_digits 16 (length text) n) i 0)) ≡ true = digit_at (length text) n i h in
+    true≢false (sym d ∙ ap (λ (t : List ℕ). is_some (digit_of (get_or t i 0))) (sym s) ∙ ap is_some e)

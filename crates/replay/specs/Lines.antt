@@ -17,10 +17,10 @@ fields_of (w ∷ ws) = field w ++ fields_of ws
 unfoldable pub line_of : Operation → List ℕ → List ℕ
 line_of op ws = last_digits 16 2 (number_of op) ++ fields_of ws
 
--- The number of a hexadecimal digit, 16 for any other byte.
-abbrev pub digit_of : ℕ → ℕ
+-- The number of a hexadecimal digit, None for any other byte.
+abbrev pub digit_of : ℕ → Option ℕ
 digit_of c =
-    cond (nat_lt c 48) 16 (cond (nat_lt c 58) (c - 48) (cond (nat_lt c 97) 16 (cond (nat_lt c 103) (c - 87) 16)))
+    cond (nat_lt c 48) None (cond (nat_lt c 58) (Some (c - 48)) (cond (nat_lt c 97) None (cond (nat_lt c 103) (Some (c - 87)) None)))
 
 -- The number that hexadecimal digits spell; nothing where the text has another byte.
 abbrev pub Spells : List ℕ → Option ℕ → Type 0

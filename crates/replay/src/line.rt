@@ -2,20 +2,14 @@
 ghost use Rattle.std.specs.Prelude.{◌≡◌, ◌*◌, ◌≤◌, true, false, length, take};
 ghost use Rattle.replay.specs.Lines.{digit_of, Spells, Fields, Parses};
 
-// The number of a hexadecimal digit in lower case, or 16.
-fn digit(c: u8) -> u32
+// The number of a hexadecimal digit in lower case.
+fn digit(c: u8) -> Option<u32>
     ensures { result ≡ digit_of c }
 {
-    if c < b'0' {
-        16
-    } else if c <= b'9' {
-        (c - b'0') as u32
-    } else if c < b'a' {
-        16
-    } else if c <= b'f' {
-        (c - b'a') as u32 + 10
-    } else {
-        16
+    match c {
+        b'0'..=b'9' => Some((c - b'0') as u32),
+        b'a'..=b'f' => Some((c - b'a') as u32 + 10),
+        _ => None,
     }
 }
 
@@ -25,12 +19,8 @@ fn number(text: &[u8]) -> Option<u32>
     ensures { Spells text.now result }
 {
     let mut n: u32 = 0;
-    for i in 0..text.len() {
-        let d = digit(text[i]);
-        if d == 16 {
-            return None;
-        }
-        n = n * 16 + d;
+    for &byte in text {
+        n = n * 16 + digit(byte)?;
     }
     Some(n)
 }
@@ -61,9 +51,7 @@ pub fn parse(line: &[u8], words: &mut [u32]) -> Option<u32>
     if line.len() < 2 {
         return None;
     }
-    let Some(n) = number(&line[..2]) else {
-        return None;
-    };
+    let n = number(&line[..2])?;
     // The operations' numbers are those from 1 to 35.
     if n < 1 {
         return None;

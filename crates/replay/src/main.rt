@@ -9,55 +9,41 @@ mod outcome;
 mod tally;
 mod words;
 
-ghost use Rattle.std.specs.Prelude.{◌≡◌, ◌<◌, ◌≤◌, length};
+ghost use Rattle.std.specs.Prelude.{◌≡◌, ◌≤◌, length, IfSome};
 
 const STDIN: i32 = 0;
 
 const STDOUT: i32 = 1;
 
-#[derive(Clone, Copy)]
-struct Progress {
-    at: usize,
-    more: bool,
-}
-
-// Reads once. The line that was left without its end is the first `at` bytes of `line`.
-fn turn(line: &mut [u8], at: usize, cases: &mut [u64], misses: &mut [u64]) -> Progress
+// Reads once; None at the end of the input. The line that was left without its end is the first bytes of `line`, `at` before and as many as the answer says after.
+fn turn(line: &mut [u8], at: usize, cases: &mut [u64], misses: &mut [u64]) -> Option<usize>
     requires { (length line.old ≡ 256) × (at ≤ 256) × (36 ≤ length cases.old) × (36 ≤ length misses.old) }
-    ensures { result.at ≤ 256 }
+    ensures { IfSome result (λ left. left ≤ 256) }
 {
     let mut buf = io::large_buffer();
     let n = io::read_full(STDIN, &mut buf);
-    let left = tally::feed(&buf[..n], line, at, cases, misses);
-    Progress {
-        at: left,
-        more: n > 0,
+    if n == 0 {
+        return None;
     }
+    Some(tally::feed(&buf[..n], line, at, cases, misses))
 }
 
-// The turns that are left after one: none where there is no more to read.
-fn after(turns: u64, more: bool) -> u64
-    requires { 0 < turns }
-    ensures { result < turns }
-{
-    if more { turns - 1 } else { 0 }
-}
-
-// A proved loop has to end, and nothing says that the input does. So the loop counts its turns down, from a number that no run uses up.
+// A proved loop has to end, and nothing says that the input does. So the loop has a number of turns that no run uses up.
 fn replay(cases: &mut [u64], misses: &mut [u64])
     requires { (36 ≤ length cases.old) × (36 ≤ length misses.old) }
 {
     let mut line = [0u8; 256];
     let mut at: usize = 0;
-    let mut turns = u64::MAX;
-    while turns > 0 {
-        let t = turn(&mut line, at, cases, misses);
-        at = t.at;
-        turns = after(turns, t.more);
+    for _ in 0..u64::MAX {
+        let Some(left) = turn(&mut line, at, cases, misses) else {
+            break;
+        };
+        at = left;
     }
     tally::finish(at, cases);
 }
 
+// Printed by io's functions: std's `println!` takes the runtime, a handle that this program's `main` does not have.
 fn print_operation(number: usize, cases: u64, misses: u64) {
     io::print_hex(STDOUT, number as u64, 2);
     io::write_all(STDOUT, b" ");

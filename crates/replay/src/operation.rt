@@ -77,7 +77,7 @@ pub enum Operation {
     TransformBox,
 }
 
-// The operation that has the number.
+// The operation that has the number. `TryFrom` would be no plainer: the parser has refused all other numbers, and each caller would meet an Err that can't come.
 pub fn of_number(n: u32) -> Operation
     requires { (1 ≤ n) × (n ≤ 35) }
     ensures { n ≡ number_of result }
@@ -121,7 +121,7 @@ pub fn of_number(n: u32) -> Operation
     }
 }
 
-// How many words the operation of a number takes. Number 0 has none.
+// How many words the operation of a number takes. Number 0 has none. A table by number: a `match` on the operation would be no plainer, with an arm for each step that differs.
 const INPUTS: [usize; 36] = [
     0, 1, 2, 2, 2, 2, 2, 2, 2, 1, 1, 1, 1, 1, 3, 3, 6, 6, 6, 19, 19, 22, 1, 1, 2, 2, 6, 6, 6, 6, 6,
     6, 3, 3, 4, 4,

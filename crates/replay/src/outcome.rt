@@ -7,6 +7,7 @@ ghost use Rattle.replay.specs.Outcomes.{Holds, Words, Agrees, Judged};
 use crate::answer::Answer;
 use crate::operation::Operation;
 
+// No Result: a mismatch is a finding of this program and a line that is no case is one too, so that neither is the failure of a call.
 #[derive(Clone, Copy)]
 pub enum Outcome {
     Match(u32),
@@ -14,30 +15,15 @@ pub enum Outcome {
     Bad,
 }
 
-// Whether two slices are the same.
-fn same(a: &[u32], b: &[u32]) -> bool
-    ensures { Holds (a.now ≡ b.now) result }
-{
-    if a.len() != b.len() {
-        return false;
-    }
-    for i in 0..a.len() {
-        if a[i] != b[i] {
-            return false;
-        }
-    }
-    true
-}
-
 // Whether these are the answer's words.
 fn gives(a: Answer, words: &[u32]) -> bool
     ensures { Holds (words.now ≡ words_of a) result }
 {
     match a {
-        Answer::One(x) => same(words, &[x]),
-        Answer::Three(x, y, z) => same(words, &[x, y, z]),
-        Answer::Four(x, y, z, w) => same(words, &[x, y, z, w]),
-        Answer::Six(x, y, z, u, v, w) => same(words, &[x, y, z, u, v, w]),
+        Answer::One(x) => words == [x].as_slice(),
+        Answer::Three(x, y, z) => words == [x, y, z].as_slice(),
+        Answer::Four(x, y, z, w) => words == [x, y, z, w].as_slice(),
+        Answer::Six(x, y, z, u, v, w) => words == [x, y, z, u, v, w].as_slice(),
     }
 }
 

@@ -8,7 +8,7 @@ use crate::outcome::Outcome;
 fn one_more(n: u64) -> u64
     ensures { result ≡ one_more n }
 {
-    if n < u64::MAX { n + 1 } else { n }
+    n.saturating_add(1)
 }
 
 fn bump(counts: &mut [u64], place: usize)
@@ -59,8 +59,8 @@ pub fn feed(text: &[u8], line: &mut [u8], at: usize, cases: &mut [u64], misses: 
         (state_of (take result line.new) cases.new misses.new) }
 {
     let mut length = at;
-    for i in 0..text.len() {
-        length = step(line, length, text[i], cases, misses);
+    for &byte in text {
+        length = step(line, length, byte, cases, misses);
     }
     length
 }
@@ -80,8 +80,8 @@ pub fn total(counts: &[u64]) -> u64
     ensures { result ≡ total_from 0 counts.now }
 {
     let mut sum: u64 = 0;
-    for i in 0..counts.len() {
-        sum = std::num::wrapping_add_u64(sum, counts[i]);
+    for &count in counts {
+        sum = sum.wrapping_add(count);
     }
     sum
 }

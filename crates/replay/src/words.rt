@@ -28,15 +28,11 @@ pub fn ordering(o: Ordering) -> u32
 pub fn signed(n: i32) -> u32
     ensures { result ≡ signed_word n }
 {
-    if n >= 0 {
-        n as u32
-    } else {
-        0xffff_ffff - ((-1 - n) as u32)
-    }
+    n.cast_unsigned()
 }
 
 pub fn signed_short(n: i16) -> u32
     ensures { result ≡ signed_word n }
 {
-    signed(n as i32)
+    signed(i32::from(n))
 }
