@@ -91,6 +91,7 @@ fn index_all(
 }
 
 // The same, with a table of its own: by a number's byte, 1 and the place of its material, 0 until it comes; and behind them the marks.
+// Numbers and no Options: places and marks lie in one array of words, cleared at once.
 pub fn dedupe(
     numbers: &[u8],
     n: usize,
