@@ -1,10 +1,9 @@
 -- What the C interface answers of a walk. Definitions only.
-use Rattle.std.specs.Prelude.{◌≡◌, ℕ, List, Result}
+use Rattle.std.specs.Prelude.{◌≡◌, ℕ, List}
 use Rattle.base.specs.Lists.{over}
 use Rattle.walk.specs.declared.slices.Counts.{Counts}
-use Rattle.walk.specs.declared.slices.Refused.{Refused}
 use Rattle.walk_steps.specs.declared.state.Sizes.{Sizes}
-use Rattle.walk.specs.Walks.{Outcome, number_of, counts_of}
+use Rattle.walk.specs.Walks.{Walk, Outcome, number_of, counts_of}
 use Rattle.answers.specs.declared.walks.WalkAnswer.{WalkAnswer}
 
 -- how many nodes, trees and items there are
@@ -15,7 +14,7 @@ unfoldable pub counted : ℕ → Counts → WalkAnswer
 counted n c = record { refusal = n; reads = c.reads; handed = c.handed }
 
 -- Rule W9 (01, What each operation turns down): the number and the counts of each answer.
-abbrev pub walk_answer : Result Counts Refused → WalkAnswer
+abbrev pub walk_answer : Walk → WalkAnswer
 walk_answer w = counted (number_of w) (counts_of w)
 
 -- Rule W9 (01: the output keeps what was handed out before, the rest is unchanged): the answer r, and the output whole.

@@ -1,6 +1,6 @@
 -- Point 3 of the request for a composite's tree, from the contracts of `composite_tree` and of a walk alone: a composite's tree is a build at threshold 1
 -- over its children's items, so tree's PointThree speaks of it, and a position is a child's place.
-use Rattle.std.specs.Prelude.{◌≡◌, ℕ, ◌*◌, ◌<◌, Bool, true, false, cond, ltb, List, [], ◌∷◌, length, take, drop, Ok, Err, Result}
+use Rattle.std.specs.Prelude.{◌≡◌, ℕ, ◌*◌, ◌<◌, Bool, true, false, cond, ltb, List, [], ◌∷◌, length, take, drop, Ok, Err}
 use native.Mathlib.Omega.{arith}
 use mathlib.Core.List.{Memᴰ}
 use mathlib.Core.Path.{refl, sym, ap, ap₂, ◌∙◌, subst}
@@ -16,9 +16,8 @@ use Rattle.bvh.specs.declared.slices.BuildRefusal.TheVariants.{TooManyEntries, B
 use Rattle.bvh.specs.declared.slices.BuiltTree.{BuiltTree}
 use Rattle.bvh.specs.declared.slices.Lengths.{Lengths}
 use Rattle.walk_steps.specs.Boxes.{meets_box}
-use Rattle.walk.specs.Walks.{Outcome, walk_of, counts_of, Promise}
+use Rattle.walk.specs.Walks.{Walk, Outcome, walk_of, counts_of, Promise}
 use Rattle.walk.specs.declared.slices.Counts.{Counts}
-use Rattle.walk.specs.declared.slices.Refused.{Refused as RefusedWalk}
 use Rattle.tree.specs.Pair.{outcome_of, box_values, Delivered}
 use Rattle.tree.specs.WellFormed.{WellFormed, items_at}
 use Rattle.tree.proofs.AnswerLaws.{refusal_numbered, Listed, items_listed}
@@ -91,7 +90,7 @@ module _ (n : ℕ) (ws : List ℕ) where
   unfolding child_entries entries_of
   entry_is_computed k h there = box_at_lem ws n k h there
 
-  module _ (query : Aabb) (b : BuiltTree) (after : Outputs) (out out' : List ℕ) (w : Result Counts RefusedWalk)
+  module _ (query : Aabb) (b : BuiltTree) (after : Outputs) (out out' : List ℕ) (w : Walk)
       (d : Delivered (child_entries n ws) 1 query b after (length out) (outcome_of (child_entries n ws) 1 query b after (length out)))
       (f : WellFormed (child_entries n ws) 1 b after) (p : WalkedOver n query b after out out' w) where
     abbrev o : Outcome
@@ -139,7 +138,7 @@ module _ (n : ℕ) (ws : List ℕ) where
 -- Whatever the limit of children: a composite that has a tree, and a walk over that tree's records.
 pub composite_delivers : (limit n : ℕ) (ws : List ℕ) (l : Lengths) (before after : Outputs) (b : BuiltTree)
     → Answered limit n ws l (Tree (Ok b)) before after
-    → (query : Aabb) (out out' : List ℕ) (w : Result Counts RefusedWalk) → WalkedOver n query b after out out' w
+    → (query : Aabb) (out out' : List ℕ) (w : Walk) → WalkedOver n query b after out out' w
     → Delivers n ws query b after out out' w
 composite_delivers limit n ws l before after b a query out out' w p =
     let e = child_entries n ws in

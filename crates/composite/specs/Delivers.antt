@@ -1,14 +1,12 @@
 -- Point 3 of the request, of a composite's tree and a walk over its records. Definitions only.
-use Rattle.std.specs.Prelude.{◌≡◌, ℕ, ◌+◌, ◌<◌, ◌≤◌, true, cond, List, length, take, nat_lt, Result}
+use Rattle.std.specs.Prelude.{◌≡◌, ℕ, ◌+◌, ◌<◌, ◌≤◌, true, cond, List, length, take, nat_lt}
 use mathlib.Core.List.{Memᴰ}
 use Rattle.base.specs.Lists.{occurrences, over}
 use Rattle.math.specs.declared.aabb.Aabb.{Aabb}
 use Rattle.bvh.specs.Entry.{Outputs}
 use Rattle.bvh.specs.declared.slices.BuiltTree.{BuiltTree}
 use Rattle.walk_steps.specs.Boxes.{query_of, meets_box}
-use Rattle.walk.specs.Walks.{walk_of, number_of, counts_of, Promise}
-use Rattle.walk.specs.declared.slices.Counts.{Counts}
-use Rattle.walk.specs.declared.slices.Refused.{Refused}
+use Rattle.walk.specs.Walks.{Walk, walk_of, number_of, counts_of, Promise}
 use Rattle.tree.specs.Pair.{Ordinary}
 use Rattle.tree.specs.WellFormed.{WellFormed, FromLeaf}
 use Rattle.composite.specs.Children.{is_present, computed_box}
@@ -16,18 +14,18 @@ use Rattle.composite.specs.Trees.{child_entries}
 
 -- Rule P3, of a composite of n children whose tree b was built into `after`: the contract of a walk that is given its node and tree bytes unchanged, its
 -- cen and inverse, its node and tree counts without padding, and as item count the children, absent ones included.
-abbrev pub WalkedOver : ℕ → Aabb → BuiltTree → Outputs → List ℕ → List ℕ → Result Counts Refused → Type 0
+abbrev pub WalkedOver : ℕ → Aabb → BuiltTree → Outputs → List ℕ → List ℕ → Walk → Type 0
 WalkedOver n query b after out out' w =
     Promise
     (walk_of query b.scale.cen b.scale.inverse (record { nodes = b.nodes; trees = b.trees; items = n }) after.nodes after.trees (length out))
     out out' w
 
 -- the children that a walk handed out, by their places in the list: the first places of its output
-abbrev pub handed_out : List ℕ → Result Counts Refused → List ℕ
+abbrev pub handed_out : List ℕ → Walk → List ℕ
 handed_out out' w = take (counts_of w).handed out'
 
 -- Rules P4 and P5 (request, point 3) for the tree of a composite. At threshold 1 a position is a child's place in the list.
-pub record Delivers (n : ℕ) (ws : List ℕ) (query : Aabb) (b : BuiltTree) (after : Outputs) (out out' : List ℕ) (w : Result Counts Refused) : Type 0 where
+pub record Delivers (n : ℕ) (ws : List ℕ) (query : Aabb) (b : BuiltTree) (after : Outputs) (out out' : List ℕ) (w : Walk) : Type 0 where
   -- whatever the boxes: each present child in exactly one leaf, no leaf over one, each leaf in exactly one range, no range over 127 nodes
   pub well_formed : WellFormed (child_entries n ws) 1 b after
   -- the walk is refused with 2 exactly where the output is shorter than the children are many, and with nothing else

@@ -15,7 +15,6 @@ use crate::tally::Tally;
 use bvh::slices::BuiltTree;
 use math::aabb::Aabb;
 use std::num::wrapping_add_u64;
-use tree::pair::Found;
 use walk::slices::Counts;
 
 const STDOUT: i32 = 1;
@@ -48,7 +47,7 @@ fn verdict(
         reads,
         missed: met.missed,
         twice,
-        failures: if failed { 1 } else { 0 },
+        failures: failed as u64,
     }
 }
 
@@ -78,13 +77,13 @@ fn ask(list: &[u32; 4900], n: usize, threshold: u32, query: Aabb) -> Tally {
         &mut centres,
         &mut out,
     );
-    let Found::Walked(tree, walk) = found else {
+    let Ok(found) = found else {
         return Tally::refused();
     };
-    let Ok(counts) = walk else {
+    let Ok(counts) = found.walk else {
         return Tally::refused();
     };
-    verdict(list, query, threshold, tree, counts, &order, &out)
+    verdict(list, query, threshold, found.tree, counts, &order, &out)
 }
 
 // All queries over a list. They are drawn on from s.

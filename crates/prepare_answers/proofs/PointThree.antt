@@ -31,10 +31,9 @@ use Rattle.prepared_delivers.proofs.Prepared.{prepared_delivers}
 use Rattle.prepared_delivers.specs.Delivers as Mesh
 use Rattle.rebuild.specs.Rebuilding.{leaf_limit, tree_answer}
 use Rattle.tree.specs.WellFormed.{node_no, NodeNumbers}
-use Rattle.walk.specs.Walks.{Outcome, walk_of, unread, ended, too_many, too_short, status_number, walk_from}
+use Rattle.walk.specs.Walks.{Walk, Outcome, walk_of, unread, ended, too_many, too_short, status_number, walk_from}
 use Rattle.walk.specs.Walks as W
 use Rattle.walk.specs.declared.slices.Counts.{Counts}
-use Rattle.walk.specs.declared.slices.Refused.{Refused as RefusedWalk}
 use Rattle.walk_steps.specs.Boxes.{query_of}
 use Rattle.walk_steps.specs.Step.{Turn, lent_of, started}
 use Rattle.walk_steps.specs.declared.refusals.WalkRefusal.{WalkRefusal}
@@ -51,7 +50,7 @@ use Rattle.prepare_answers.specs.declared.PrepareAnswer.{PrepareAnswer}
 -- ---- an outcome of a walk is some walk's
 
 record SomeWalk (o : Outcome) : Type 0 where
-  walk : Result Counts RefusedWalk
+  walk : Walk
   number_is : W.number_of walk ≡ o.number
   counts_are : W.counts_of walk ≡ o.counts
 

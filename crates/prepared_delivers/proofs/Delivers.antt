@@ -1,6 +1,6 @@
 -- Point 3 of the request for a prepared mesh with a tree, from the contracts of `shape_bvh` and of a walk alone: the tree is a build at threshold 4 over
 -- the polygons' boxes, so tree's PointThree speaks of it; a position is a polygon's number in the prepared list (Orders, Boxes).
-use Rattle.std.specs.Prelude.{Ok, Result}
+use Rattle.std.specs.Prelude.{Ok}
 use Prim.Native.Nat.{ℕ, ◌+◌, ◌*◌, ◌≤◌, ◌<◌}
 use native.Mathlib.Omega.{arith}
 use mathlib.Core.Bool.{Bool, true, false, cond}
@@ -30,9 +30,8 @@ use Rattle.tree.proofs.AnswerLaws.{built_passed}
 use Rattle.tree.proofs.PointThree.{records_well_formed, walk_delivers}
 use Rattle.tree.specs.Pair.{outcome_of, box_values, Delivered}
 use Rattle.tree.specs.WellFormed.{items_at}
-use Rattle.walk.specs.Walks.{Outcome, walk_of, counts_of, Promise}
+use Rattle.walk.specs.Walks.{Walk, Outcome, walk_of, counts_of, Promise}
 use Rattle.walk.specs.declared.slices.Counts.{Counts}
-use Rattle.walk.specs.declared.slices.Refused.{Refused}
 use Rattle.walk_steps.specs.Boxes.{meets_box}
 use Rattle.prepared_delivers.proofs.Boxes.{place_below, same_box, prepared_box}
 use Rattle.prepared_delivers.proofs.Places.{polygons_listed, as_many_listed, once_in_order, place_listed}
@@ -78,7 +77,7 @@ module _ (b : Bound) (p v : ℕ) (polygons vertices : List ℕ) (few : p ≤ 327
   order = leaves b p v polygons vertices
 
   module _ (build : Answered e leaf_limit (enough p) (Ok x) before after) (out₀ written : List ℕ)
-      (prepared : written ≡ over (polygons_of8 b p v polygons vertices) out₀) (query : Aabb) (out out' : List ℕ) (w : Result Counts Refused)
+      (prepared : written ≡ over (polygons_of8 b p v polygons vertices) out₀) (query : Aabb) (out out' : List ℕ) (w : Walk)
       (walk : WalkedOver p query x after out out' w) where
     abbrev o : Outcome
     o = outcome_of e leaf_limit query x after (length out)
@@ -180,7 +179,7 @@ module _ (b : Bound) (p v : ℕ) (polygons vertices : List ℕ) (few : p ≤ 327
       → after.trees ≡ over (trees_written (entries_of8 b p v polygons vertices) leaf_limit) before.trees
       → after.order ≡ over (order_written (entries_of8 b p v polygons vertices) leaf_limit) before.order
       → (out₀ written : List ℕ) → written ≡ over (polygons_of8 b p v polygons vertices) out₀
-      → (query : Aabb) (out out' : List ℕ) (w : Result Counts Refused) → WalkedOver p query x after out out' w
+      → (query : Aabb) (out out' : List ℕ) (w : Walk) → WalkedOver p query x after out out' w
       → Delivers b p v polygons vertices written query x after out out' w
   of_tree answer nodes trees places =
       let same = entries_given b p v polygons vertices records in
@@ -198,7 +197,7 @@ module _ (b : Bound) (p v : ℕ) (polygons vertices : List ℕ) (few : p ≤ 327
 pub shape_delivers : (b : Bound) (p v : ℕ) (polygons numbers vertices out₀ out₁ : List ℕ) (before after : Outputs) (sorted : List ℕ) (x : BuiltTree)
     → p ≤ 32767 → 16 * p ≤ length polygons → ((i : ℕ) → get_or polygons i 0 < 256)
     → BvhShaped b p v polygons numbers vertices out₀ out₁ before after sorted (Ok x)
-    → (query : Aabb) (out out' : List ℕ) (w : Result Counts Refused) → WalkedOver p query x after out out' w
+    → (query : Aabb) (out out' : List ℕ) (w : Walk) → WalkedOver p query x after out out' w
     → Delivers b p v polygons vertices out₁ query x after out out' w
 shape_delivers b p v polygons numbers vertices out₀ out₁ before after sorted x few records each s =
     of_tree b p v polygons vertices few records each x before after s.answer s.nodes_are s.trees_are s.order_is out₀ out₁

@@ -29,8 +29,7 @@ use Rattle.prepared.specs.declared.Prepared.{Prepared}
 use Rattle.prepared.specs.declared.Prepared.TheVariants.{Geometry, Bvh, Empty}
 use Rattle.prepared.specs.declared.Values.{Values}
 use Rattle.rebuild.specs.Rebuilding.{leaf_limit, tree_answer}
-use Rattle.walk.specs.declared.slices.Counts.{Counts}
-use Rattle.walk.specs.declared.slices.Refused.{Refused as RefusedWalk}
+use Rattle.walk.specs.Walks.{Walk}
 use Rattle.prepared_delivers.proofs.Delivers.{of_tree}
 use Rattle.prepared_delivers.specs.Delivers.{WalkedOver, Delivers}
 
@@ -127,7 +126,7 @@ module _ (g : Mesh) (l : Lengths) (x : BuiltTree) (t : Told g l x) where
 pub prepared_delivers : (g : Mesh) (b b' : Lists) (before after : Outputs) (work : BvhWork) (others : GeometryLengths) (values : Values) (x : BuiltTree)
     → ((i : ℕ) → get_or g.polygons i 0 < 256)
     → BvhAnswered g (bvh_lengths g b before work others) (Ok (Bvh values x)) b b' before after
-    → (query : Aabb) (out out' : List ℕ) (w : Result Counts RefusedWalk) → WalkedOver g.counts.polygons query x after out out' w
+    → (query : Aabb) (out out' : List ℕ) (w : Walk) → WalkedOver g.counts.polygons query x after out out' w
     → Delivers g.bound g.counts.polygons g.counts.vertices g.polygons g.vertices b'.polygons query x after out out' w
 prepared_delivers g b b' before after work others values x each a =
     let l = bvh_lengths g b before work others in

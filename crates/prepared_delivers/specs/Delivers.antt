@@ -1,5 +1,5 @@
 -- Point 3 of the request, of a prepared mesh with a tree and a walk over its records. Definitions only.
-use Rattle.std.specs.Prelude.{ℕ, ◌+◌, ◌*◌, ◌≤◌, ◌<◌, true, cond, ◌≡◌, ltb, length, get_or, take, Result}
+use Rattle.std.specs.Prelude.{ℕ, ◌+◌, ◌*◌, ◌≤◌, ◌<◌, true, cond, ◌≡◌, ltb, length, get_or, take}
 use mathlib.Core.List.{List, Memᴰ}
 use Rattle.base.specs.Lists.{occurrences, over}
 use Rattle.bvh.specs.Build.{Entries}
@@ -15,21 +15,19 @@ use Rattle.polygon_boxes.specs.declared.PolygonBox.{PolygonBox}
 use Rattle.rebuild.specs.Rebuilding.{leaf_limit, polygon_entries}
 use Rattle.tree.specs.Pair.{Ordinary}
 use Rattle.tree.specs.WellFormed.{WellFormed, FromLeaf}
-use Rattle.walk.specs.Walks.{walk_of, number_of, counts_of, Promise}
-use Rattle.walk.specs.declared.slices.Counts.{Counts}
-use Rattle.walk.specs.declared.slices.Refused.{Refused}
+use Rattle.walk.specs.Walks.{Walk, walk_of, number_of, counts_of, Promise}
 use Rattle.walk_steps.specs.Boxes.{query_of, meets_box}
 
 -- Rule P3, of p polygons whose tree x was written into `after`: the contract of a walk that is given its node and tree bytes unchanged, its cen and
 -- inverse, its node and tree counts without padding, and as item count the polygons.
-abbrev pub WalkedOver : ℕ → Aabb → BuiltTree → Outputs → List ℕ → List ℕ → Result Counts Refused → Type 0
+abbrev pub WalkedOver : ℕ → Aabb → BuiltTree → Outputs → List ℕ → List ℕ → Walk → Type 0
 WalkedOver p query x after out out' w =
     Promise
     (walk_of query x.scale.cen x.scale.inverse (record { nodes = x.nodes; trees = x.trees; items = p }) after.nodes after.trees (length out))
     out out' w
 
 -- the numbers in the prepared list that a walk handed out: the first places of its output
-abbrev pub handed_out : List ℕ → Result Counts Refused → List ℕ
+abbrev pub handed_out : List ℕ → Walk → List ℕ
 handed_out out' w = take (counts_of w).handed out'
 
 -- a polygon's box as floats
@@ -47,7 +45,7 @@ given_entries b p v polygons vertices = polygon_entries b.transform b.center p v
 -- Rules P4 and P5 (request, point 3) for a mesh of p polygons with the tree x, whose prepared records stand first in `records`. A polygon has two
 -- numbers: a given one, its place in the list as given, and a prepared one, its place in the prepared list. Positions of leaves are prepared numbers.
 pub record Delivers (b : Bound) (p v : ℕ) (polygons vertices records : List ℕ) (query : Aabb) (x : BuiltTree) (after : Outputs)
-    (out out' : List ℕ) (w : Result Counts Refused) : Type 0 where
+    (out out' : List ℕ) (w : Walk) : Type 0 where
   -- whatever the boxes: each polygon in exactly one leaf, no leaf over four, each leaf in exactly one range, no range over 127 nodes; by given numbers
   pub well_formed : WellFormed (given_entries b p v polygons vertices) leaf_limit x after
   pub each_polygon_is_present : x.present ≡ p

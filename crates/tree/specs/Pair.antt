@@ -1,5 +1,5 @@
 -- Point 3 of the request, as one statement about a build and the walk over its records. Definitions only.
-use Rattle.std.specs.Prelude.{◌≡◌, ℕ, ◌+◌, ◌<◌, ◌≤◌, true, cond, T, ◌⊎◌, List, length, nat_lt, Ok, Err}
+use Rattle.std.specs.Prelude.{◌≡◌, ℕ, ◌+◌, ◌<◌, ◌≤◌, true, cond, T, ◌⊎◌, List, length, nat_lt, Result, Ok, Err}
 use mathlib.Core.List.{Memᴰ}
 use Rattle.std.specs.Prelude.{Float}
 use Rattle.std.specs.Float.Ieee.{le, eq}
@@ -11,13 +11,13 @@ use Rattle.records.specs.Axis.{extent, largest, smallest, nought}
 use Rattle.entries.specs.Ends.{low, high, Proper, Bounded, Each}
 use Rattle.entries.specs.Folding.{fold_box}
 use Rattle.entries.specs.declared.boxes.BoxWords.{BoxWords}
+use Rattle.bvh.specs.declared.slices.BuildRefusal.{BuildRefusal}
 use Rattle.bvh.specs.declared.slices.BuiltTree.{BuiltTree}
 use Rattle.bvh.specs.Build.{Build, Entries, refusal_number, answer_of}
 use Rattle.bvh.specs.Entry.{Outputs, Lent, lengths_of, Answered}
 use Rattle.walk_steps.specs.Boxes.{query_of, meets_box}
 use Rattle.walk.specs.Walks.{Outcome, walk_of, number_of, Promise}
 use Rattle.tree.specs.declared.pair.Found.{Found}
-use Rattle.tree.specs.declared.pair.Found.TheVariants.{Unbuilt, Walked}
 use Rattle.tree.specs.WellFormed.{count_for, items_at, FromLeaf, WellFormed}
 
 -- ---- what the walk is given
@@ -69,14 +69,14 @@ pub record Delivered (e : Entries) (th : ℕ) (query : Aabb) (b : BuiltTree) (af
 -- ---- the statement
 
 -- the build that an answer tells of
-abbrev pub build_in : Found → Build
-build_in (Unbuilt why) = Err why
-build_in (Walked b w) = Ok b
+abbrev pub build_in : Result Found BuildRefusal → Build
+build_in (Err why) = Err why
+build_in (Ok f) = Ok f.tree
 
 -- 01's number of each answer, 0 where nothing is refused: the build's refusal, or the walk's number.
-abbrev pub found_number : Found → ℕ
-found_number (Unbuilt why) = refusal_number why
-found_number (Walked b w) = number_of w
+abbrev pub found_number : Result Found BuildRefusal → ℕ
+found_number (Err why) = refusal_number why
+found_number (Ok f) = number_of f.walk
 
 -- Rule P5: the number of a pair by its build. A walk over what was built is refused where the output, of so many places, is shorter than the item count, and never else.
 abbrev pub pair_number : ℕ → ℕ → ℕ → Build → ℕ
@@ -84,13 +84,13 @@ pair_number th entries room (Err why) = refusal_number why
 pair_number th entries room (Ok b) = cond (nat_lt room (count_for th entries b.present)) 2 0
 
 -- Rule P5: a refused build is not walked, and the output keeps what it had; any other is walked, which comes to `outcome_of`.
-abbrev pub WalkAfter : Entries → ℕ → Aabb → Outputs → List ℕ → List ℕ → Found → Type 0
-WalkAfter e th query after out out' (Unbuilt why) = out' ≡ out
-WalkAfter e th query after out out' (Walked b w) = Promise (outcome_of e th query b after (length out)) out out' w
+abbrev pub WalkAfter : Entries → ℕ → Aabb → Outputs → List ℕ → List ℕ → Result Found BuildRefusal → Type 0
+WalkAfter e th query after out out' (Err why) = out' ≡ out
+WalkAfter e th query after out out' (Ok f) = Promise (outcome_of e th query f.tree after (length out)) out out' f.walk
 
 -- Rule P5 (request, point 3), whole, of a build and the walk over its records: 01's number, by what was lent alone; what each of the two is;
 -- and, if the build is not refused, that its records are well formed whatever the boxes, and what the walk delivers.
-pub record Paired (e : Entries) (th : ℕ) (query : Aabb) (given : Lent) (before after : Outputs) (out out' : List ℕ) (r : Found) : Type 0 where
+pub record Paired (e : Entries) (th : ℕ) (query : Aabb) (given : Lent) (before after : Outputs) (out out' : List ℕ) (r : Result Found BuildRefusal) : Type 0 where
   pub number_is : found_number r ≡ pair_number th e.number (length out) (answer_of e th (lengths_of before given))
   pub build_is : Answered e th (lengths_of before given) (build_in r) before after
   pub walk_is : WalkAfter e th query after out out' r

@@ -12,11 +12,11 @@ use rows::ranges::RANGE_LIMIT;
 use walk::slices::{Counts, Refused};
 use walk_steps::state::Sizes;
 
-// A build that is refused leaves nothing to walk. Any other is walked: what was built, and how the walk over its records ended.
+// What was built, and how the walk over its records ended.
 #[derive(Clone, Copy)]
-pub enum Found {
-    Unbuilt(BuildRefusal),
-    Walked(BuiltTree, Result<Counts, Refused>),
+pub struct Found {
+    pub tree: BuiltTree,
+    pub walk: Result<Counts, Refused>,
 }
 
 // As item count the entries at threshold 1, else the present items.
@@ -46,7 +46,8 @@ pub fn item_at(position: Position, threshold: u32, order: &[u16]) -> Place
     place_of(order[at])
 }
 
-// The tree of the present ones among n entries, seven words each, and which positions of its order the query may meet, into the first places of `out`.
+// The tree of the present ones among n entries, seven words each, and which positions of its order the query may meet, into the first places of
+// `out`. A build that is refused leaves nothing to walk.
 pub fn build_and_walk(
     n: usize,
     threshold: u32,
@@ -61,14 +62,14 @@ pub fn build_and_walk(
     rows: &mut [u32],
     centres: &mut [f32],
     out: &mut [u16],
-) -> Found
+) -> Result<Found, BuildRefusal>
     ensures { Paired (entries_in n (take (7 * n) entries.now)) threshold query
         (lent entries.now places.old temp.old stack.old rows.old centres.old)
         (outputs node_bytes.old tree_bytes.old order.old)
         (outputs node_bytes.new tree_bytes.new order.new)
         out.old out.new result }
 {
-    let built = bvh::slices::build_core(
+    let tree = bvh::slices::build_core(
         n,
         threshold,
         RANGE_LIMIT,
@@ -81,26 +82,21 @@ pub fn build_and_walk(
         stack,
         rows,
         centres,
+    )?;
+    let sizes = Sizes {
+        nodes: tree.nodes,
+        trees: tree.trees,
+        items: item_count(threshold, n, tree.present),
+    };
+    let scale = tree.scale;
+    let walked = walk::entry::walk_bvh(
+        query,
+        scale.cen,
+        scale.inverse,
+        sizes,
+        node_bytes,
+        tree_bytes,
+        out,
     );
-    match built {
-        Err(why) => Found::Unbuilt(why),
-        Ok(tree) => {
-            let sizes = Sizes {
-                nodes: tree.nodes,
-                trees: tree.trees,
-                items: item_count(threshold, n, tree.present),
-            };
-            let scale = tree.scale;
-            let walked = walk::entry::walk_bvh(
-                query,
-                scale.cen,
-                scale.inverse,
-                sizes,
-                node_bytes,
-                tree_bytes,
-                out,
-            );
-            Found::Walked(tree, walked)
-        }
-    }
+    Ok(Found { tree, walk: walked })
 }

@@ -1,5 +1,5 @@
 -- What `slices::walk_core` answers, by the outcome of its checks.
-use Rattle.std.specs.Prelude.{◌≡◌, ℕ, ◌*◌, ◌≤◌, true, false, ◌||◌, ltb, List, length, Result}
+use Rattle.std.specs.Prelude.{◌≡◌, ℕ, ◌*◌, ◌≤◌, true, false, ◌||◌, ltb, List, length}
 use mathlib.Core.Path.{refl, ap, subst, ◌∙◌}
 use native.Mathlib.Omega.{arith}
 use lib.Dec.{lit<}
@@ -10,11 +10,9 @@ use Rattle.math.specs.declared.aabb.Aabb.{Aabb}
 use Rattle.math.specs.declared.vec3.Vec3.{Vec3}
 use Rattle.walk_steps.specs.Boxes.{query_of}
 use Rattle.walk_steps.specs.Step.{Lent, lent_of, started}
-use Rattle.walk.specs.Walks.{walk_from, status_number, number_of, counts_of, unread, ended, too_many, too_short, walk_of, Outcome, Promise}
+use Rattle.walk.specs.Walks.{Walk, walk_from, status_number, number_of, counts_of, unread, ended, too_many, too_short, walk_of, Outcome, Promise}
 use Rattle.walk_steps.specs.Steps.Contracts.{Steppable, Ran}
 use Rattle.walk_steps.specs.declared.boxes.Query.{Query}
-use Rattle.walk.specs.declared.slices.Counts.{Counts}
-use Rattle.walk.specs.declared.slices.Refused.{Refused}
 use Rattle.walk_steps.specs.declared.refusals.WalkRefusal.TheVariants.{TooMany, BufferTooShort}
 use Rattle.walk_steps.specs.declared.state.Sizes.{Sizes}
 use Rattle.walk_steps.specs.declared.state.WalkState.{WalkState}
@@ -70,12 +68,12 @@ module _ (box : Aabb) (cen inverse : Vec3) (z : Sizes) (nodes trees out : List �
   abbrev lent : Lent
   lent = lent_of (query_of box cen inverse) z nodes trees
 
-  pub many : (r : Result Counts Refused) → too_many z ≡ true → number_of r ≡ (unread TooMany).number → counts_of r ≡ (unread TooMany).counts → Promise outcome out out r
+  pub many : (r : Walk) → too_many z ≡ true → number_of r ≡ (unread TooMany).number → counts_of r ≡ (unread TooMany).counts → Promise outcome out out r
   unfolding walk_of
   many r e n c = rw e (record { number_is = n; counts_are = c; output_is = refl })
 
   module _ (e : too_many z ≡ false) where
-    pub short : (r : Result Counts Refused) → too_short z (length nodes) (length trees) (length out) ≡ true
+    pub short : (r : Walk) → too_short z (length nodes) (length trees) (length out) ≡ true
         → number_of r ≡ (unread BufferTooShort).number → counts_of r ≡ (unread BufferTooShort).counts → Promise outcome out out r
     unfolding walk_of
     short r s n c = rw (e, s) (record { number_is = n; counts_are = c; output_is = refl })
@@ -90,7 +88,7 @@ module _ (box : Aabb) (cen inverse : Vec3) (z : Sizes) (nodes trees out : List �
           let p = ready z nodes trees out e s in
           omega (arith, walk_handed lent started, walk_within lent started p.fits.handed_in, p.places)
 
-      pub answered : (q : Query) (u : WalkState) (out' : List ℕ) (r : Result Counts Refused) → q ≡ query_of box cen inverse
+      pub answered : (q : Query) (u : WalkState) (out' : List ℕ) (r : Walk) → q ≡ query_of box cen inverse
           → Ran (walk_from (lent_of q z nodes trees) started) out out' u
           → number_of r ≡ status_number u.status → counts_of r ≡ record { reads = u.reads; handed = u.handed } → Promise outcome out out' r
       answered q u out' r k p a b =

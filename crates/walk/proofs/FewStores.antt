@@ -26,7 +26,7 @@ store l o from id k i e h j = go (ltb i k) refl
         let s : k ≡ i = omega arith in
         ap (λ (m : List ℕ). set m (from + i) (id + i)) (e ∙ ap (λ (m : ℕ). sets l from (up_from id m)) s) ∙ up_stored l from id i
 
-pub four_stored : (l o₁ o₂ o₃ o₄ : List ℕ) (from id n a b : ℕ) → 1 ≤ n → n ≤ 4 → a ≡ min 1 (n - 1) → b ≡ min 2 (n - 1)
+pub four_stored : (l o₁ o₂ o₃ o₄ : List ℕ) (from id n a b : ℕ) → 1 ≤ n → n ≤ 4 → a ≡ min (n - 1) 1 → b ≡ min (n - 1) 2
     → o₁ ≡ set l (from + 0) (id + 0) → o₂ ≡ set o₁ (from + a) (id + a) → o₃ ≡ set o₂ (from + b) (id + b)
     → o₄ ≡ set o₃ (from + (n - 1)) (id + (n - 1)) → o₄ ≡ sets l from (up_from id n)
 four_stored l o₁ o₂ o₃ o₄ from id n a b h j ea eb e₁ e₂ e₃ e₄ =

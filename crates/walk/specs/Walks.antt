@@ -59,13 +59,17 @@ abbrev pub status_number : Result (Unit {0}) WalkRefusal → ℕ
 status_number (Ok u) = 0
 status_number (Err r) = refusal_number r
 
+-- What a walk answers: the counts, or why it is refused and the counts so far.
+abbrev pub Walk : Type 0
+Walk = Result Counts Refused
+
 -- 01's number of each answer, 0 where it is not refused
-abbrev pub number_of : Result Counts Refused → ℕ
+abbrev pub number_of : Walk → ℕ
 number_of (Ok c) = 0
 number_of (Err e) = refusal_number e.refusal
 
 -- the counts that an answer carries; before reading they are 0
-abbrev pub counts_of : Result Counts Refused → Counts
+abbrev pub counts_of : Walk → Counts
 counts_of (Ok c) = c
 counts_of (Err e) = e.counts
 
@@ -104,7 +108,7 @@ walk_of box cen inverse z nodes trees room =
     (ended (walk_from (lent_of (query_of box cen inverse) z nodes trees) started)))
 
 -- Rule W9 (01: the output keeps what was handed out before, the rest is unchanged): what an answer r and the output at exit promise.
-pub record Promise (o : Outcome) (out out' : List ℕ) (r : Result Counts Refused) : Type 0 where
+pub record Promise (o : Outcome) (out out' : List ℕ) (r : Walk) : Type 0 where
   pub number_is : number_of r ≡ o.number
   pub counts_are : counts_of r ≡ o.counts
   pub output_is : out' ≡ over o.given out

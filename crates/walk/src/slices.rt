@@ -60,8 +60,8 @@ fn hand_few(out: &mut [u16], from: usize, first: Position, n: usize)
 {
     let last = n - 1;
     put_one(out, from, first, 0);
-    put_one(out, from, first, walk_steps::state::lesser(1, last));
-    put_one(out, from, first, walk_steps::state::lesser(2, last));
+    put_one(out, from, first, last.min(1));
+    put_one(out, from, first, last.min(2));
     put_one(out, from, first, last);
 }
 
@@ -206,7 +206,7 @@ pub fn run(
 {
     let lanes = walk_steps::boxes::lanes_of(query);
     let start = WalkState::start();
-    let few = walk_steps::state::lesser(sizes.trees, 1024);
+    let few = sizes.trees.min(1024);
     let s = read_trees(start, few, lanes, sizes, node_bytes, tree_bytes, out);
     if few < sizes.trees {
         return read_trees(s, sizes.trees, lanes, sizes, node_bytes, tree_bytes, out);

@@ -1,7 +1,7 @@
 -- An i16 as the machine reads it from its bits, and as a number of things. Assumes nothing.
 use mathlib.Core.Path.{◌≡◌, refl, sym, ap, ap₂, subst, ◌∙◌}
 use mathlib.Core.Bool.{Bool, true, false, ◌&&◌}
-use Prim.Native.Nat.{ℕ, ◌≤◌, ◌<◌, max}
+use Prim.Native.Nat.{ℕ, ◌<◌}
 use native.Mathlib.Omega.{arith}
 use lib.Dec.{T}
 use lib.IntN.{ℤ, pos, negsuc, nat_abs}
@@ -52,10 +52,3 @@ whole_below (negsuc n) e = refl
 pub whole_is : (v : ℤ) → SFits w16 v → lt_z v (pos 0) ≡ false → (nat_abs v ≡ whole v) × (nat_abs v < 32768)
 whole_is (pos n) h e = (refl, h.sfits)
 whole_is (negsuc n) h e = absurd (subst T e tt)
-
--- the two cases of max(id, 1)
-pub max_above : (r n : ℕ) → r ≡ n → 1 < r → r ≡ max n 1
-max_above r n e h = omega arith
-
-pub max_one : (r n : ℕ) → r ≡ n → r ≤ 1 → 1 ≡ max n 1
-max_one r n e h = omega arith

@@ -25,8 +25,7 @@ pub fn number(v: i16) -> usize
 pub fn skip(id: i16) -> usize
     ensures { (result ≡ max (whole id) 1) × (result < 32768) }
 {
-    let n = number(id);
-    if 1 < n { n } else { 1 }
+    number(id).max(1)
 }
 
 // Refusal 9.

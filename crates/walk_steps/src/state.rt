@@ -1,6 +1,6 @@
 // A walk's state goes in by value and comes back one record further, with its read count and the run of positions that it hands out.
 // A step stores nothing.
-ghost use Rattle.std.specs.Prelude.{◌≡◌, true, ◌+◌, ◌*◌, ◌≤◌, ◌<◌, min, length};
+ghost use Rattle.std.specs.Prelude.{◌≡◌, true, ◌+◌, ◌*◌, ◌≤◌, ◌<◌, length};
 ghost use Rattle.records.specs.Records.{node_at, tree_at};
 ghost use Rattle.walk_steps.specs.Step.{lent_of, quiet, refused, at_tree, stride_of, leaf_status, handing, started, at_node, more, step_of};
 ghost use Rattle.walk_steps.specs.Steps.Contracts.{Steppable, Stepped, ahead_at, inside_range};
@@ -48,12 +48,6 @@ fn quiet(state: WalkState) -> Step
         first: Position(0),
         count: 0,
     }
-}
-
-pub fn lesser(a: usize, b: usize) -> usize
-    ensures { result ≡ min a b }
-{
-    if b < a { b } else { a }
 }
 
 // Refusal 11, where a node has more positions than there is room for.
@@ -188,7 +182,7 @@ impl WalkState {
         let id = crate::refusals::number(n.item_id);
         let count = crate::refusals::number(n.item_count);
         let room = items - self.handed;
-        let m = lesser(count, room);
+        let m = count.min(room);
         let status = leaf_status(room, count);
         Step {
             state: WalkState {

@@ -1,5 +1,5 @@
 -- What `pair::build_and_walk` promises, from what the build and the walk do.
-use Rattle.std.specs.Prelude.{◌≡◌, ℕ, List, length, Ok, Err, Result}
+use Rattle.std.specs.Prelude.{◌≡◌, ℕ, List, length, Ok, Err}
 use native.Mathlib.Omega.{arith}
 use mathlib.Core.Path.{refl, ap, subst, ◌∙◌}
 use Rattle.math.specs.declared.aabb.Aabb.{Aabb}
@@ -7,16 +7,13 @@ use Rattle.bvh.specs.declared.slices.BuildRefusal.{BuildRefusal}
 use Rattle.bvh.specs.declared.slices.BuiltTree.{BuiltTree}
 use Rattle.bvh.specs.Build.{Build, Entries, refusal_number, number_of}
 use Rattle.bvh.specs.Entry.{entries_in, Outputs, Lent, lengths_of, Answered}
-use Rattle.walk.specs.Walks.{Outcome, walk_of, Promise}
-use Rattle.walk.specs.declared.slices.Counts.{Counts}
-use Rattle.walk.specs.declared.slices.Refused.{Refused as RefusedWalk}
-use Rattle.tree.specs.declared.pair.Found.TheVariants.{Unbuilt, Walked}
+use Rattle.walk.specs.Walks.{Walk, Outcome, walk_of, Promise}
 use Rattle.tree.specs.Pair.{outcome_of, Delivered, pair_number, Paired}
 use Rattle.tree.specs.WellFormed.{count_for}
 use Rattle.tree.proofs.AnswerLaws.{refusal_numbered, words_listed}
 use Rattle.tree.proofs.PointThree.{records_well_formed, walk_delivers}
 
-module _ (n th : ℕ) (ws : List ℕ) (query : Aabb) (given : Lent) (before after : Outputs) (out out' : List ℕ) (b : BuiltTree) (w : Result Counts RefusedWalk) where
+module _ (n th : ℕ) (ws : List ℕ) (query : Aabb) (given : Lent) (before after : Outputs) (out out' : List ℕ) (b : BuiltTree) (w : Walk) where
   abbrev e : Entries
   e = entries_in n ws
 
@@ -26,7 +23,7 @@ module _ (n th : ℕ) (ws : List ℕ) (query : Aabb) (given : Lent) (before afte
       walk_of query b.scale.cen b.scale.inverse (record { nodes = b.nodes; trees = b.trees; items = items }) after.nodes after.trees (length out)
 
   walked : Answered e th (lengths_of before given) (Ok b) before after → Promise (ran (count_for th n b.present)) out out' w
-      → Paired e th query given before after out out' (Walked b w)
+      → Paired e th query given before after out out' (Ok (record { tree = b; walk = w }))
   unfolding entries_in outcome_of
   walked build walk =
       let l = lengths_of before given in
@@ -44,7 +41,7 @@ module _ (n th : ℕ) (ws : List ℕ) (query : Aabb) (given : Lent) (before afte
       }
 
   pub paired : (r : Build) (items : ℕ) → Answered e th (lengths_of before given) r before after → r ≡ Ok b → items ≡ count_for th n b.present
-      → Promise (ran items) out out' w → Paired e th query given before after out out' (Walked b w)
+      → Promise (ran items) out out' w → Paired e th query given before after out out' (Ok (record { tree = b; walk = w }))
   paired r items a built few walk =
       walked (subst (λ (x : Build). Answered e th (lengths_of before given) x before after) built a)
       (subst (λ (k : ℕ). Promise (ran k) out out' w) few walk)
@@ -54,7 +51,7 @@ unbuilt why b same = let n : refusal_number why ≡ 0 = ap number_of same in ome
 
 -- a refused build is not walked
 pub unpaired : (e : Entries) (th : ℕ) (query : Aabb) (given : Lent) (before after : Outputs) (out : List ℕ) (r : Build) (why : BuildRefusal)
-    → Answered e th (lengths_of before given) r before after → r ≡ Err why → Paired e th query given before after out out (Unbuilt why)
+    → Answered e th (lengths_of before given) r before after → r ≡ Err why → Paired e th query given before after out out (Err why)
 unpaired e th query given before after out r why a refused =
     let build = subst (λ (x : Build). Answered e th (lengths_of before given) x before after) refused a in
     record {

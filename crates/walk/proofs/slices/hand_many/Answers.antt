@@ -1,10 +1,7 @@
 -- `slices::hand_many` meets its contract. The loop's invariant: the first i positions are stored.
 use Rattle.base.proofs.StoreLaws.{up_stored}
-use Rattle.base.specs.Lists.{up_from}
-use Rattle.std.specs.Prelude.{◌≡◌, ℕ, ◌+◌, List, length, set}
-use mathlib.Core.Path.{refl, ap, ◌∙◌}
-use lib.Seq.{sets, length-sets}
-use native.Mathlib.Omega.{arith}
+use Rattle.std.specs.Prelude.{ℕ, ◌+◌, List, set}
+use mathlib.Core.Path.{ap, ◌∙◌}
 use Rattle.walk.proofs.slices.hand_many.Goals as goal
 
 pub loop-i-preserved : goal.loop-i-preserved

@@ -16,7 +16,7 @@ read_trees-s-requires c =
     let l = lent_of (plain_of c.lanes_of-lanes.result) a.sizes a.node_bytes.now a.tree_bytes.now in
     let ready = running.begun l a.out.now c.requires.steppable c.requires.sizes_in_bounds in
     let b = subst (λ (u : WalkState). Ready l a.out.now u × (inside_range u ≡ false)) (sym c.start-start.ensures) (ready, refl) in
-    record { ready = b.0; s_value = (b.1, omega (arith, c.lesser-few.ensures)); topped = c.lanes_of-lanes.ensures.1 }
+    record { ready = b.0; s_value = (b.1, omega (arith, c.min-few.ensures)); topped = c.lanes_of-lanes.ensures.1 }
 
 pub read_trees-requires : goal.read_trees-requires
 read_trees-requires c =
@@ -30,6 +30,6 @@ returns-then-few-sizes c =
 pub returns : goal.returns
 returns c =
     let trees = c.args.sizes.trees in
-    let all : c.lesser-few.result ≡ trees = omega (arith, c.lesser-few.ensures) in
+    let all : c.min-few.result ≡ trees = omega (arith, c.min-few.ensures) in
     let none = subst (λ (n : ℕ). more n c.read_trees-s.result ≡ false) all c.read_trees-s.ensures.2 in
     running.done _ _ _ _ _ _ _ _ _ c.lanes_of-lanes.ensures.0 c.start-start.ensures c.read_trees-s.ensures.0 none

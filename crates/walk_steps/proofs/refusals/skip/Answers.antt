@@ -1,13 +1,12 @@
--- `refusals::skip` meets its contract: the two ways through it are the two cases of the maximum.
+-- `refusals::skip` meets its contract: the number read is the definition's.
 use mathlib.Core.Path.{ap, ◌∙◌}
-use lib.Dec.{lit<}
+use native.Mathlib.Omega.{arith}
+use Prim.Native.Nat.{ℕ, max}
 use mir.Facts.{to_z-of_z}
 use Rattle.walk_steps.specs.Refusals.{whole}
-use Rattle.walk_steps.proofs.Shorts.{max_above, max_one}
 use Rattle.walk_steps.proofs.refusals.skip.Goals as goal
 
-pub returns-then-n-gt1 : goal.returns-then-n-gt1
-returns-then-n-gt1 c = (max_above _ _ (c.number-n.ensures.0 ∙ ap whole (to_z-of_z c.ranges.id)) c.if-n-gt1.true, c.number-n.ensures.1)
-
-pub returns-else-n-gt1 : goal.returns-else-n-gt1
-returns-else-n-gt1 c = (max_one _ _ (c.number-n.ensures.0 ∙ ap whole (to_z-of_z c.ranges.id)) c.if-n-gt1.false, lit< tt)
+pub returns : goal.returns
+returns c =
+    let id_is = c.number.ensures.0 ∙ ap whole (to_z-of_z c.ranges.id) in
+    (c.max.ensures ∙ ap (λ (n : ℕ). max n 1) id_is, omega (arith, c.max.ensures, c.number.ensures.1))

@@ -17,7 +17,7 @@ returns c =
     let room = a.items - s.handed in
     let id_is = c.number-id.ensures.0 ∙ ap whole (same n.item_id c.struct_told-1.given.1.1.0.1) in
     let count_is = c.number-count.ensures.0 ∙ ap whole (same n.item_count c.struct_told-2-1.given.1.1.1.0.1) in
-    let m-is = c.lesser-m.ensures ∙ ap (λ (k : ℕ). min k room) count_is in
+    let m-is = c.min-m.ensures ∙ ap (λ (k : ℕ). min k room) count_is in
     let status-is = c.leaf_status-status.ensures ∙ ap (leaf_status room) count_is in
     record {
       turn_is =
@@ -26,5 +26,5 @@ returns c =
                 record { tree = s.tree; at = s.at + 1; last = s.last; reads = s.reads + 1; handed = s.handed + m-is i; status = status-is i };
             given = up_from (id_is i) (m-is i);
           };
-      short_run = omega (arith, c.number-id.ensures.1, c.number-count.ensures.1, c.lesser-m.ensures);
+      short_run = omega (arith, c.number-id.ensures.1, c.number-count.ensures.1, c.min-m.ensures);
     }
