@@ -8,10 +8,13 @@ use mathlib.Core.Path.{◌≡◌, refl, sym, ap, ◌∙◌}
 use lib.Dec.{ltb, eqb}
 use borrow.Author.Tests.{ltb-false, eqb-true}
 use lib.ListN.{length, set, length-set, length-append}
+use Rattle.std.specs.Prelude.{Result, Ok, Err, ⊤}
 use Rattle.base.proofs.StoreLaws.{over_one}
 use Rattle.base.specs.Lists.{over}
 use Rattle.base.specs.LittleEndian.{le_at}
-use Rattle.mesh_input.specs.Input.{words_at, length_of, counts_of, refusal_of, Whole}
+use Rattle.mesh_input.specs.Input.{words_at, length_of, counts_of, check_of, number_of, refusal_of, Whole}
+use Rattle.mesh_input.specs.declared.InputRefusal.{InputRefusal}
+use Rattle.mesh_input.specs.declared.InputRefusal.TheVariants.{TooLong, WrongLength}
 
 pub length_words : (bytes : List ℕ) (k n : ℕ) → length (words_at bytes k n) ≡ n
 length_words bytes k zero = refl
@@ -48,14 +51,27 @@ all_words bytes k before words i n c h =
 
 -- ---- an input that is not refused
 
-passed : (a b c : Bool) → cond {A = ℕ} a 1 (cond b 13 (cond c 0 13)) ≡ 0 → (a ≡ false) × (b ≡ false) × (c ≡ true)
-passed true b c e = absurd (omega arith)
-passed false true c e = absurd (omega arith)
-passed false false true e = (refl, refl, refl)
-passed false false false e = absurd (omega arith)
+abbrev tested : Bool → Bool → Bool → Result ⊤ InputRefusal
+tested a b c = cond a (Err TooLong) (cond b (Err WrongLength) (cond c (Ok tt) (Err WrongLength)))
 
-pub not_refused : (bytes : List ℕ) → refusal_of bytes ≡ 0 → Whole bytes
-unfolding refusal_of
-not_refused bytes e =
+passed : (a b c : Bool) → tested a b c ≡ Ok tt → (a ≡ false) × (b ≡ false) × (c ≡ true)
+passed true b c e = cc
+passed false true c e = cc
+passed false false true e = (refl, refl, refl)
+passed false false false e = cc
+
+pub whole : (bytes : List ℕ) → check_of bytes ≡ Ok tt → Whole bytes
+unfolding check_of
+whole bytes e =
     let p = passed (ltb 8192 (length bytes)) (ltb (length bytes) 148) (eqb (length_of (counts_of bytes)) (length bytes)) e in
     record { few = ltb-false 8192 (length bytes) p.0; size = eqb-true (length_of (counts_of bytes)) (length bytes) p.2 }
+
+-- An input whose number is 0 is not refused.
+pub not_refused : (bytes : List ℕ) → refusal_of bytes ≡ 0 → Whole bytes
+unfolding refusal_of
+not_refused bytes = by (check_of bytes) refl
+  where
+    by : (r : Result ⊤ InputRefusal) → check_of bytes ≡ r → number_of r ≡ 0 → Whole bytes
+    by (Ok u) e none = whole bytes e
+    by (Err TooLong) e none = absurd (omega arith)
+    by (Err WrongLength) e none = absurd (omega arith)

@@ -1,5 +1,5 @@
 -- The input of the program `prepare`: a mesh as bytes. Definitions only.
-use Rattle.std.specs.Prelude.{ℕ, zero, suc, ◌+◌, ◌*◌, ◌≤◌, cond, List, [], ◌∷◌, ◌++◌, ◌≡◌, ltb, eqb, Float, length}
+use Rattle.std.specs.Prelude.{ℕ, zero, suc, ◌+◌, ◌*◌, ◌≤◌, cond, List, [], ◌∷◌, ◌++◌, ◌≡◌, ltb, eqb, Float, length, Result, Ok, Err, ⊤}
 use Rattle.std.specs.Float.{binary32}
 use Rattle.std.specs.Float.Ieee.{of_bits}
 use Rattle.base.specs.LittleEndian.{le_at}
@@ -10,6 +10,8 @@ use Rattle.math.specs.declared.words3.Words3.{Words3}
 use Rattle.meshes.specs.declared.Bound.{Bound}
 use Rattle.meshes.specs.declared.Counts.{Counts}
 use Rattle.meshes.specs.declared.Frame.{Frame}
+use Rattle.mesh_input.specs.declared.InputRefusal.{InputRefusal}
+use Rattle.mesh_input.specs.declared.InputRefusal.TheVariants.{TooLong, WrongLength}
 
 -- the three words, the float and the four floats from byte k on
 unfoldable pub words3_at : List ℕ → ℕ → Words3
@@ -60,12 +62,26 @@ words_at bytes k (suc n) = words_at bytes k n ++ (le_at 4 bytes (k + 4 * n) ∷ 
 abbrev pub length_of : Counts → ℕ
 length_of c = 148 + 8 * c.materials + 12 * c.vertices + 17 * c.polygons
 
--- Rule L13: why the program refuses an input, 0 where it does not. 1: over 8,192 bytes; 13: not the length of its counts.
+-- Rule L13: why the program refuses an input: it is over 8,192 bytes, or has not the length of its counts.
+unfoldable pub check_of : List ℕ → Result ⊤ InputRefusal
+check_of bytes =
+    cond (ltb 8192 (length bytes)) (Err TooLong)
+    (cond (ltb (length bytes) 148) (Err WrongLength)
+    (cond (eqb (length_of (counts_of bytes)) (length bytes)) (Ok tt) (Err WrongLength)))
+
+-- 01's number for each reason
+abbrev pub refusal_number : InputRefusal → ℕ
+refusal_number TooLong = 1
+refusal_number WrongLength = 13
+
+-- the number that the program prints of an input that it refuses, 0 where it does not
+abbrev pub number_of : Result ⊤ InputRefusal → ℕ
+number_of (Ok passed) = 0
+number_of (Err why) = refusal_number why
+
 unfoldable pub refusal_of : List ℕ → ℕ
-refusal_of bytes =
-    cond (ltb 8192 (length bytes)) 1
-    (cond (ltb (length bytes) 148) 13
-    (cond (eqb (length_of (counts_of bytes)) (length bytes)) 0 13))
+unfolding check_of
+refusal_of bytes = number_of (check_of bytes)
 
 -- An input that is not refused.
 pub record Whole (bytes : List ℕ) : Type 0 where

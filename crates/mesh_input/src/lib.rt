@@ -3,13 +3,20 @@
 
 ghost use Rattle.std.specs.Prelude.{◌≡◌, ◌+◌, ◌*◌, ◌≤◌, ◌<◌, length};
 ghost use Rattle.base.specs.Lists.{over};
-ghost use Rattle.mesh_input.specs.Input.{words3_at, float_at, row_at, frame_of, transform_of, bound_of, counts_of, words_at, length_of, refusal_of};
+ghost use Rattle.mesh_input.specs.Input.{words3_at, float_at, row_at, frame_of, transform_of, bound_of, counts_of, words_at, length_of, check_of};
 
 use base::little_endian::word_at;
 use float32::words::value;
 use math::mat4::{Mat4, Vec4};
 use math::words3::Words3;
 use meshes::{Bound, Counts, Frame};
+
+// Why an input is refused before its mesh is prepared.
+#[derive(Clone, Copy, Debug, PartialEq, Eq)]
+pub enum InputRefusal {
+    TooLong = 1,
+    WrongLength = 13,
+}
 
 fn words3_at(bytes: &[u8], at: usize) -> Words3
     requires { at + 12 ≤ length bytes.now }
@@ -102,21 +109,18 @@ pub fn length_of(bytes: &[u8]) -> usize
     148 + 8 * materials as usize + 12 * vertices as usize + 17 * polygons as usize
 }
 
-// Why an input is refused before its mesh is prepared, 0 where it is not.
-pub fn refusal_of(bytes: &[u8]) -> u64
-    ensures { result ≡ refusal_of bytes.now }
+// Whether an input is one of a mesh. Its header is read only if it is there.
+#[tactic(auto, unfolding(crate::specs::Input::check_of))]
+pub fn check(bytes: &[u8]) -> Result<(), InputRefusal>
+    ensures { result ≡ check_of bytes.now }
 {
     if bytes.len() > 8192 {
-        return 1;
+        return Err(InputRefusal::TooLong);
     }
-    if bytes.len() < 148 {
-        return 13;
+    if bytes.len() < 148 || length_of(bytes) != bytes.len() {
+        return Err(InputRefusal::WrongLength);
     }
-    if length_of(bytes) == bytes.len() {
-        0
-    } else {
-        13
-    }
+    Ok(())
 }
 
 // The n words from byte `at` on, at the start of `out`.
@@ -124,9 +128,7 @@ pub fn put_words(out: &mut [u32], bytes: &[u8], at: usize, n: usize)
     requires { (n ≤ length out.old) × (at + 4 * n ≤ length bytes.now) }
     ensures { out.new ≡ over (words_at bytes.now at n) out.old }
 {
-    let mut i = 0;
-    while i < n {
+    for i in 0..n {
         out[i] = word_at(bytes, at + 4 * i);
-        i += 1;
     }
 }

@@ -9,7 +9,8 @@ ghost use Rattle.dump_sections.specs.Sizes.{Small};
 use dumping::dump_geometry;
 use dumping_bvh::dump_bvh;
 use hex_lines::lines::refused_line;
-use mesh_input::{bound_of, counts_of, length_of, put_words, refusal_of};
+use mesh_input::{bound_of, check, counts_of, length_of, put_words};
+use meshes::kind::Kind;
 use meshes::{Bound, Counts};
 
 fn dump_mesh(
@@ -23,10 +24,9 @@ fn dump_mesh(
 )
     requires { Small counts }
 {
-    if bound.kind == 4 {
-        dump_geometry(to, bound, counts, polygons, numbers, mats, vertices);
-    } else {
-        dump_bvh(to, bound, counts, polygons, numbers, mats, vertices);
+    match Kind::try_from(bound.kind) {
+        Ok(Kind::Geometry) => dump_geometry(to, bound, counts, polygons, numbers, mats, vertices),
+        _ => dump_bvh(to, bound, counts, polygons, numbers, mats, vertices),
     }
 }
 
@@ -56,11 +56,9 @@ fn dump_counted(to: i32, bound: Bound, counts: Counts, input: &[u8])
 
 // What `prepare` prints for an input.
 fn dump(to: i32, input: &[u8]) {
-    let why = refusal_of(input);
-    if why == 0 {
-        dump_counted(to, bound_of(input), counts_of(input), input);
-    } else {
-        refused_line(to, why);
+    match check(input) {
+        Ok(()) => dump_counted(to, bound_of(input), counts_of(input), input),
+        Err(why) => refused_line(to, why as u64),
     }
 }
 
