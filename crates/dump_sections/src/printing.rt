@@ -48,7 +48,7 @@ pub fn print_geometry(
     }
 }
 
-// Kind 8. Kind 4 is not prepared here.
+// Kind 8. Kind 4 is not prepared here. Not one function with `print_geometry`: the last three slices are those of one kind alone.
 pub fn print_bvh(
     to: i32,
     c: Counts,

@@ -7,6 +7,7 @@ use dump_sections::printing::print_bvh;
 use geometry_bvh::prepare_bvh;
 use meshes::{Bound, Counts, GeometryLengths};
 
+// Not one function with `dump_geometry`: four buffers are made for this kind alone and five for that one, and there is no heap to hold either.
 pub fn dump_bvh(
     to: i32,
     bound: Bound,

@@ -13,6 +13,7 @@ use meshes::{Bound, Counts, GeometryLengths, Lengths, PrepareRefusal};
 use prepared::Prepared;
 
 // Prepares a mesh of kind 8. What kind 4 alone is lent is told by its lengths, so that both kinds ask for the same buffers.
+// Not one function with `prepare_geometry`: the C functions lend each kind its own buffers, and their contracts say that no other is written.
 pub fn prepare_bvh(
     bound: Bound,
     counts: Counts,
