@@ -103,7 +103,10 @@ pub fn paste(dst: &mut [u32], at: usize, src: &[u32], n: usize)
     requires { (at + n ≤ length dst.old) × (n ≤ length src.now) }
     ensures { dst.new ≡ paste dst.old at src.now n }
 {
-    dst[at..at + n].copy_from_slice(&src[..n]);
+    // No `copy_from_slice`: it copies by raw pointers, for which the compiler calls `memmove`, and the archives would need that name from outside.
+    for j in 0..n {
+        dst[at + j] = src[j];
+    }
 }
 
 // The places whose centre is above the average on the axis, to the front of `places`, the others to the front of `temp`, in their order;
