@@ -3,7 +3,7 @@
 
 ghost use Rattle.std.specs.Prelude.{◌≡◌, ◌+◌, ◌*◌, ◌≤◌, ◌<◌, length};
 ghost use Rattle.base.specs.Lists.{over};
-ghost use Rattle.mesh_input.specs.Input.{words3_at, float_at, row_at, frame_of, transform_of, bound_of, counts_of, words_at, length_of, check_of};
+ghost use Rattle.mesh_input.specs.Input.{words3_at, float_at, row_at, frame_of, transform_of, bound_of, counts_of, words_at, length_of, check_of, refusal_number};
 
 use base::little_endian::word_at;
 use float32::words::value;
@@ -16,6 +16,15 @@ use meshes::{Bound, Counts, Frame};
 pub enum InputRefusal {
     TooLong = 1,
     WrongLength = 13,
+}
+
+// The number that the program prints for it.
+impl From<InputRefusal> for u64 {
+    ghost from_gives = { λ why n. n ≡ refusal_number why };
+
+    fn from(why: InputRefusal) -> u64 {
+        why as u64
+    }
 }
 
 fn words3_at(bytes: &[u8], at: usize) -> Words3

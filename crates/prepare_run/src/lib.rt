@@ -58,7 +58,7 @@ fn dump_counted(to: i32, bound: Bound, counts: Counts, input: &[u8])
 fn dump(to: i32, input: &[u8]) {
     match check(input) {
         Ok(()) => dump_counted(to, bound_of(input), counts_of(input), input),
-        Err(why) => refused_line(to, why as u64),
+        Err(why) => refused_line(to, u64::from(why)),
     }
 }
 
