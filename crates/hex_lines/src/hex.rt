@@ -1,10 +1,10 @@
 // Bytes in hexadecimal, and numbers as bytes, at the start of a lent buffer.
-ghost use Rattle.std.specs.Prelude.{◌≡◌, ℕ, ◌+◌, ◌*◌, ◌≤◌, ◌<◌, List, length};
+ghost use Rattle.std.specs.Prelude.{◌≡◌, refl, ℕ, ◌+◌, ◌*◌, ◌≤◌, ◌<◌, List, length};
 ghost use Rattle.std.proofs.lemmas.List.Edits.{sets};
 ghost use Rattle.base.specs.Lists.{over};
 ghost use Rattle.base.specs.LittleEndian.{little_endian};
 ghost use Rattle.base.proofs.LittleEndian.{number_bytes};
-ghost use Rattle.hex_lines.specs.Hex.{each_of, digit_of, byte_text, hex_of};
+ghost use Rattle.hex_lines.specs.Hex.{each_of, digit_of, byte_text, hex_of, word_bytes, place_bytes};
 
 use base::little_endian::put_le;
 
@@ -38,6 +38,9 @@ pub trait Number: Copy {
     // Its bytes, the lowest first.
     ghost bytes_of: { Self → List ℕ };
 
+    // The bytes of a list of such numbers.
+    ghost all_bytes: { List Self → List ℕ };
+
     ghost SIZE: { ℕ };
 
     const SIZE: usize;
@@ -47,10 +50,14 @@ pub trait Number: Copy {
         ensures { out.new ≡ sets out.old at (bytes_of self) };
 
     ghost as_many: { (x : Self) → length (bytes_of x) ≡ SIZE };
+
+    ghost in_turn: { (xs : List Self) → all_bytes xs ≡ each_of bytes_of xs };
 }
 
 impl Number for u32 {
     ghost bytes_of = { little_endian 4 };
+
+    ghost all_bytes = { word_bytes };
 
     ghost SIZE = { 4 };
 
@@ -61,10 +68,14 @@ impl Number for u32 {
     }
 
     ghost as_many = { λ x. (number_bytes 4 x).size };
+
+    ghost in_turn = { λ xs. refl };
 }
 
 impl Number for u16 {
     ghost bytes_of = { little_endian 2 };
+
+    ghost all_bytes = { place_bytes };
 
     ghost SIZE = { 2 };
 
@@ -75,11 +86,13 @@ impl Number for u16 {
     }
 
     ghost as_many = { λ x. (number_bytes 2 x).size };
+
+    ghost in_turn = { λ xs. refl };
 }
 
 pub fn put_numbers<T: Number>(out: &mut [u8], numbers: &[T])
     requires { T.SIZE * length numbers.now ≤ length out.old }
-    ensures { out.new ≡ over (each_of T.bytes_of numbers.now) out.old }
+    ensures { out.new ≡ over (T.all_bytes numbers.now) out.old }
 {
     for (i, number) in numbers.iter().enumerate() {
         number.put(out, T::SIZE * i);
