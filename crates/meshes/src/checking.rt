@@ -1,5 +1,5 @@
 // The checks of Prepare, in its order, before anything is written.
-ghost use Rattle.std.specs.Prelude.{◌≡◌};
+ghost use Rattle.std.specs.Prelude.{true, false, ◌≡◌, ◌≢◌};
 ghost use Rattle.materials.specs.Materials.{values_of};
 ghost use Rattle.meshes.specs.Checks.{many, endless, check_within, check_in, check_as};
 ghost use Rattle.meshes.specs.Meshes.{box_of, geometry_of};
@@ -174,6 +174,14 @@ pub fn refusal(
     refusal_within(bound, c, polygons, numbers, mats)
 }
 
+// Whether two kinds are not the same.
+#[tactic(auto, using(crate::proofs::KindLaws::unlike, crate::proofs::KindLaws::alike))]
+fn differ(a: Kind, b: Kind) -> bool
+    ensures { (result ≡ true → a ≢ b) × (result ≡ false → a ≡ b) }
+{
+    a != b
+}
+
 // The first check that fails where `kind` is prepared, which the other kind is not for. Nothing is written.
 pub fn refusal_as(
     kind: Kind,
@@ -188,7 +196,7 @@ pub fn refusal_as(
     ensures { result ≡ check_as kind bound c l polygons.now
         (values_of c.materials mats.now c.polygons numbers.now) }
 {
-    if Kind::try_from(bound.kind)? != kind {
+    if differ(Kind::try_from(bound.kind)?, kind) {
         return Err(PrepareRefusal::UnknownKind);
     }
     refusal(bound, c, l, polygons, numbers, mats)
