@@ -46,12 +46,12 @@ unfolding of_bits
 flat_by_two x = abs_below x _ _
 
 -- Two tests that both fail, two of which one passes, and the test whether both fail.
-both_failed : (a b : Bool) {r s : ℕ} → Failed 1 (not a) r → Failed 1 (not b) s → r + s ≡ 2 → false ≡ not (a && b)
+pub both_failed : (a b : Bool) {r s : ℕ} → Failed 1 (not a) r → Failed 1 (not b) s → r + s ≡ 2 → false ≡ not (a && b)
 both_failed true true f g e = refl
 both_failed true false {r} {s} f g e = absurd (omega (arith, eqb-true s 0 g.none, f.few))
 both_failed false b {r} {s} f g e = absurd (omega (arith, eqb-true r 0 f.none, g.few))
 
-one_passed : (a b : Bool) {r s : ℕ} → Failed 1 (not a) r → Failed 1 (not b) s → (r + s ≡ 2 → ⊥) → true ≡ not (a && b)
+pub one_passed : (a b : Bool) {r s : ℕ} → Failed 1 (not a) r → Failed 1 (not b) s → (r + s ≡ 2 → ⊥) → true ≡ not (a && b)
 one_passed true true {r} {s} f g e = absurd (e (omega (arith, eqb-false r 0 f.none, eqb-false s 0 g.none, f.few, g.few)))
 one_passed true false f g e = refl
 one_passed false b f g e = refl
