@@ -287,7 +287,7 @@ pub fn polygons_number(r: Result<(), PolygonsRefusal>) -> u32
 {
     match r {
         Ok(()) => 0,
-        Err(why) => why as u32,
+        Err(refusal) => refusal as u32,
     }
 }
 
