@@ -3,7 +3,7 @@ ghost use Rattle.std.specs.Prelude.{◌+◌, ◌≤◌, length};
 ghost use Rattle.dump_sections.specs.Sizes.{Small};
 
 use bvh::slices::BuiltTree;
-use hex_lines::lines::{bytes_line, numbers_line, words_part};
+use hex_lines::lines::{bytes_line, spelled_line, words_part};
 use io::write_all;
 use math::vec3::Vec3;
 use math::words3::bits;
@@ -36,19 +36,19 @@ fn frame_line(to: i32, f: Frame) {
         s.z,
         f.sphere_radius,
     ];
-    numbers_line(to, b"frame ", &words, 13);
+    spelled_line(to, b"frame ", &words, 13);
 }
 
 fn quantum_line(to: i32, quantum: Vec3) {
     let q = bits(quantum);
-    numbers_line(to, b"quantum ", &[q.x, q.y, q.z], 3);
+    spelled_line(to, b"quantum ", &[q.x, q.y, q.z], 3);
 }
 
 // What both kinds have besides their lists.
 pub fn values_lines(to: i32, values: Values) {
     frame_line(to, values.frame);
     quantum_line(to, values.quantum);
-    numbers_line(to, b"materials ", &[low_word(values.materials)], 1);
+    spelled_line(to, b"materials ", &[low_word(values.materials)], 1);
 }
 
 fn octant_counts(c: OctantCounts) -> [u32; 8] {
@@ -58,7 +58,7 @@ fn octant_counts(c: OctantCounts) -> [u32; 8] {
 // How many each octant has: none where no octants are listed.
 pub fn octants_line(to: i32, c: Option<OctantCounts>) {
     let words = c.map_or([0; 8], octant_counts);
-    numbers_line(to, b"octants ", &words, 8);
+    spelled_line(to, b"octants ", &words, 8);
 }
 
 fn tree_words(t: BuiltTree) -> [u32; 19] {
@@ -80,7 +80,7 @@ fn tree_words(t: BuiltTree) -> [u32; 19] {
 // The values of a tree: zeros where there is none.
 pub fn tree_line(to: i32, t: Option<BuiltTree>) {
     let words = t.map_or([0; 19], tree_words);
-    numbers_line(to, b"tree ", &words, 19);
+    spelled_line(to, b"tree ", &words, 19);
 }
 
 // The materials of the list, which is filled to four.
@@ -110,7 +110,7 @@ pub fn lists_lines(
     bytes_line(to, b"indices ", indices, p);
     bytes_line(to, b"polygons ", polygons, 16 * p);
     bytes_line(to, b"vertices ", stored, 6 * v);
-    numbers_line(to, b"floats ", floats, 3 * v);
+    spelled_line(to, b"floats ", floats, 3 * v);
 }
 
 // An octant's list, which stands at the start of its part of v words.
@@ -142,7 +142,7 @@ pub fn hull_lines(
     requires { (v ≤ 670) × (4096 ≤ length shrunk.now) × (2048 ≤ length shrunk_floats.now) × (5376 ≤ length octants.now) }
 {
     bytes_line(to, b"shrunk ", shrunk, 6 * v);
-    numbers_line(to, b"shrunk_floats ", shrunk_floats, 3 * v);
+    spelled_line(to, b"shrunk_floats ", shrunk_floats, 3 * v);
     octant_lists_line(to, v, c, octants);
 }
 
@@ -166,5 +166,5 @@ pub fn tree_lines(
 {
     records_line(to, b"nodes ", node_bytes, t.capacity);
     records_line(to, b"trees ", tree_bytes, t.trees);
-    numbers_line(to, b"order ", order, p);
+    spelled_line(to, b"order ", order, p);
 }

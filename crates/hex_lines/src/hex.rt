@@ -38,9 +38,6 @@ pub trait Number: Copy {
     // Its bytes, the lowest first.
     ghost bytes_of: { Self → List ℕ };
 
-    // The bytes of a list of such numbers.
-    ghost all_bytes: { List Self → List ℕ };
-
     ghost SIZE: { ℕ };
 
     const SIZE: usize;
@@ -50,14 +47,18 @@ pub trait Number: Copy {
         ensures { out.new ≡ sets out.old at (bytes_of self) };
 
     ghost as_many: { (x : Self) → length (bytes_of x) ≡ SIZE };
+}
 
-    ghost in_turn: { (xs : List Self) → all_bytes xs ≡ each_of bytes_of xs };
+// A number whose lists a rule of the dump spells.
+pub trait Spelled: Number {
+    // The bytes of a list of such numbers.
+    ghost all_bytes: { List Self → List ℕ };
+
+    ghost in_turn: { (xs : List Self) → all_bytes xs ≡ each_of Self.bytes_of xs };
 }
 
 impl Number for u32 {
     ghost bytes_of = { little_endian 4 };
-
-    ghost all_bytes = { word_bytes };
 
     ghost SIZE = { 4 };
 
@@ -68,14 +69,16 @@ impl Number for u32 {
     }
 
     ghost as_many = { λ x. (number_bytes 4 x).size };
+}
+
+impl Spelled for u32 {
+    ghost all_bytes = { word_bytes };
 
     ghost in_turn = { λ xs. refl };
 }
 
 impl Number for u16 {
     ghost bytes_of = { little_endian 2 };
-
-    ghost all_bytes = { place_bytes };
 
     ghost SIZE = { 2 };
 
@@ -86,15 +89,27 @@ impl Number for u16 {
     }
 
     ghost as_many = { λ x. (number_bytes 2 x).size };
+}
+
+impl Spelled for u16 {
+    ghost all_bytes = { place_bytes };
 
     ghost in_turn = { λ xs. refl };
 }
 
 pub fn put_numbers<T: Number>(out: &mut [u8], numbers: &[T])
     requires { T.SIZE * length numbers.now ≤ length out.old }
-    ensures { out.new ≡ over (T.all_bytes numbers.now) out.old }
+    ensures { out.new ≡ over (each_of T.bytes_of numbers.now) out.old }
 {
     for (i, number) in numbers.iter().enumerate() {
         number.put(out, T::SIZE * i);
     }
+}
+
+// Numbers as the rule spells a list of them.
+pub fn put_spelled<T: Spelled>(out: &mut [u8], numbers: &[T])
+    requires { T.SIZE * length numbers.now ≤ length out.old }
+    ensures { out.new ≡ over (T.all_bytes numbers.now) out.old }
+{
+    put_numbers(out, numbers);
 }

@@ -3,3 +3,5 @@
 
 pub mod hex;
 pub mod lines;
+#[cfg(test)]
+mod tests;

@@ -1,7 +1,7 @@
 // The lines of a dump: a name, a blank and bytes in hexadecimal. A name is lent with its blank.
 ghost use Rattle.std.specs.Prelude.{◌+◌, ◌*◌, ◌≤◌, length};
 
-use crate::hex::{Number, put_hex, put_numbers};
+use crate::hex::{Number, Spelled, put_hex, put_numbers, put_spelled};
 use io::write_all;
 
 fn write_bytes(to: i32, bytes: &[u8])
@@ -13,11 +13,11 @@ fn write_bytes(to: i32, bytes: &[u8])
     write_all(to, &text[..end]);
 }
 
-fn write_numbers<T: Number>(to: i32, numbers: &[T])
+fn write_numbers<T: Spelled>(to: i32, numbers: &[T])
     requires { T.SIZE * length numbers.now ≤ 16384 }
 {
     let mut bytes = [0u8; 16384];
-    put_numbers(&mut bytes, numbers);
+    put_spelled(&mut bytes, numbers);
     let end = T::SIZE * numbers.len();
     write_bytes(to, &bytes[..end]);
 }
@@ -39,13 +39,22 @@ pub fn bytes_line(to: i32, name: &[u8], bytes: &[u8], count: usize)
     write_all(to, b"\n");
 }
 
-// The line of the first `count` numbers.
-pub fn numbers_line<T: Number>(to: i32, name: &[u8], numbers: &[T], count: usize)
+// The line of the first `count` numbers, as the rule spells them.
+pub fn spelled_line<T: Spelled>(to: i32, name: &[u8], numbers: &[T], count: usize)
     requires { (count ≤ length numbers.now) × (T.SIZE * count ≤ 16384) }
 {
     write_all(to, name);
     write_numbers(to, &numbers[..count]);
     write_all(to, b"\n");
+}
+
+// The line of the first `count` numbers of any kind.
+pub fn numbers_line<T: Number>(to: i32, name: &[u8], numbers: &[T], count: usize)
+    requires { (count ≤ length numbers.now) × (T.SIZE * count ≤ 16384) }
+{
+    let mut bytes = [0u8; 16384];
+    put_numbers(&mut bytes, &numbers[..count]);
+    bytes_line(to, name, &bytes, T::SIZE * count);
 }
 
 pub fn refused_line(to: i32, number: u64) {
