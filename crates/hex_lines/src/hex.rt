@@ -49,7 +49,7 @@ pub trait Number: Copy {
     ghost as_many: { (x : Self) → length (bytes_of x) ≡ SIZE };
 }
 
-// A number whose lists a rule of the dump spells.
+// A number whose lists a rule of the dump spells. One that no rule speaks of is put by `put_numbers`.
 pub trait Spelled: Number {
     // The bytes of a list of such numbers.
     ghost all_bytes: { List Self → List ℕ };
