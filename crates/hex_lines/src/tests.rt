@@ -1,8 +1,7 @@
 // Numbers of a kind that no rule of the dump spells. The expected bytes are written by hand, the lowest first, and their digits by rule L14.
-ghost use Rattle.std.specs.Prelude.{List, ℕ};
 ghost use Rattle.base.specs.LittleEndian.{little_endian};
 ghost use Rattle.base.proofs.LittleEndian.{number_bytes};
-ghost use Rattle.hex_lines.specs.declared.tests.Third.{Third};
+ghost use Rattle.hex_lines.specs.declared.tests.ThreeBytes.{ThreeBytes};
 
 use crate::hex::{Number, put_numbers};
 use crate::lines::numbers_line;
@@ -11,11 +10,11 @@ use std::io::pipe;
 use std::os::fd::AsRawFd;
 use std::test::Fail;
 
-// A number of three bytes.
+// Three bytes, since a dump has numbers of two and of four bytes alone.
 #[derive(Clone, Copy)]
-struct Third(u32);
+struct ThreeBytes(u32);
 
-impl Number for Third {
+impl Number for ThreeBytes {
     ghost bytes_of = { λ n. little_endian 3 n.0 };
 
     ghost SIZE = { 3 };
@@ -29,7 +28,7 @@ impl Number for Third {
     ghost as_many = { λ n. (number_bytes 3 n.0).size };
 }
 
-const TWO: [Third; 2] = [Third(0x0A_0B_0C), Third(0xFE_10_00)];
+const TWO: [ThreeBytes; 2] = [ThreeBytes(0x0A_0B_0C), ThreeBytes(0xFE_10_00)];
 
 #[test]
 fn puts_numbers_of_any_kind(rt: HostRuntime) {
